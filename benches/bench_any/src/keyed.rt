@@ -1,6 +1,6 @@
 //! Dictionaries of strings, whose values are found by a table of hashes.
 ghost use Rattle.std.specs.Prelude.{IfOk};
-ghost use Rattle.nest_model.specs.BuilderWhole.{IsWhole};
+ghost use Rattle.nest_model.specs.BuilderComplete.{IsComplete};
 
 use anyhow::Result;
 use bench_tools::{begin, report};
@@ -35,7 +35,7 @@ fn different(alloc: Global, n: usize) -> Result<Vec<String>, AllocError> {
 }
 
 fn no_texts(alloc: Global) -> Result<Keyed, Error>
-    ensures { IfOk result (λ b. IsWhole (⟦<Keyed as MutableArray>⟧.model b)) }
+    ensures { IfOk result (λ b. IsComplete (⟦<Keyed as MutableArray>⟧.model b)) }
 {
     let texts = AnyMutableFlat::Utf8(MutableUtf8Array::new(alloc)?);
     MutableDictionaryArray::try_from_values(alloc, texts)
@@ -43,7 +43,7 @@ fn no_texts(alloc: Global) -> Result<Keyed, Error>
 
 /// Pushes n strings, each so far from the one before.
 fn push_texts(keyed: &mut Keyed, texts: &[String], n: usize, stride: usize) -> Result<(), Error>
-    requires { IsWhole (⟦<Keyed as MutableArray>⟧.model keyed.old) }
+    requires { IsComplete (⟦<Keyed as MutableArray>⟧.model keyed.old) }
 {
     'texts: for i in 0..n {
         let place = i.wrapping_mul(stride) % texts.len().max(1);

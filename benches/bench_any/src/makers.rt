@@ -1,8 +1,8 @@
 //! Builders of records of a number and a text, and of lists of them.
 ghost use Rattle.std.specs.Prelude.{IfOk};
 ghost use Rattle.nest_any.specs.Trees.{tree_of, trees_of};
-ghost use Rattle.nest_model.specs.BuilderTold.{AreEachWhole, HasWholeChildren};
-ghost use Rattle.nest_model.specs.BuilderWhole.{IsWhole};
+ghost use Rattle.nest_model.specs.BuilderAddRow.{AreEachComplete, HasCompleteChildren};
+ghost use Rattle.nest_model.specs.BuilderComplete.{IsComplete};
 
 use nest_any::{AnyMutableArray, AnyMutableFlat, MutableStructArray};
 use nest_build::array::MutableArray;
@@ -11,19 +11,19 @@ use nest_flat::primitive::mutable::MutablePrimitiveArray;
 use nest_flat::utf8::mutable::MutableUtf8Array;
 use nest_memory::datatypes::DataType;
 use nest_memory::datatypes::field::Field;
-use nest_memory::error::{Argument, Error};
+use nest_memory::error::{ArgumentError, Error};
 use std::alloc::{AllocError, Global};
 
-pub const UNFINISHED: Error = Error::InvalidArgumentError(Argument::Unfinished);
+pub const UNFINISHED: Error = Error::InvalidArgumentError(ArgumentError::Incomplete);
 
 fn texts(alloc: Global) -> Result<AnyMutableArray, Error>
-    ensures { IfOk result (λ b. IsWhole (tree_of b)) }
+    ensures { IfOk result (λ b. IsComplete (tree_of b)) }
 {
     Ok(AnyMutableArray::Flat(AnyMutableFlat::Utf8(MutableUtf8Array::new(alloc)?)))
 }
 
 fn numbers(alloc: Global) -> AnyMutableArray
-    ensures { IsWhole (tree_of result) }
+    ensures { IsComplete (tree_of result) }
 {
     AnyMutableArray::Flat(AnyMutableFlat::Primitive(AnyMutablePrimitive::Int64(
         MutablePrimitiveArray::new(alloc),
@@ -50,8 +50,8 @@ fn over<E: Drop>(
     data_type: DataType,
     values: Result<Vec<AnyMutableArray>, E>,
 ) -> Result<MutableStructArray, Error>
-    requires { IfOk values (λ vs. AreEachWhole (trees_of vs.items)) }
-    ensures { IfOk result (λ b. HasWholeChildren b) }
+    requires { IfOk values (λ vs. AreEachComplete (trees_of vs.items)) }
+    ensures { IfOk result (λ b. HasCompleteChildren b) }
 {
     match values {
         Ok(values) => MutableStructArray::try_new(alloc, data_type, values, None),
@@ -65,7 +65,7 @@ fn over<E: Drop>(
 
 /// Builds records of a number and a text.
 pub fn records(alloc: Global) -> Result<MutableStructArray, Error>
-    ensures { IfOk result (λ b. HasWholeChildren b) }
+    ensures { IfOk result (λ b. HasCompleteChildren b) }
 {
     let data_type = record_type(alloc)?;
     match texts(alloc) {
@@ -83,7 +83,7 @@ fn nested(
     data_type: DataType,
     child: AnyMutableArray,
 ) -> Result<AnyMutableArray, Error> {
-    if !child.is_whole() {
+    if !child.is_complete() {
         drop(child);
         drop(data_type);
         return Err(UNFINISHED);

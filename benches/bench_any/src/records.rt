@@ -1,7 +1,7 @@
 //! Records of a number and a text, and lists of two of them, pushed row by row.
 ghost use Rattle.nest_any.specs.Trees.{tree_of, trees_of};
-ghost use Rattle.nest_model.specs.BuilderTold.{AreEachWhole, HasWholeChildren};
-ghost use Rattle.nest_model.specs.BuilderWhole.{IsWhole};
+ghost use Rattle.nest_model.specs.BuilderAddRow.{AreEachComplete, HasCompleteChildren};
+ghost use Rattle.nest_model.specs.BuilderComplete.{IsComplete};
 
 use crate::makers;
 use crate::makers::UNFINISHED;
@@ -28,8 +28,8 @@ const TEXT: &str = "nineteen";
 
 /// Pushes a number into the first child, as what it is.
 fn push_number(child: &mut AnyMutableArray, number: i64) -> Result<(), Error>
-    requires { IsWhole (tree_of child.old) }
-    ensures { IsWhole (tree_of child.new) }
+    requires { IsComplete (tree_of child.old) }
+    ensures { IsComplete (tree_of child.new) }
 {
     match child {
         AnyMutableArray::Flat(AnyMutableFlat::Primitive(AnyMutablePrimitive::Int64(numbers))) => {
@@ -41,8 +41,8 @@ fn push_number(child: &mut AnyMutableArray, number: i64) -> Result<(), Error>
 
 /// Pushes a text into the second child, as what it is.
 fn push_text(child: &mut AnyMutableArray, text: &str) -> Result<(), Error>
-    requires { IsWhole (tree_of child.old) }
-    ensures { IsWhole (tree_of child.new) }
+    requires { IsComplete (tree_of child.old) }
+    ensures { IsComplete (tree_of child.new) }
 {
     match child {
         AnyMutableArray::Flat(AnyMutableFlat::Utf8(texts)) => texts.try_push(Some(text)),
@@ -52,8 +52,8 @@ fn push_text(child: &mut AnyMutableArray, text: &str) -> Result<(), Error>
 
 /// The cells of a record, by children whose kinds are known.
 fn push_cells(children: &mut [AnyMutableArray]) -> Result<(), Error>
-    requires { AreEachWhole (trees_of children.old) }
-    ensures { AreEachWhole (trees_of children.new) }
+    requires { AreEachComplete (trees_of children.old) }
+    ensures { AreEachComplete (trees_of children.new) }
 {
     if children.len() == 2 {
         push_number(&mut children[0], NUMBER)?;
@@ -64,15 +64,15 @@ fn push_cells(children: &mut [AnyMutableArray]) -> Result<(), Error>
 
 /// A record, cell by cell. That the children stay whole is proved, and need not be asked.
 fn push_typed(records: &mut MutableStructArray) -> Result<(), Error>
-    requires { HasWholeChildren records.old }
-    ensures { HasWholeChildren records.new }
+    requires { HasCompleteChildren records.old }
+    ensures { HasCompleteChildren records.new }
 {
     push_cells(records.mut_values())?;
     records.push(true)
 }
 
 fn push_all_typed(records: &mut MutableStructArray, n: usize) -> Result<(), Error>
-    requires { HasWholeChildren records.old }
+    requires { HasCompleteChildren records.old }
 {
     'rows: for _ in 0..n {
         push_typed(records)?;
@@ -81,7 +81,7 @@ fn push_all_typed(records: &mut MutableStructArray, n: usize) -> Result<(), Erro
 }
 
 fn push_plain(builder: &mut AnyMutableArray, value: Plain<'_>) -> Result<(), Error> {
-    if !builder.is_whole() {
+    if !builder.is_complete() {
         return Err(UNFINISHED);
     }
     builder.try_push_plain(Some(value))
@@ -99,10 +99,10 @@ fn push_any(records: &mut AnyMutableArray) -> Result<(), Error> {
 }
 
 fn report_row(builder: &mut AnyMutableArray) -> Result<(), Error> {
-    if !builder.has_whole_children() {
+    if !builder.has_complete_children() {
         return Err(UNFINISHED);
     }
-    builder.tell(true)
+    builder.push_row(true)
 }
 
 /// A list of two records.

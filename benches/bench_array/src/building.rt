@@ -1,6 +1,6 @@
 //! Arrays built row by row.
 ghost use Rattle.std.specs.Prelude.{OnOk};
-ghost use Rattle.nest_model.specs.BuilderWhole.{IsWhole};
+ghost use Rattle.nest_model.specs.BuilderComplete.{IsComplete};
 ghost use Rattle.bench_array.specs.Trees.{list_tree, sized_tree};
 
 use anyhow::Result;
@@ -57,7 +57,7 @@ fn push_lists(
     n: usize,
     nulls: bool,
 ) -> Result<(), Error>
-    requires { IsWhole (list_tree builder.old.data_type builder.old.rows builder.old.values) }
+    requires { IsComplete (list_tree builder.old.data_type builder.old.rows builder.old.values) }
 {
     'rows: for i in 0..n {
         let row = if nulls && i % 10 == 9 {
@@ -77,7 +77,7 @@ fn push_sized(
     n: usize,
     nulls: bool,
 ) -> Result<(), Error>
-    requires { IsWhole (sized_tree builder.old.data_type builder.old.rows builder.old.values) }
+    requires { IsComplete (sized_tree builder.old.data_type builder.old.rows builder.old.values) }
 {
     'rows: for i in 0..n {
         if nulls && i % 10 == 9 {
@@ -108,16 +108,16 @@ fn push_bytes(
 
 /// Pushes a list into the child of a builder of lists of lists.
 fn push_below(child: &mut Lists, items: &[Option<i64>]) -> Result<(), Error>
-    requires { IsWhole (⟦<Lists as MutableArray>⟧.model child.old) }
-    ensures { IsWhole (⟦<Lists as MutableArray>⟧.model child.new) }
+    requires { IsComplete (⟦<Lists as MutableArray>⟧.model child.old) }
+    ensures { IsComplete (⟦<Lists as MutableArray>⟧.model child.new) }
 {
     child.try_push_slice(Some(items))
 }
 
 /// Pushes a row of two lists, which were pushed into the child. That it is whole is proved, and need not be asked.
 fn push_nested(builder: &mut Nested, items: &[Option<i64>]) -> Result<(), Error>
-    requires { IsWhole (⟦<Nested as MutableArray>⟧.model builder.old) }
-    ensures { OnOk result (IsWhole (⟦<Nested as MutableArray>⟧.model builder.new)) }
+    requires { IsComplete (⟦<Nested as MutableArray>⟧.model builder.old) }
+    ensures { OnOk result (IsComplete (⟦<Nested as MutableArray>⟧.model builder.new)) }
 {
     push_below(builder.mut_values(), items)?;
     push_below(builder.mut_values(), items)?;
@@ -127,7 +127,7 @@ fn push_nested(builder: &mut Nested, items: &[Option<i64>]) -> Result<(), Error>
 
 /// So many rows of two lists of these items.
 fn push_all_nested(builder: &mut Nested, items: &[Option<i64>], n: usize) -> Result<(), Error>
-    requires { IsWhole (⟦<Nested as MutableArray>⟧.model builder.old) }
+    requires { IsComplete (⟦<Nested as MutableArray>⟧.model builder.old) }
 {
     'rows: for _ in 0..n {
         push_nested(builder, items)?;

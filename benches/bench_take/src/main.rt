@@ -5,7 +5,7 @@
 
 ghost use Rattle.std.specs.Prelude.{IsTrue, length};
 ghost use Rattle.nest_array.specs.Words.{layout_of, len};
-ghost use Rattle.nest_take.specs.Places.{AreBelow};
+ghost use Rattle.nest_take.specs.Indices.{AreBelow};
 
 mod arrays;
 mod raw_texts;

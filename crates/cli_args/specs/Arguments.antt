@@ -25,6 +25,10 @@ pub record ArgumentsTree : Type 0 where
   pub out : Option (List ℕ)
   pub positional : List (List ℕ)
 
+-- arguments with these values of `--columns` and `-o`
+abbrev pub with_options : Option (List ℕ) → Option (List ℕ) → List (List ℕ) → ArgumentsTree
+with_options columns out positional = record { columns = columns; out = out; positional = positional }
+
 abbrev pub with_output : OptionValue → Option ArgumentsTree
 with_output c = option_map (λ (o : OptionValue). record { columns = c.0; out = o.0; positional = o.1 }) (option_value (codes "-o") c.1)
 

@@ -2,7 +2,7 @@
 ghost use Rattle.std.specs.Prelude.{◌≡◌, [], ◌∷◌, Some, None, codes};
 ghost use Rattle.cli_args.specs.Requests.{all, indices, selection_of_arguments, columns, slice, request_of_arguments, rows, where_true};
 ghost use Rattle.cli_args.specs.Imports.{import_request};
-ghost use Rattle.cli_args.specs.Arguments.{column_names, arguments_of};
+ghost use Rattle.cli_args.specs.Arguments.{column_names, arguments_of, with_options};
 
 /// `schema`, `rows`, `rows 10 3`, `cut 10 3`, `take 7 0 7`, `where ok`.
 pub fn requests_are_parsed()
@@ -28,10 +28,10 @@ pub fn invalid_requests_are_not_parsed()
 
 /// `rows f`; `--columns a,b rows f`; `rows f --columns a,b`; `cut f 1 -o g 2`.
 pub fn options_are_anywhere()
-    ensures none { arguments_of (codes "rows" ∷ codes "f" ∷ []) ≡ Some (record { columns = None; out = None; positional = codes "rows" ∷ codes "f" ∷ [] }) }
-    ensures before { arguments_of (codes "--columns" ∷ codes "a,b" ∷ codes "rows" ∷ codes "f" ∷ []) ≡ Some (record { columns = Some (codes "a,b"); out = None; positional = codes "rows" ∷ codes "f" ∷ [] }) }
-    ensures after { arguments_of (codes "rows" ∷ codes "f" ∷ codes "--columns" ∷ codes "a,b" ∷ []) ≡ Some (record { columns = Some (codes "a,b"); out = None; positional = codes "rows" ∷ codes "f" ∷ [] }) }
-    ensures among { arguments_of (codes "cut" ∷ codes "f" ∷ codes "1" ∷ codes "-o" ∷ codes "g" ∷ codes "2" ∷ []) ≡ Some (record { columns = None; out = Some (codes "g"); positional = codes "cut" ∷ codes "f" ∷ codes "1" ∷ codes "2" ∷ [] }) }
+    ensures none { arguments_of (codes "rows" ∷ codes "f" ∷ []) ≡ Some (with_options None None (codes "rows" ∷ codes "f" ∷ [])) }
+    ensures before { arguments_of (codes "--columns" ∷ codes "a,b" ∷ codes "rows" ∷ codes "f" ∷ []) ≡ Some (with_options (Some (codes "a,b")) None (codes "rows" ∷ codes "f" ∷ [])) }
+    ensures after { arguments_of (codes "rows" ∷ codes "f" ∷ codes "--columns" ∷ codes "a,b" ∷ []) ≡ Some (with_options (Some (codes "a,b")) None (codes "rows" ∷ codes "f" ∷ [])) }
+    ensures among { arguments_of (codes "cut" ∷ codes "f" ∷ codes "1" ∷ codes "-o" ∷ codes "g" ∷ codes "2" ∷ []) ≡ Some (with_options None (Some (codes "g")) (codes "cut" ∷ codes "f" ∷ codes "1" ∷ codes "2" ∷ [])) }
 {}
 
 /// `rows f --columns`; `-o g -o h`.
@@ -50,14 +50,14 @@ pub fn column_names_are_split_at_commas()
 
 /// `from-json t in out`.
 pub fn imports_are_parsed()
-    ensures { import_request (record { columns = None; out = None; positional = codes "from-json" ∷ codes "t" ∷ codes "in" ∷ codes "out" ∷ [] }) ≡ Some (record { row_type = codes "t"; input = codes "in"; output = codes "out" }) }
+    ensures { import_request (with_options None None (codes "from-json" ∷ codes "t" ∷ codes "in" ∷ codes "out" ∷ [])) ≡ Some (record { row_type = codes "t"; input = codes "in"; output = codes "out" }) }
 {}
 
 /// `from-json t in`, `from-json t in out more`, `to-json t in out`, `from-json t in -o out`, `--columns a from-json t in out`.
 pub fn invalid_imports_are_not_parsed()
-    ensures fewer { import_request (record { columns = None; out = None; positional = codes "from-json" ∷ codes "t" ∷ codes "in" ∷ [] }) ≡ None }
-    ensures more { import_request (record { columns = None; out = None; positional = codes "from-json" ∷ codes "t" ∷ codes "in" ∷ codes "out" ∷ codes "more" ∷ [] }) ≡ None }
-    ensures other { import_request (record { columns = None; out = None; positional = codes "to-json" ∷ codes "t" ∷ codes "in" ∷ codes "out" ∷ [] }) ≡ None }
-    ensures out { import_request (record { columns = None; out = Some (codes "out"); positional = codes "from-json" ∷ codes "t" ∷ codes "in" ∷ [] }) ≡ None }
-    ensures columns { import_request (record { columns = Some (codes "a"); out = None; positional = codes "from-json" ∷ codes "t" ∷ codes "in" ∷ codes "out" ∷ [] }) ≡ None }
+    ensures fewer { import_request (with_options None None (codes "from-json" ∷ codes "t" ∷ codes "in" ∷ [])) ≡ None }
+    ensures more { import_request (with_options None None (codes "from-json" ∷ codes "t" ∷ codes "in" ∷ codes "out" ∷ codes "more" ∷ [])) ≡ None }
+    ensures other { import_request (with_options None None (codes "to-json" ∷ codes "t" ∷ codes "in" ∷ codes "out" ∷ [])) ≡ None }
+    ensures out { import_request (with_options None (Some (codes "out")) (codes "from-json" ∷ codes "t" ∷ codes "in" ∷ [])) ≡ None }
+    ensures columns { import_request (with_options (Some (codes "a")) None (codes "from-json" ∷ codes "t" ∷ codes "in" ∷ codes "out" ∷ [])) ≡ None }
 {}

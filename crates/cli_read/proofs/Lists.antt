@@ -1,7 +1,7 @@
 -- Lists with equal prefixes.
 use Rattle.std.proofs.Common.{◌≡◌, ◌⊎◌, inl, inr, ℕ, zero, suc, ◌+◌, ◌<◌, ◌≤◌, List, [], ◌∷◌, ◌++◌, length, take, drop, Some, refl, sym, ap, ◌∙◌, arith, append-nil, length-append}
 use Rattle.std.proofs.lemmas.List.{take-take}
-use Rattle.nest_memory.specs.Cut.{cut}
+use Rattle.nest_memory.specs.Sublist.{sublist}
 use Rattle.cli_rows.specs.Difference.{AreEqualUpTo, IsDifference}
 
 module _ {A : Type 0} where
@@ -36,7 +36,7 @@ module _ {A : Type 0} where
   take-front (suc k) [] more h = absurd (omega (arith, h))
   take-front (suc k) (x ∷ xs) more h = ap (λ l. x ∷ l) (take-front k xs more (omega (arith, h)))
 
-  item-front : (k : ℕ) (xs more : List A) → k < length xs → cut (xs ++ more) k 1 ≡ cut xs k 1
+  item-front : (k : ℕ) (xs more : List A) → k < length xs → sublist (xs ++ more) k 1 ≡ sublist xs k 1
   item-front zero [] more h = absurd (omega (arith, h))
   item-front zero (x ∷ xs) more h = refl
   item-front (suc k) [] more h = absurd (omega (arith, h))
@@ -46,9 +46,9 @@ module _ {A : Type 0} where
   same-take k xs more (inl lt) = take-front k xs more (omega (arith, lt))
   same-take k xs more (inr none) = ap (λ l. take k (xs ++ l)) none ∙ ap (take k) (append-nil xs)
 
-  same-item : (k : ℕ) (xs more : List A) → IsRest k xs more → cut (xs ++ more) k 1 ≡ cut xs k 1
+  same-item : (k : ℕ) (xs more : List A) → IsRest k xs more → sublist (xs ++ more) k 1 ≡ sublist xs k 1
   same-item k xs more (inl lt) = item-front k xs more lt
-  same-item k xs more (inr none) = ap (λ l. cut (xs ++ l) k 1) none ∙ ap (λ l. cut l k 1) (append-nil xs)
+  same-item k xs more (inr none) = ap (λ l. sublist (xs ++ l) k 1) none ∙ ap (λ l. sublist l k 1) (append-nil xs)
 
   pub differ-whole : (k : ℕ) (xs ys more others : List A) → IsRest k xs more → IsRest k ys others → IsDifference xs ys (Some k) → IsDifference (xs ++ more) (ys ++ others) (Some k)
   differ-whole k xs ys more others rx ry d = (

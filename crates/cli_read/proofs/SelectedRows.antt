@@ -3,7 +3,7 @@ use Rattle.std.proofs.Common.{◌≡◌, ℕ, zero, suc, ◌+◌, ◌-◌, List,
 use Rattle.std.specs.List.{AllByRecursion, filter, flat_map, slice_get}
 use Rattle.std.proofs.lemmas.Grind.{flat_map-append}
 use Rattle.std.proofs.lemmas.List.Elements.{filter-append}
-use Rattle.nest_memory.specs.Cut.{cut}
+use Rattle.nest_memory.specs.Sublist.{sublist}
 use Rattle.nest_memory.specs.TypeTree.{FieldTree}
 use Rattle.nest_model.specs.Fits.{Fits}
 use Rattle.nest_model.specs.Meaning.{first_len, len}
@@ -30,7 +30,7 @@ take-both zero xs ys = let e : 0 ≡ 0 - length xs = omega arith in ap (λ k. ta
 take-both (suc n) [] ys = let e : suc n ≡ suc n - 0 = omega arith in ap (λ k. take k ys) e
 take-both (suc n) (x ∷ xs) ys = let e : n - length xs ≡ suc n - length (x ∷ xs) = omega arith in ap (λ zs. x ∷ zs) (take-both n xs ys ∙ ap (λ k. take n xs ++ take k ys) e)
 
-cut-both : {X : Type 0} (xs ys : List X) (o n : ℕ) → cut (xs ++ ys) o n ≡ cut xs o n ++ cut ys (o - length xs) (n - (length xs - o))
+cut-both : {X : Type 0} (xs ys : List X) (o n : ℕ) → sublist (xs ++ ys) o n ≡ sublist xs o n ++ sublist ys (o - length xs) (n - (length xs - o))
 cut-both xs ys o n =
     ap (take n) (drop-both o xs ys)
     ∙ take-both n (drop o xs) (drop (o - length xs) ys)
@@ -38,7 +38,7 @@ cut-both xs ys o n =
 
 abbrev picked : SelectionTree → List Row → List Row
 picked all rs = rs
-picked (slice o n) rs = cut rs o n
+picked (slice o n) rs = sublist rs o n
 picked (where_true name) rs = filter (is_true_in name) rs
 picked (indices wanted) rs = []
 
@@ -196,11 +196,11 @@ enough-is-all (rows (slice o n)) s as_ bs h =
     let xs = rows_under s.fields as_ in
     let ys = rows_under s.fields bs in
     let none : n - (length xs - o) ≡ 0 = omega (arith, h) in
-    let same : cut xs o n ≡ cut (rows_under s.fields (as_ ++ bs)) o n =
-    sym (ap (λ rs. cut rs o n) (rows-append s.fields as_ bs)
+    let same : sublist xs o n ≡ sublist (rows_under s.fields (as_ ++ bs)) o n =
+    sym (ap (λ rs. sublist rs o n) (rows-append s.fields as_ bs)
     ∙ cut-both xs ys o n
-    ∙ ap (λ k. cut xs o n ++ take k (drop (o - length xs) ys)) none
-    ∙ append-nil (cut xs o n)) in
+    ∙ ap (λ k. sublist xs o n ++ take k (drop (o - length xs) ys)) none
+    ∙ append-nil (sublist xs o n)) in
     ap (λ rs. Some (text_of_rows rs)) same
 enough-is-all (rows (where_true name)) s as_ bs h = absurd h
 enough-is-all (rows (indices wanted)) s as_ bs h = absurd h

@@ -25,7 +25,7 @@ use Rattle.cli_rows.specs.Output.{HasTable}
 use Rattle.cli_rows.specs.SelectedTables.{AreRowsOf, IsSelectedFrom, IsRowOf}
 use Rattle.cli_rows.specs.declared.error.CliError.{CliError}
 use Rattle.cli_rows.specs.declared.error.CliError.TheVariants as causes
-use Rattle.cli_rows.proofs.SelectedBatches.{both-all, chosen-each}
+use Rattle.cli_rows.proofs.SelectedBatches.{both-all, selected-each}
 use Rattle.cli_args.specs.Requests.{indices}
 use Rattle.cli_read.specs.Indices.{AreIndicesInBatch, AreSortedFrom}
 use Rattle.cli_read.specs.Takes.{LacksRow, IsTakeError, Takes, FailsToTake}
@@ -69,7 +69,7 @@ taken-more fs wanted rows next passed n found more taken ws later p lt is w some
       count = m.count;
       within = m.within;
       are = ap (λ zs. zs ++ ws) p.are ∙ m.are;
-      each = both-all (IsRowOf fs) taken ws p.each (chosen-each fs (indices found) more ws some each);
+      each = both-all (IsRowOf fs) taken ws p.each (selected-each fs (indices found) more ws some each);
       rest = λ h.
           let behind = m.rest h in
           let bound = fits (length found) in

@@ -1,10 +1,13 @@
 -- The first difference of two inputs, found in their first record batches.
 use Rattle.std.specs.Prelude.{◌≡◌, ◌⊎◌, ◌<◌, ◌+◌, ◌^◌, ◌++◌, ℕ, List, length, Option, Some, None, Result, Ok, Err}
 use Rattle.ipc_flatbuf.specs.declared.error.IpcReadError as formats
+use Rattle.ipc_schema.specs.Projections.{ProjectionModel}
 use Rattle.cli_rows.specs.Difference.{AreEqualUpTo}
 use Rattle.cli_rows.specs.Rows.{Row}
 use Rattle.cli_read.specs.Decoded.{Decoded}
-use Rattle.cli_rows.specs.Compared.{ComparesTables, IsRowsError, table_rows}
+use Rattle.cli_read.specs.Inputs.{decoded_input}
+use Rattle.cli_read.specs.declared.input.Input as inputs
+use Rattle.cli_rows.specs.Compared.{ComparesTables, IsRowsError, IsTableDifference, table_rows}
 use Rattle.cli_rows.specs.Tables.{TableTree}
 use Rattle.cli_rows.specs.Output.{HasTable}
 use Rattle.cli_rows.specs.declared.difference.Difference.{Difference}
@@ -23,6 +26,10 @@ DecidesDifference (Some (ARow row)) s k = (s.first k ≡ s.whole) ⊎ HasTable (
 -- it is the first difference of the first record batches of two inputs, and they are sufficient
 abbrev pub FindsDifference : Decoded → Decoded → Option Difference → Type 0
 FindsDifference s t difference = (i j : ℕ) × ComparesTables (s.first i) (t.first j) difference × DecidesDifference difference s i × DecidesDifference difference t j
+
+-- where both inputs decode to tables, it is the first difference of the tables
+abbrev pub FindsTableDifference : Decoded → Decoded → TableTree → TableTree → Option Difference → Type 0
+FindsTableDifference s t h g difference = s.whole ≡ Ok h → t.whole ≡ Ok g → FindsDifference s t difference → IsTableDifference h g difference
 
 -- reading failed; or it is the first error of the bytes, the columns do not match the schema, or an allocation failed
 abbrev pub IsBatchReadError : CliError → Result TableTree formats.IpcReadError → Type 0
@@ -63,3 +70,8 @@ ComparesInputs (Some s) (Some t) (Ok difference) = FindsDifference s t differenc
 ComparesInputs (Some s) (Some t) (Err (First stop)) = FailsIn stop.batch stop.error s t
 ComparesInputs (Some s) (Some t) (Err (Second stop)) = FailsInSecond stop.batch stop.error s t
 ComparesInputs (Some s) (Some t) (Err TooManyRows) = HaveTooManyRows s t
+
+module _ {R S : Type 0} (remaining : R → Option (List ℕ)) (position : R → Option ℕ) (bytes : R → Option (List ℕ)) (remaining_s : S → Option (List ℕ)) (position_s : S → Option ℕ) (bytes_s : S → Option (List ℕ)) where
+  -- the same of the projected columns of two inputs
+  abbrev pub ComparesProjections : ProjectionModel → inputs.Input R → inputs.Input S → Result (Option Difference) CompareError → Type 0
+  ComparesProjections picks left right result = ComparesInputs (decoded_input remaining position bytes picks left) (decoded_input remaining_s position_s bytes_s picks right) result

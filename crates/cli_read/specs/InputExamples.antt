@@ -4,6 +4,7 @@ use Rattle.ipc_flatbuf.specs.declared.error.IpcReadError.{IpcReadError}
 use Rattle.cli_read.specs.Decoded.{Decoded}
 use Rattle.cli_rows.specs.Tables.{TableTree}
 
+-- the first record batches of a table, so many at most
 abbrev pub first_batches : TableTree → ℕ → TableTree
 first_batches h k = record { schema = h.schema; batches = take k h.batches }
 

@@ -11,6 +11,10 @@ use Rattle.cli_rows.specs.declared.error.CliError.TheVariants.{Input, Output}
 use Rattle.cli_read.specs.RemainingRequests.{HasAllRows}
 use Rattle.cli_read.specs.Decoded.{Decoded}
 
+-- the request prints this text of a table
+abbrev pub HasText : RequestTree → TableTree → List ℕ → Type 0
+HasText q t text = printed_text q (Ok t) ≡ Some text
+
 -- the text of the request was written
 abbrev pub WritesText : RequestTree → Result TableTree formats.IpcReadError → Option (List ℕ) → Option (List ℕ) → Type 0
 WritesText q read old new = (text : List ℕ) × (printed_text q read ≡ Some text) × Appends old new text
@@ -26,9 +30,17 @@ FailsWith Output q read Earlier old new = WritesTextPrefix q read old new
 FailsWith Input q read Earlier old new = Earlier
 FailsWith error q read Earlier old new = Earlier × IsPrintError error q read
 
+-- the same where no text was written earlier
+abbrev pub FailsToPrint : CliError → RequestTree → Result TableTree formats.IpcReadError → Option (List ℕ) → Option (List ℕ) → Type 0
+FailsToPrint error q read old new = FailsWith error q read (Keeps old new) old new
+
 -- the decoded record batches have all rows that the request prints
 abbrev pub IsSufficient : RequestTree → Result TableTree formats.IpcReadError → Type 0
 IsSufficient q read = HasTable read (HasAllRows q)
+
+-- the first record batches, where they are sufficient, print the text that all record batches print
+abbrev pub SufficientBatchesPrint : RequestTree → Decoded → Type 0
+SufficientBatchesPrint q s = (k : ℕ) (h : TableTree) → s.whole ≡ Ok h → IsSufficient q (s.first k) → printed_text q (s.first k) ≡ printed_text q (Ok h)
 
 -- The error occurred before the first record batch, and nothing was written. Or it occurred in a record batch, the batches before it were
 -- not sufficient, and their text was written.

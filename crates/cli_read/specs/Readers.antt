@@ -3,7 +3,7 @@ use Rattle.std.specs.Prelude.{ℕ, List, drop, Option}
 use Rattle.std.specs.Option.{option_map}
 use Rattle.ipc_schema.specs.Schemas.{SchemaModel}
 use Rattle.ipc_io.specs.FileReaders.{bytes_of}
-use Rattle.ipc_io.specs.StreamReaders.{as_slice_reader}
+use Rattle.ipc_io.specs.StreamReaders.{StreamReaderTree, as_slice_reader}
 use Rattle.ipc_schema.specs.Projections.{ProjectionModel}
 use Rattle.ipc.specs.Streams.{RecordBatchTree}
 use Rattle.cli_read.specs.Decoded.{Decoded}
@@ -16,6 +16,10 @@ use Rattle.cli_read.specs.declared.reader.BatchReader.TheVariants.{File, Stream}
 abbrev pub reader_schema : {R : Type 0} → BatchReader R → SchemaModel
 reader_schema (Stream reader) = reader.state.picked.schema
 reader_schema (File reader k) = reader.state.picked.schema
+
+-- the remaining record batches of a stream
+abbrev pub remaining_of_stream : {R : Type 0} → (R → Option (List ℕ)) → StreamReaderTree R → Option Remaining
+remaining_of_stream remaining reader = option_map remaining_in_stream (as_slice_reader remaining reader)
 
 module _ {R : Type 0} (remaining : R → Option (List ℕ)) (place : R → Option ℕ) (bytes : R → Option (List ℕ)) where
   abbrev pub remaining_batches : BatchReader R → Option Remaining

@@ -1,7 +1,7 @@
 -- States of taking rows by index.
 use Rattle.std.specs.Prelude.{◌≡◌, ◌⊎◌, ◌<◌, ◌≤◌, ℕ, Bool, true, false, List, [], get_or, length, map, take, Option, None, Some}
 use Rattle.std.specs.List.{AllByRecursion, flat_map}
-use Rattle.std.specs.List.Sorted.{IsNonDecreasing}
+use Rattle.std.specs.List.Sorted.{IsNonDecreasing, IsPermutation}
 use Rattle.nest_memory.specs.TypeTree.{FieldTree}
 use Rattle.nest_model.specs.Layout.{Layout}
 use Rattle.nest_array.specs.Seen.{layout_of}
@@ -57,6 +57,10 @@ IsTakeStateError t s wanted stop = (rows : List Row) × IsBufferError t s rows s
 -- these are the rows at the indices
 abbrev pub AreRowsAtIndices : List FieldTree → List ℕ → List Row → List Layout → Type 0
 AreRowsAtIndices fs wanted rows as_ = (selected_rows (indices wanted) rows ≡ Some (flat_map rows_of as_)) × AreRowsOf fs (flat_map rows_of as_)
+
+-- these are the rows at indices, of all rows from which the state has taken the rows at the same indices in sorted order
+abbrev pub AreTakenRows : List ℕ → TakeState → List Layout → Type 0
+AreTakenRows wanted t as_ = (fs : List FieldTree) (rows : List Row) → IsPermutation wanted t.wanted.items → HasTakenFrom fs rows t → AreRowsAtIndices fs wanted rows as_
 
 -- an index is out of range, or an allocation failed
 abbrev pub IsFinishError : CliError → TakeState → Type 0

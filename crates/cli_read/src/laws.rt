@@ -1,22 +1,20 @@
 //! Examples and laws of inputs read in part. Each function's contract is an example or a law, and its body is empty.
-ghost use Rattle.std.specs.Prelude.{◌≡◌, ◌<◌, ℕ, List, [], ◌∷◌, length, take, Option, None, Some, Ok, Err, true, false};
+ghost use Rattle.std.specs.Prelude.{◌≡◌, ◌<◌, ℕ, List, [], ◌∷◌, length, Option, None, Some, Ok, Err, true, false};
 ghost use Rattle.ipc_flatbuf.specs.declared.error.IpcReadError as read_errors;
 ghost use Rattle.ipc_flatbuf.specs.declared.error.IpcReadError.TheVariants.{Truncated};
 ghost use Rattle.ipc_schema.specs.Projections.{ProjectionModel};
 ghost use Rattle.cli_args.specs.Requests.{RequestTree, all, indices, rows};
-ghost use Rattle.cli_rows.specs.Compared.{IsTableDifference};
-ghost use Rattle.cli_rows.specs.Output.{printed_text};
 ghost use Rattle.cli_rows.specs.SelectedTables.{IsSelectedFrom};
 ghost use Rattle.cli_rows.specs.TableExamples.{boolean_table, columnless_table, three_booleans};
 ghost use Rattle.cli_rows.specs.Tables.{TableTree, decoded_table, is_file_prefix};
 ghost use Rattle.cli_rows.specs.declared.difference.Difference.{Difference};
 ghost use Rattle.cli_rows.specs.declared.difference.Difference.TheVariants.{Row, Schema};
 ghost use Rattle.cli_rows.specs.declared.error.CliError.TheVariants.{IndexOutOfRange, Read};
-ghost use Rattle.cli_read.specs.Comparisons.{FailsIn, FailsInSecond, FindsDifference};
+ghost use Rattle.cli_read.specs.Comparisons.{FailsIn, FailsInSecond, FindsDifference, FindsTableDifference};
 ghost use Rattle.cli_read.specs.Decoded.{Decoded, decoded_file, decoded_stream};
-ghost use Rattle.cli_read.specs.InputExamples.{broken_input, complete_input, unreadable_input};
+ghost use Rattle.cli_read.specs.InputExamples.{broken_input, complete_input, first_batches, unreadable_input};
 ghost use Rattle.cli_read.specs.Inputs.{IsDecodedFrom};
-ghost use Rattle.cli_read.specs.Printed.{IsSufficient};
+ghost use Rattle.cli_read.specs.Printed.{HasText, SufficientBatchesPrint};
 ghost use Rattle.cli_read.specs.Takes.{IsTakeError, Takes};
 
 /// All record batches of a stream or a file are its decoded table, by the first bytes.
@@ -33,19 +31,19 @@ pub fn an_error_in_a_prefix_is_the_error()
 
 /// Without an error the first record batches are those of the decoded table.
 pub fn prefixes_are_the_first_batches()
-    ensures stream { (picks : ProjectionModel) (bytes : List ℕ) (k : ℕ) (h : TableTree) → (decoded_stream picks bytes).whole ≡ Ok h → (decoded_stream picks bytes).first k ≡ Ok (record { schema = h.schema; batches = take k h.batches }) }
-    ensures file { (picks : ProjectionModel) (bytes : List ℕ) (k : ℕ) (h : TableTree) → (decoded_file picks bytes).whole ≡ Ok h → (decoded_file picks bytes).first k ≡ Ok (record { schema = h.schema; batches = take k h.batches }) }
+    ensures stream { (picks : ProjectionModel) (bytes : List ℕ) (k : ℕ) (h : TableTree) → (decoded_stream picks bytes).whole ≡ Ok h → (decoded_stream picks bytes).first k ≡ Ok (first_batches h k) }
+    ensures file { (picks : ProjectionModel) (bytes : List ℕ) (k : ℕ) (h : TableTree) → (decoded_file picks bytes).whole ≡ Ok h → (decoded_file picks bytes).first k ≡ Ok (first_batches h k) }
 {}
 
 /// If the first record batches have all selected rows, they print the text that all record batches print.
 pub fn sufficient_batches_print_the_text()
-    ensures stream { (q : RequestTree) (picks : ProjectionModel) (bytes : List ℕ) (k : ℕ) (h : TableTree) → (decoded_stream picks bytes).whole ≡ Ok h → IsSufficient q ((decoded_stream picks bytes).first k) → printed_text q ((decoded_stream picks bytes).first k) ≡ printed_text q (Ok h) }
-    ensures file { (q : RequestTree) (picks : ProjectionModel) (bytes : List ℕ) (k : ℕ) (h : TableTree) → (decoded_file picks bytes).whole ≡ Ok h → IsSufficient q ((decoded_file picks bytes).first k) → printed_text q ((decoded_file picks bytes).first k) ≡ printed_text q (Ok h) }
+    ensures stream { (q : RequestTree) (picks : ProjectionModel) (bytes : List ℕ) → SufficientBatchesPrint q (decoded_stream picks bytes) }
+    ensures file { (q : RequestTree) (picks : ProjectionModel) (bytes : List ℕ) → SufficientBatchesPrint q (decoded_file picks bytes) }
 {}
 
 /// If both inputs are read without an error, the difference found is the first difference of their tables.
 pub fn found_differences_are_the_first()
-    ensures { (picks : ProjectionModel) (xs ys : List ℕ) (s t : Decoded) (h g : TableTree) (d : Option Difference) → IsDecodedFrom picks xs s → IsDecodedFrom picks ys t → s.whole ≡ Ok h → t.whole ≡ Ok g → FindsDifference s t d → IsTableDifference h g d }
+    ensures { (picks : ProjectionModel) (xs ys : List ℕ) (s t : Decoded) (h g : TableTree) (d : Option Difference) → IsDecodedFrom picks xs s → IsDecodedFrom picks ys t → FindsTableDifference s t h g d }
 {}
 
 /// Three rows in other batches; another second row, also before an error; one more row; another schema, also before an error.
@@ -91,5 +89,5 @@ pub fn missing_rows_are_errors()
 
 /// If there is a column, the text of the rows taken is what the request prints.
 pub fn text_of_taken_rows()
-    ensures { (wanted : List ℕ) (h t : TableTree) (text : List ℕ) → 0 < length h.schema.fields → IsSelectedFrom (indices wanted) h t → printed_text (rows all) (Ok t) ≡ Some text → printed_text (rows (indices wanted)) (Ok h) ≡ Some text }
+    ensures { (wanted : List ℕ) (h t : TableTree) (text : List ℕ) → 0 < length h.schema.fields → IsSelectedFrom (indices wanted) h t → HasText (rows all) t text → HasText (rows (indices wanted)) h text }
 {}

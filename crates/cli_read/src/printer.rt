@@ -1,6 +1,5 @@
 //! Schemas and rows printed one record batch at a time: each batch is read, printed and dropped before the next one is read.
 ghost use Rattle.std.specs.Prelude.{◌≡◌, ◌∷◌, [], IfErr, Ok, OnOk, Some, map};
-ghost use Rattle.std.specs.Io.KnownBytes.{Keeps};
 ghost use Rattle.nest_memory.specs.TypeOf.{type_of};
 ghost use Rattle.ipc.specs.Streams.{record_batch_of};
 ghost use Rattle.ipc_schema.specs.Projections.{projection_of};
@@ -8,7 +7,7 @@ ghost use Rattle.ipc_schema.specs.Schemas.{SchemaModel, schema_of};
 ghost use Rattle.cli_args.specs.RequestTrees.{request_tree};
 ghost use Rattle.cli_rows.specs.Records.{record_type};
 ghost use Rattle.cli_read.specs.Inputs.{decoded_input};
-ghost use Rattle.cli_read.specs.Printed.{FailsWith, Prints, WritesText};
+ghost use Rattle.cli_read.specs.Printed.{FailsToPrint, Prints, WritesText};
 ghost use Rattle.cli_read.specs.Readers.{decoded_reader, reader_schema};
 ghost use Rattle.cli_read.specs.RemainingRequests.{IsRequestInRowOrder, batch_table, is_complete_request, remaining_request, table_row_count};
 ghost use Rattle.cli_read.specs.RowBuffers.{table_of_batches};
@@ -56,7 +55,7 @@ fn write_text<W: Write>(
 ) -> Result<(), CliError>
     requires { type_of row_type.now ≡ record_type (schema_of schema.now).fields }
     ensures ok { OnOk result (WritesText (request_tree request.now) (Ok (table_of_batches (schema_of schema.now) (map record_batch_of batches.items))) (W.contents out.old) (W.contents out.new)) }
-    ensures error { IfErr result (λ e. FailsWith e (request_tree request.now) (Ok (table_of_batches (schema_of schema.now) (map record_batch_of batches.items))) (Keeps (W.contents out.old) (W.contents out.new)) (W.contents out.old) (W.contents out.new)) }
+    ensures error { IfErr result (λ e. FailsToPrint e (request_tree request.now) (Ok (table_of_batches (schema_of schema.now) (map record_batch_of batches.items))) (W.contents out.old) (W.contents out.new)) }
 {
     match request_text(alloc, schema, row_type, request, batches) {
         Err(error) => Err(error),
@@ -86,7 +85,7 @@ fn write_batch<W: Write>(
     requires { type_of row_type.now ≡ record_type (schema_of schema.now).fields }
     ensures left { OnOk result (request_tree left.new ≡ remaining_request (request_tree left.old) (table_row_count (batch_table (schema_of schema.now) (Some (record_batch_of batch))))) }
     ensures ok { OnOk result (WritesText (request_tree left.old) (Ok (batch_table (schema_of schema.now) (Some (record_batch_of batch)))) (W.contents out.old) (W.contents out.new)) }
-    ensures error { IfErr result (λ e. FailsWith e (request_tree left.old) (Ok (batch_table (schema_of schema.now) (Some (record_batch_of batch)))) (Keeps (W.contents out.old) (W.contents out.new)) (W.contents out.old) (W.contents out.new)) }
+    ensures error { IfErr result (λ e. FailsToPrint e (request_tree left.old) (Ok (batch_table (schema_of schema.now) (Some (record_batch_of batch)))) (W.contents out.old) (W.contents out.new)) }
 {
     let rows = row_count(&batch);
     let mut batches = Vec::new(alloc);

@@ -1,12 +1,11 @@
 //! Record batches read one after another, of a stream or a file.
 ghost use Rattle.std.specs.Prelude.{◌≡◌, IfErr, IfOk, length, option_map};
 ghost use Rattle.ipc.specs.Streams.{record_batch_of};
-ghost use Rattle.ipc_io.specs.StreamReaders.{as_slice_reader};
 ghost use Rattle.ipc_schema.specs.Projections.{projection_of};
 ghost use Rattle.ipc_schema.specs.Schemas.{schema_of};
 ghost use Rattle.cli_read.specs.Inputs.{decoded_input};
-ghost use Rattle.cli_read.specs.Remaining.{FailsNext, FailsToOpen, ReturnsNext, remaining_in_stream};
-ghost use Rattle.cli_read.specs.Readers.{IsReaderOf, ReturnsBatch, reader_schema, remaining_batches};
+ghost use Rattle.cli_read.specs.Remaining.{FailsNext, FailsToOpen, ReturnsNext};
+ghost use Rattle.cli_read.specs.Readers.{IsReaderOf, ReturnsBatch, reader_schema, remaining_batches, remaining_of_stream};
 ghost use Rattle.cli_read.specs.declared.reader.BatchReader.TheVariants.{File};
 
 use crate::input::Input;
@@ -55,8 +54,8 @@ fn next_in_stream<R: Read + Drop>(
     alloc: Global,
     reader: &mut StreamReader<R>,
 ) -> Result<Option<Batch>, CliError>
-    ensures next { IfOk result (λ n. ReturnsNext (option_map remaining_in_stream (as_slice_reader R.remaining reader.old)) (option_map remaining_in_stream (as_slice_reader R.remaining reader.new)) (option_map record_batch_of n)) }
-    ensures error { IfErr result (λ e. FailsNext e (option_map remaining_in_stream (as_slice_reader R.remaining reader.old))) }
+    ensures next { IfOk result (λ n. ReturnsNext (remaining_of_stream R.remaining reader.old) (remaining_of_stream R.remaining reader.new) (option_map record_batch_of n)) }
+    ensures error { IfErr result (λ e. FailsNext e (remaining_of_stream R.remaining reader.old)) }
     ensures schema { reader.new.state.picked ≡ reader.old.state.picked }
 {
     match reader.next_batch(alloc) {

@@ -26,7 +26,7 @@ pub fn next_rows<R: SeekRead + Drop>(
     row_type: &DataType,
 ) -> Result<Option<AnyArray>, CliError>
     requires { type_of row_type.now ≡ record_type (reader_schema reader.old).fields }
-    ensures rows { IfOk result (λ r. ReturnsRows (reader_schema reader.old) (remaining_batches R.remaining R.stream_position R.stream_bytes reader.old) (remaining_batches R.remaining R.stream_position R.stream_bytes reader.new) (option_map layout_of r)) }
+    ensures rows { let rest = remaining_batches R.remaining R.stream_position R.stream_bytes in IfOk result (λ r. ReturnsRows (reader_schema reader.old) (rest reader.old) (rest reader.new) (option_map layout_of r)) }
     ensures each { IfOk result (λ r. IfSome r (λ a. AreRowsOf (reader_schema reader.old).fields (rows_of (layout_of a)))) }
     ensures error { IfErr result (λ e. FailsRows (reader_schema reader.old) e (remaining_batches R.remaining R.stream_position R.stream_bytes reader.old)) }
     ensures schema { reader_schema reader.new ≡ reader_schema reader.old }

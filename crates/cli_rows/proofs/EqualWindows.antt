@@ -1,7 +1,7 @@
 -- Equal rows of windows.
 use Rattle.std.proofs.Common.{◌≡◌, ◌↔◌, ℕ, Bool, IsTrue, ◌+◌, ◌<◌, ◌≤◌, List, [], ◌∷◌, length, map, take, refl, sym, ap, ◌∙◌, arith}
 use Rattle.std.proofs.lemmas.List.{length-map, take_all}
-use Rattle.nest_memory.specs.Cut.{cut}
+use Rattle.nest_memory.specs.Sublist.{sublist}
 use Rattle.nest_memory.specs.TypeTree.{TypeTree}
 use Rattle.nest_model.specs.Layout.{layout_type}
 use Rattle.nest_model.specs.Meaning.{len, slots_of}
@@ -41,7 +41,7 @@ types-equal t u ss rs h e =
 slots-equal : (t u : TypeTree) (ss rs : List Slot) → typed t ss ≡ typed u rs → ss ≡ rs
 slots-equal t u ss rs e = sym (untyped t ss) ∙ ap (map (λ (r : Row). r.1)) e ∙ untyped u rs
 
-pub one-row : (w v : WindowParts) (k : ℕ) → v.array ≡ w.array → window_slots v ≡ cut (window_slots w) k 1 → rows_in v ≡ cut (rows_in w) k 1
+pub one-row : (w v : WindowParts) (k : ℕ) → v.array ≡ w.array → window_slots v ≡ sublist (window_slots w) k 1 → rows_in v ≡ sublist (rows_in w) k 1
 one-row w v k a s =
     ap (λ l. typed (layout_type l) (window_slots v)) a
     ∙ ap (typed (layout_type w.array)) s
@@ -54,11 +54,11 @@ pub rows-counted : (w : WindowParts) → w.offset + w.count ≤ len w.array → 
 rows-counted w h = length-map (window_slots w) (λ s. (layout_type w.array, s)) ∙ long-as-counted w h
 
 pub same-as-windows : (x y v w : WindowParts) (k : ℕ) (b : Bool) → x.offset + x.count ≤ len x.array → k < x.count
-    → v.array ≡ x.array → window_slots v ≡ cut (window_slots x) k 1 → w.array ≡ y.array → window_slots w ≡ cut (window_slots y) k 1
-    → (IsTrue b ↔ Equal v w) → IsTrue b ↔ (cut (rows_in x) k 1 ≡ cut (rows_in y) k 1)
+    → v.array ≡ x.array → window_slots v ≡ sublist (window_slots x) k 1 → w.array ≡ y.array → window_slots w ≡ sublist (window_slots y) k 1
+    → (IsTrue b ↔ Equal v w) → IsTrue b ↔ (sublist (rows_in x) k 1 ≡ sublist (rows_in y) k 1)
 same-as-windows x y v w k b fits within va vs wa ws test = (λ t. sym (one-row x v k va vs) ∙ same-rows v w (test.0 t) ∙ one-row y w k wa ws, λ e. test.1 (equal e))
   where
-    equal : cut (rows_in x) k 1 ≡ cut (rows_in y) k 1 → Equal v w
+    equal : sublist (rows_in x) k 1 ≡ sublist (rows_in y) k 1 → Equal v w
     equal e =
         let same : rows_in v ≡ rows_in w = one-row x v k va vs ∙ e ∙ sym (one-row y w k wa ws) in
         let l = long-as-counted x fits in

@@ -6,7 +6,6 @@ mod OnlyOne
 mod Lines
 mod RecordArrays
 mod ByName
-mod EqualLists
 pub mod BatchArrays
 pub mod SelectedBatches
 mod Collected

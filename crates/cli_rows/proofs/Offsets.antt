@@ -7,7 +7,7 @@ use Rattle.std.proofs.lemmas.Bool.{cond-true, cond-false, lt-ltb}
 use Rattle.std.proofs.lemmas.List.{get_or_append_left, get_or_push, get_or-map, length-take, take_all}
 use Rattle.std.proofs.lemmas.List.Folds.{list_all_at, list_all_more}
 use Rattle.std.proofs.lemmas.List.Sums.{sum_by-cons, sum_by_more}
-use Rattle.nest_memory.specs.Cut.{cut}
+use Rattle.nest_memory.specs.Sublist.{sublist}
 use Rattle.nest_array.specs.Seen.{layout_of}
 use Rattle.nest_array.specs.declared.any.AnyArray.{AnyArray}
 use Rattle.cli_args.specs.Requests.{indices}
@@ -125,14 +125,14 @@ total-rows [] = refl
 total-rows (x ∷ xs) = length-append (rows_of (layout_of x)) _ ∙ ap (λ n. n + length (flat_map rows_of (map layout_of xs))) (rows-length (layout_of x)) ∙ ap (λ n. row_count x + n) (total-rows xs) ∙ sym (sum_by-cons row_count x xs)
 
 pub located-row : (arrays : List AnyArray) (k i place : ℕ) (x : AnyArray) → k < length arrays → x ≡ get_or arrays k x → i < row_count x → place ≡ rows_before arrays k + i
-    → cut (rows_of (layout_of x)) i 1 ≡ cut (flat_map rows_of (map layout_of arrays)) place 1
+    → sublist (rows_of (layout_of x)) i 1 ≡ sublist (flat_map rows_of (map layout_of arrays)) place 1
 located-row [] k i place x h e within is = absurd (omega (arith, h))
 located-row (y ∷ ys) zero i place x h e within is =
     let l = rows-length (layout_of x) in
     let same : i ≡ place = omega (arith, is) in
     cut-front (rows_of (layout_of x)) (flat_map rows_of (map layout_of ys)) i 1 (omega (arith, l, within))
-    ∙ ap (λ p. cut (rows_of (layout_of x) ++ flat_map rows_of (map layout_of ys)) p 1) same
-    ∙ ap (λ z. cut (rows_of (layout_of z) ++ flat_map rows_of (map layout_of ys)) place 1) e
+    ∙ ap (λ p. sublist (rows_of (layout_of x) ++ flat_map rows_of (map layout_of ys)) p 1) same
+    ∙ ap (λ z. sublist (rows_of (layout_of z) ++ flat_map rows_of (map layout_of ys)) place 1) e
 located-row (y ∷ ys) (suc k) i place x h e within is =
     let l = rows-length (layout_of y) in
     let c = sum_by-cons row_count y (take k ys) in
@@ -145,7 +145,7 @@ same-default [] i d e h = absurd (omega (arith, h))
 same-default (x ∷ xs) zero d e h = refl
 same-default (x ∷ xs) (suc i) d e h = same-default xs i d e (omega (arith, h))
 
-pub place-more : (rows : List Row) (places : List ℕ) (j place : ℕ) → j < length places → place ≡ get_or places j place → length (cut rows place 1) ≡ 1
+pub place-more : (rows : List Row) (places : List ℕ) (j place : ℕ) → j < length places → place ≡ get_or places j place → length (sublist rows place 1) ≡ 1
     → list_all (λ p. nat_lt p (length rows)) (take j places) ≡ true → list_all (λ p. nat_lt p (length rows)) (take (j + 1) places) ≡ true
 place-more rows places j place h e one so_far =
     let t = length-take 1 (drop place rows) in
@@ -162,8 +162,8 @@ none-at rows places j place h e past =
     not-lt : (m n : ℕ) → n ≤ m → nat_lt m n ≡ false
     not-lt m n k = grind arith
 
-pub all-at : (rows chosen : List Row) (places : List ℕ) (j : ℕ) → length places ≤ j → chosen ≡ rows_at_indices rows (take j places) → list_all (λ p. nat_lt p (length rows)) (take j places) ≡ true
-    → Some chosen ≡ selected_rows (indices places) rows
-all-at rows chosen places j h is all =
+pub all-at : (rows selected : List Row) (places : List ℕ) (j : ℕ) → length places ≤ j → selected ≡ rows_at_indices rows (take j places) → list_all (λ p. nat_lt p (length rows)) (take j places) ≡ true
+    → Some selected ≡ selected_rows (indices places) rows
+all-at rows selected places j h is all =
     ap (λ rs. Some rs) (is ∙ ap (rows_at_indices rows) (take_all j places h))
     ∙ sym (cond-true _ _ _ (ap (list_all (λ p. nat_lt p (length rows))) (sym (take_all j places h)) ∙ all))

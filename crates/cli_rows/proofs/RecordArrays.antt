@@ -4,8 +4,8 @@ use Rattle.std.specs.List.{AllByRecursion}
 use Rattle.std.proofs.lemmas.List.{map-append}
 use Rattle.nest_memory.specs.TypeTree.{TypeTree}
 use Rattle.nest_memory.specs.declared.error.Error.{Error}
-use Rattle.nest_model.specs.Decide.{pass-no_fault}
-use Rattle.nest_model.specs.Fits.{Fits, FirstFault, checks}
+use Rattle.nest_model.specs.Decide.{pass-no_error}
+use Rattle.nest_model.specs.Fits.{Fits, FirstError, checks}
 use Rattle.nest_model.specs.Layout as layouts
 use Rattle.nest_model.specs.Layout.{Layout, more_layouts}
 use Rattle.nest_array.specs.Seen.{layout_of, layouts_of}
@@ -24,8 +24,8 @@ columns-side_by_side (a ∷ as_) = ap (λ ls. more_layouts (layout_of a) ls) (co
 pub record-parts : (t u : TypeTree) (as_ : List AnyArray) → t ≡ u → layouts.struct t (layouts_of as_) None ≡ records u (map layout_of as_)
 record-parts t u as_ e = ap (λ v. layouts.struct v (layouts_of as_) None) e ∙ ap (λ ls. layouts.struct u ls None) (columns-side_by_side as_)
 
-pub refused : (t u : TypeTree) (as_ : List AnyArray) (e : Error) → t ≡ u → FirstFault e (layouts.struct t (layouts_of as_) None) → Fits (records u (map layout_of as_)) → ⊥
-refused t u as_ e same error fits = pass-no_fault (checks (layouts.struct t (layouts_of as_) None)) e (subst Fits (sym (record-parts t u as_ same)) fits) error
+pub refused : (t u : TypeTree) (as_ : List AnyArray) (e : Error) → t ≡ u → FirstError e (layouts.struct t (layouts_of as_) None) → Fits (records u (map layout_of as_)) → ⊥
+refused t u as_ e same error fits = pass-no_error (checks (layouts.struct t (layouts_of as_) None)) e (subst Fits (sym (record-parts t u as_ same)) fits) error
 
 error-weaker : (e : CliError) (P Q : Type 0) → (Q → P) → IsRowError e P → IsRowError e Q
 error-weaker MismatchedColumns P Q k h = λ q. h (k q)

@@ -5,13 +5,13 @@ use Rattle.std.specs.List.{AllByRecursion, filter, flat_map, list_all}
 use Rattle.std.proofs.lemmas.Bool.{eqb-true}
 use Rattle.std.proofs.lemmas.List.{flat_map_more, length-map, map-append, take_more}
 use Rattle.std.proofs.lemmas.List.Elements.{filter-append}
-use Rattle.nest_memory.specs.Cut.{cut}
+use Rattle.nest_memory.specs.Sublist.{sublist}
 use Rattle.nest_memory.specs.Physical.{physical_type}
 use Rattle.nest_memory.specs.TypeTree as types
 use Rattle.nest_memory.specs.TypeTree.{FieldTree, TypeTree}
 use Rattle.nest_memory.specs.declared.datatypes.physical_type.PhysicalType.TheVariants as physical
-use Rattle.nest_model.specs.Chosen.{chosen, mask_places, places_from}
-use Rattle.nest_model.specs.Cut.{IsCut}
+use Rattle.nest_model.specs.Selected.{selected, mask_indices, indices_from}
+use Rattle.nest_model.specs.Slice.{IsSlice}
 use Rattle.nest_model.specs.Layout as layouts
 use Rattle.nest_model.specs.Layout.{Layout, Layouts, layout_type}
 use Rattle.nest_model.specs.Meaning.{each, first_len, len, run, slot, slots_of}
@@ -57,12 +57,12 @@ module _ {A : Type 0} (P : A → Type 0) where
   drop-each (suc n) [] h = tt
   drop-each (suc n) (x ∷ xs) h = drop-each n xs h.1
 
-  cut-each : (xs : List A) (o n : ℕ) → AllByRecursion P xs → AllByRecursion P (cut xs o n)
+  cut-each : (xs : List A) (o n : ℕ) → AllByRecursion P xs → AllByRecursion P (sublist xs o n)
   cut-each xs o n h = take-each n (drop o xs) (drop-each o xs h)
 
   at-each : (xs : List A) (places : List ℕ) → AllByRecursion P xs → AllByRecursion P (rows_at_indices xs places)
   at-each xs [] h = tt
-  at-each xs (p ∷ ps) h = both-all (cut xs p 1) (rows_at_indices xs ps) (cut-each xs p 1 h) (at-each xs ps h)
+  at-each xs (p ∷ ps) h = both-all (sublist xs p 1) (rows_at_indices xs ps) (cut-each xs p 1 h) (at-each xs ps h)
 
   filter-each : (test : A → Bool) (xs : List A) → AllByRecursion P xs → AllByRecursion P (filter test xs)
   filter-each test [] h = tt
@@ -105,15 +105,15 @@ pub held-each : (fs : List FieldTree) (bs : List RecordBatchTree) → AreRowsOf 
 held-each fs [] = tt
 held-each fs (b ∷ bs) = both-all (IsRowOf fs) (rows_of (batch_array fs b)) (batch_rows fs bs) (batch-each fs b) (held-each fs bs)
 
-pub chosen-each : (fs : List FieldTree) (c : SelectionTree) (rows picked : List Row) → selected_rows c rows ≡ Some picked → AreRowsOf fs rows → AreRowsOf fs picked
-chosen-each fs all rows picked e h = let same : rows ≡ picked = cc in subst (AreRowsOf fs) same h
-chosen-each fs (slice o n) rows picked e h = let same : cut rows o n ≡ picked = cc in subst (AreRowsOf fs) same (cut-each (IsRowOf fs) rows o n h)
-chosen-each fs (indices places) rows picked e h = by_places (list_all (λ p. nat_lt p (length rows)) places) e
+pub selected-each : (fs : List FieldTree) (c : SelectionTree) (rows picked : List Row) → selected_rows c rows ≡ Some picked → AreRowsOf fs rows → AreRowsOf fs picked
+selected-each fs all rows picked e h = let same : rows ≡ picked = cc in subst (AreRowsOf fs) same h
+selected-each fs (slice o n) rows picked e h = let same : sublist rows o n ≡ picked = cc in subst (AreRowsOf fs) same (cut-each (IsRowOf fs) rows o n h)
+selected-each fs (indices places) rows picked e h = by_places (list_all (λ p. nat_lt p (length rows)) places) e
   where
     by_places : (b : Bool) → (if b then Some (rows_at_indices rows places) else None) ≡ Some picked → AreRowsOf fs picked
     by_places true e = let same : rows_at_indices rows places ≡ picked = cc in subst (AreRowsOf fs) same (at-each (IsRowOf fs) rows places h)
     by_places false e = absurd cc
-chosen-each fs (where_true name) rows picked e h = let same : filter (is_true_in name) rows ≡ picked = cc in subst (AreRowsOf fs) same (filter-each (IsRowOf fs) (is_true_in name) rows h)
+selected-each fs (where_true name) rows picked e h = let same : filter (is_true_in name) rows ≡ picked = cc in subst (AreRowsOf fs) same (filter-each (IsRowOf fs) (is_true_in name) rows h)
 
 no-items : {A : Type 0} (f : Slot → A) (o n : ℕ) (s : ℕ → Slot) → n ≡ 0 → map f (run s o n) ≡ []
 no-items f o zero s e = refl
@@ -209,7 +209,7 @@ batch-more fs old new b rows pushed is =
     ∙ sym (flat_map_more rows_of [] (map (batch_array fs) old) (batch_array fs b))
     ∙ ap (λ rs. batch_rows fs old ++ rs) is
 
-pub cut-rows : (a b : Layout) (o n : ℕ) → IsCut a o n b → rows_of b ≡ rows_in (window_parts a o n)
+pub cut-rows : (a b : Layout) (o n : ℕ) → IsSlice a o n b → rows_of b ≡ rows_in (window_parts a o n)
 cut-rows a b o n h = ap (λ t. rowed t (slots_of b)) h.same_type ∙ ap (map (λ s. (layout_type a, s))) h.slots
 
 pub no-window-rows : (w : WindowParts) → w.count ≡ 0 → rows_in w ≡ []
@@ -222,7 +222,7 @@ there-at f fs t s o (suc n) (suc i) h k = let e : suc o + i ≡ o + suc i = omeg
 
 module _ (name : List ℕ) (t : TypeTree) (whole : List Slot) (s m : ℕ → Slot) where
   abbrev Masks : ℕ → ℕ → Type 0
-  Masks o n = rowed t (chosen whole (places_from o (run m o n))) ≡ filter (is_true_in name) (rowed t (run s o n))
+  Masks o n = rowed t (selected whole (indices_from o (run m o n))) ≡ filter (is_true_in name) (rowed t (run s o n))
 
   masked-run : (o n : ℕ) → ((i : ℕ) → i < n → get_or whole (o + i) slots.null ≡ s (o + i)) → ((i : ℕ) → i < n → is_true_in name (t, s (o + i)) ≡ spec_is_true (m (o + i))) → Masks o n
   masked-run o zero here truth = refl
@@ -236,18 +236,18 @@ module _ (name : List ℕ) (t : TypeTree) (whole : List Slot) (s m : ℕ → Slo
       next : (i : ℕ) → o + suc i ≡ suc o + i
       next i = omega arith
 
-      left_out : is_true_in name (t, s o) ≡ false → Masks (suc o) n → rowed t (chosen whole (places_from (suc o) (run m (suc o) n))) ≡ filter (is_true_in name) ((t, s o) ∷ rowed t (run s (suc o) n))
+      left_out : is_true_in name (t, s o) ≡ false → Masks (suc o) n → rowed t (selected whole (indices_from (suc o) (run m (suc o) n))) ≡ filter (is_true_in name) ((t, s o) ∷ rowed t (run s (suc o) n))
       left_out e rest = rw e rest
 
       by_slot : (x : Slot) → is_true_in name (t, s o) ≡ spec_is_true x → Masks (suc o) n
-          → rowed t (chosen whole (places_from o (x ∷ run m (suc o) n))) ≡ filter (is_true_in name) ((t, s o) ∷ rowed t (run s (suc o) n))
-      by_slot (slots.truth true) e rest =
+          → rowed t (selected whole (indices_from o (x ∷ run m (suc o) n))) ≡ filter (is_true_in name) ((t, s o) ∷ rowed t (run s (suc o) n))
+      by_slot (slots.boolean true) e rest =
           let indices : get_or whole o slots.null ≡ s o = subst (λ k. get_or whole k slots.null ≡ s k) first (here 0 (omega arith)) in
           rw (e, indices) (ap (λ rs. (t, s o) ∷ rs) rest)
-      by_slot (slots.truth false) e rest = left_out e rest
+      by_slot (slots.boolean false) e rest = left_out e rest
       by_slot slots.null e rest = left_out e rest
       by_slot (slots.number zs) e rest = left_out e rest
-      by_slot (slots.text bs) e rest = left_out e rest
+      by_slot (slots.utf8 bs) e rest = left_out e rest
       by_slot (slots.bytes bs) e rest = left_out e rest
       by_slot (slots.list ss) e rest = left_out e rest
       by_slot (slots.record_of ss) e rest = left_out e rest
@@ -257,12 +257,12 @@ and-true : (a b : Bool) → a ≡ true → (a && b) ≡ b
 and-true true b e = refl
 and-true false b e = absurd cc
 
-pub true-rows : (fs : List FieldTree) (name : List ℕ) (a r m b : Layout) → 0 < length fs → AreRowsOf fs (rows_of a) → IsBooleanColumn name a (Some (r, m)) → IsTaken a (mask_places (slots_of m)) b
+pub true-rows : (fs : List FieldTree) (name : List ℕ) (a r m b : Layout) → 0 < length fs → AreRowsOf fs (rows_of a) → IsBooleanColumn name a (Some (r, m)) → IsTaken a (mask_indices (slots_of m)) b
     → rows_of b ≡ filter (is_true_in name) (rows_of a)
 true-rows [] name a r m b some h c taken = absurd (omega (arith, some))
 true-rows (f ∷ fs) name a r m b some h c taken =
     ap (λ t. rowed t (slots_of b)) taken.same_type
-    ∙ ap (map (λ s. (layout_type a, s))) (taken.slots ∙ ap (λ n. chosen (slots_of a) (places_from 0 (run (slot m) 0 n))) c.1)
+    ∙ ap (map (λ s. (layout_type a, s))) (taken.slots ∙ ap (λ n. selected (slots_of a) (indices_from 0 (run (slot m) 0 n))) c.1)
     ∙ masked-run name (layout_type a) (slots_of a) (slot a) (slot m) 0 (len a)
     (λ i lt. let e : 0 + i ≡ i = omega arith in subst (λ k. get_or (slots_of a) k slots.null ≡ slot a k) (sym e) (slot-place a i slots.null lt))
     (λ i lt. c.2 (0 + i) ∙ and-true _ _ (there-at f fs (layout_type a) (slot a) 0 (len a) i lt h))

@@ -69,9 +69,9 @@ and-false false c e = refl
 no-record : (name : List ℕ) (t : TypeTree) (s : Slot) → is_record t ≡ false → is_true_in name (t, s) ≡ false
 no-record name t (slots.record_of ss) e = ap (λ q. q && is_field_true name (fields_of t) ss) e
 no-record name t slots.null e = refl
-no-record name t (slots.truth b) e = refl
+no-record name t (slots.boolean b) e = refl
 no-record name t (slots.number zs) e = refl
-no-record name t (slots.text bs) e = refl
+no-record name t (slots.utf8 bs) e = refl
 no-record name t (slots.bytes bs) e = refl
 no-record name t (slots.list ss) e = refl
 no-record name t (slots.pick f u s) e = refl
@@ -221,14 +221,14 @@ true-more name a i old new w front h is pushed e so_far =
     ∙ append_assoc front (filter (is_true_in name) (take i (rows_of a))) _
     ∙ ap (λ l. front ++ l) (sym (one-more name a i true h e))
 
-pub false-more : (name : List ℕ) (a : Layout) (i : ℕ) (chosen front : List Row) → i < len a → is_true_in name (layout_type a, slot a i) ≡ false
-    → chosen ≡ front ++ filter (is_true_in name) (take i (rows_of a)) → chosen ≡ front ++ filter (is_true_in name) (take (i + 1) (rows_of a))
-false-more name a i chosen front h e so_far =
+pub false-more : (name : List ℕ) (a : Layout) (i : ℕ) (selected front : List Row) → i < len a → is_true_in name (layout_type a, slot a i) ≡ false
+    → selected ≡ front ++ filter (is_true_in name) (take i (rows_of a)) → selected ≡ front ++ filter (is_true_in name) (take (i + 1) (rows_of a))
+false-more name a i selected front h e so_far =
     so_far ∙ ap (λ l. front ++ l) (sym (one-more name a i false h e ∙ append-nil _))
 
-pub all-true : (name : List ℕ) (a : Layout) (i : ℕ) (chosen front : List Row) → len a ≤ i
-    → chosen ≡ front ++ filter (is_true_in name) (take i (rows_of a)) → chosen ≡ front ++ filter (is_true_in name) (rows_of a)
-all-true name a i chosen front h so_far =
+pub all-true : (name : List ℕ) (a : Layout) (i : ℕ) (selected front : List Row) → len a ≤ i
+    → selected ≡ front ++ filter (is_true_in name) (take i (rows_of a)) → selected ≡ front ++ filter (is_true_in name) (rows_of a)
+all-true name a i selected front h so_far =
     let l = rows-length a in
     so_far ∙ ap (λ rs. front ++ filter (is_true_in name) rs) (take_all i (rows_of a) (omega (arith, l, h)))
 

@@ -31,7 +31,7 @@ is_record t = is_record_kind (physical_type t)
 
 -- null is not true
 abbrev pub spec_is_true : Slot → Bool
-spec_is_true (slots.truth b) = b
+spec_is_true (slots.boolean b) = b
 spec_is_true s = false
 
 -- whether the first field of a name is boolean and true

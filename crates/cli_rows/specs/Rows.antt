@@ -2,7 +2,7 @@
 use Rattle.std.specs.Prelude.{ℕ, List, map}
 use Rattle.std.specs.List.{flat_map}
 use Rattle.nest_memory.specs.TypeTree.{TypeTree}
-use Rattle.nest_memory.specs.Cut.{cut}
+use Rattle.nest_memory.specs.Sublist.{sublist}
 use Rattle.nest_model.specs.Layout.{Layout, layout_type}
 use Rattle.nest_model.specs.Meaning.{slots_of}
 use Rattle.nest_model.specs.Slot.{Slot}
@@ -20,4 +20,4 @@ rows_in w = map (λ s. (layout_type w.array, s)) (window_slots w)
 
 -- the row at each index, in the order of the indices
 abbrev pub rows_at_indices : {A : Type 0} → List A → List ℕ → List A
-rows_at_indices rows places = flat_map (λ p. cut rows p 1) places
+rows_at_indices rows places = flat_map (λ p. sublist rows p 1) places

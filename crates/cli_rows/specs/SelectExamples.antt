@@ -13,16 +13,16 @@ abbrev pub record_type : TypeTree
 record_type = types.struct (more_fields (field (codes "id") types.int64 false []) (more_fields (field (codes "ok") types.boolean true []) (more_fields (field (codes "ok") types.boolean true []) no_fields)))
 
 abbrev pub row : ℕ → Slot → Row
-row n ok = (record_type, slots.record_of (more_slots (slots.number (pos n ∷ [])) (more_slots ok (more_slots (slots.truth true) no_slots))))
+row n ok = (record_type, slots.record_of (more_slots (slots.number (pos n ∷ [])) (more_slots ok (more_slots (slots.boolean true) no_slots))))
 
 abbrev pub first : Row
-first = row 5 (slots.truth true)
+first = row 5 (slots.boolean true)
 
 abbrev pub second : Row
 second = row 6 slots.null
 
 abbrev pub third : Row
-third = row 7 (slots.truth false)
+third = row 7 (slots.boolean false)
 
 abbrev pub null_record : Row
 null_record = (record_type, slots.null)

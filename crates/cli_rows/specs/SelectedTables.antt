@@ -1,10 +1,11 @@
 -- Selected rows as a table.
-use Rattle.std.specs.Prelude.{◌≡◌, true, List, [], ◌∷◌, map, Some}
+use Rattle.std.specs.Prelude.{◌≡◌, true, List, [], ◌∷◌, ◌++◌, map, Some}
 use Rattle.std.specs.List.{AllByRecursion, flat_map}
 use Rattle.nest_memory.specs.TypeTree as types
 use Rattle.nest_memory.specs.TypeTree.{FieldTree}
 use Rattle.nest_model.specs.Slot as slots
-use Rattle.ipc.specs.Streams.{RecordBatchTree}
+use Rattle.ipc.specs.declared.batch.Batch.{Batch}
+use Rattle.ipc.specs.Streams.{RecordBatchTree, record_batch_of}
 use Rattle.cli_args.specs.Requests.{SelectionTree}
 use Rattle.cli_rows.specs.Selection.{selected_rows}
 use Rattle.cli_rows.specs.Rows.{Row, rows_of}
@@ -30,3 +31,7 @@ AreRowsOf fs rows = AllByRecursion (IsRowOf fs) rows
 -- the rows of record batches
 abbrev pub batch_rows : List FieldTree → List RecordBatchTree → List Row
 batch_rows fs bs = flat_map rows_of (map (batch_array fs) bs)
+
+-- record batches of these rows were appended
+abbrev pub AppendsRows : List FieldTree → List Batch → List Batch → List Row → Type 0
+AppendsRows fs old new rows = batch_rows fs (map record_batch_of new) ≡ batch_rows fs (map record_batch_of old) ++ rows

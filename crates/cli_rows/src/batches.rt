@@ -16,7 +16,7 @@ ghost use Rattle.cli_rows.specs.ColumnNames.{spec_selection_error};
 ghost use Rattle.cli_rows.specs.Compared.{batch_array};
 ghost use Rattle.cli_rows.specs.RequestErrors.{IsIndexError};
 ghost use Rattle.cli_rows.specs.Rows.{rows_in, rows_of};
-ghost use Rattle.cli_rows.specs.SelectedTables.{AreRowsOf, batch_rows};
+ghost use Rattle.cli_rows.specs.SelectedTables.{AppendsRows, AreRowsOf, batch_rows};
 ghost use Rattle.cli_rows.specs.Selection.{selected_rows};
 ghost use Rattle.cli_rows.specs.declared.error.CliError.TheVariants.{Memory};
 
@@ -162,7 +162,7 @@ fn push_where(
 ) -> Result<(), CliError>
     requires some { 0 < length (map field_of fields.now) }
     requires rows { AreRowsOf (map field_of fields.now) (rows_of (layout_of array.now)) }
-    ensures rows { OnOk result (batch_rows (map field_of fields.now) (map record_batch_of batches.new.items) ≡ batch_rows (map field_of fields.now) (map record_batch_of batches.old.items) ++ filter (is_true_in (string_bytes name.now)) (rows_of (layout_of array.now))) }
+    ensures rows { OnOk result (AppendsRows (map field_of fields.now) batches.old.items batches.new.items (filter (is_true_in (string_bytes name.now)) (rows_of (layout_of array.now)))) }
     ensures error { IsOkUnless result Memory }
 {
     let Some((_, column)) = boolean_column(array, name) else {

@@ -27,7 +27,7 @@ pub use error::{BatchError, CliError};
 pub use output::{read_input, write_output};
 pub use print::{request_text, table_text};
 pub use records::{record_arrays, row_array};
-pub use schema::{copy_fields, copy_schema, row_type, same_schema};
+pub use schema::{copy_fields, copy_schema, row_type};
 pub use select::{in_row_order, is_complete, skip_rows, window_difference};
 pub use table::Table;
 pub use take::take_rows;

@@ -1,5 +1,5 @@
-//! Schemas: copied, compared, and as the data type of a row.
-ghost use Rattle.std.specs.Prelude.{◌≡◌, ◌↔◌, IfOk, IsOkUnless, IsTrue, map};
+//! Schemas: copied, and as the data type of a row.
+ghost use Rattle.std.specs.Prelude.{◌≡◌, IfOk, IsOkUnless, map};
 ghost use Rattle.nest_memory.specs.TypeOf.{entries_of, field_of, type_of};
 ghost use Rattle.ipc_schema.specs.Schemas.{schema_of};
 ghost use Rattle.cli_rows.specs.Records.{record_type};
@@ -70,26 +70,4 @@ pub fn copy_schema(alloc: Global, schema: &Schema) -> Result<Schema, CliError>
             }
         },
     }
-}
-
-fn same_fields(a: &[Field], b: &[Field]) -> bool
-    ensures { IsTrue result ↔ (map field_of a.now ≡ map field_of b.now) }
-{
-    a == b
-}
-
-fn same_metadata(a: &Metadata, b: &Metadata) -> bool
-    ensures { IsTrue result ↔ (entries_of a.now.entries ≡ entries_of b.now.entries) }
-{
-    *a == *b
-}
-
-/// Returns whether two schemas are equal, custom metadata included.
-pub fn same_schema(a: &Schema, b: &Schema) -> bool
-    ensures { IsTrue result ↔ (schema_of a.now ≡ schema_of b.now) }
-{
-    if !same_fields(&a.fields, &b.fields) {
-        return false;
-    }
-    same_metadata(&a.metadata, &b.metadata)
 }

@@ -19,7 +19,7 @@ abbrev pub ok_type : TypeTree
 ok_type = record_type (ok_field ∷ [])
 
 abbrev pub ok_slot : Bool → Slot
-ok_slot b = slots.record_of (more_slots (slots.truth b) no_slots)
+ok_slot b = slots.record_of (more_slots (slots.boolean b) no_slots)
 
 row-is : (line : List ℕ) (b : Bool) → IsBooleanLine line b → line_row ok_type line ≡ Ok (ok_slot b)
 row-is line true h = ap (value_row ok_type) h
@@ -39,7 +39,7 @@ pub held-so : (x y : List ℕ) (a b : Bool) (h : TableTree) → IsBooleanLine x 
 held-so x y a b h hx hy is = is.held ∙ ap (λ r. records_of ok_type (slots-in r)) (sym is.read ∙ rows-are x y a b hx hy)
 
 abbrev truth-in : Slot → Bool
-truth-in (slots.record_of (more_slots (slots.truth b) ss)) = b
+truth-in (slots.record_of (more_slots (slots.boolean b) ss)) = b
 truth-in _ = false
 
 abbrev pub first-truth : List Row → Bool

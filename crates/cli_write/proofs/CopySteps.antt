@@ -197,12 +197,12 @@ module _ {W : Type 0} (contents : W → Option (List ℕ)) where
     more fs later (Some t) (Some u) None b old new same next wrote left p = absurd next
     more fs later (Some t) (Some u) (Some v) b old new same next wrote left p =
         let out = wrote form start s (front ++ p.went) p.put in
-        let chosen : AreSelectedBatches (remaining_selection c (length (batch_rows s.fields p.came))) s.fields (b ∷ []) out.0 = subst (λ (x : SelectionTree). AreSelectedBatches x s.fields (b ∷ []) out.0) p.rest (subst (λ (gs : List FieldTree). AreSelectedBatches now gs (b ∷ []) out.0) same out.1) in
+        let selected : AreSelectedBatches (remaining_selection c (length (batch_rows s.fields p.came))) s.fields (b ∷ []) out.0 = subst (λ (x : SelectionTree). AreSelectedBatches x s.fields (b ∷ []) out.0) p.rest (subst (λ (gs : List FieldTree). AreSelectedBatches now gs (b ∷ []) out.0) same out.1) in
         record {
           came = p.came ++ b ∷ [];
           went = p.went ++ out.0;
           at = behind-more t u v k p.came b p.at next;
-          are = copied-more c s.fields p.came p.went (b ∷ []) out.0 p.in_order p.are chosen;
+          are = copied-more c s.fields p.came p.went (b ∷ []) out.0 p.in_order p.are selected;
           rest = left ∙ ap (λ (gs : List FieldTree). remaining_selection now (length (batch_rows gs (b ∷ [])))) same ∙ rest-more c s p.came b now p.rest;
           in_order = p.in_order;
           has_column = p.has_column;
@@ -236,8 +236,8 @@ module _ {W : Type 0} (contents : W → Option (List ℕ)) where
             batch-stops error c form front s p.came b (length (batch_rows s.fields p.came)) p.in_order (subst (λ (x : SelectionTree). IsBatchSelectionError error x s.fields (b ∷ [])) p.rest (subst (λ (gs : List FieldTree). IsBatchSelectionError error now gs (b ∷ [])) same fails))
         by (inr fails) =
             let out = fails form start s (front ++ p.went) p.put in
-            let chosen : AreSelectedBatches (remaining_selection c (length (batch_rows s.fields p.came))) s.fields (b ∷ []) out.0 = subst (λ (x : SelectionTree). AreSelectedBatches x s.fields (b ∷ []) out.0) p.rest (subst (λ (gs : List FieldTree). AreSelectedBatches now gs (b ∷ []) out.0) same out.1) in
-            part-stops error c form front s (p.came ++ b ∷ []) (p.went ++ out.0) (is-copy c s (p.came ++ b ∷ []) (p.went ++ out.0) p.has_column (copied-more c s.fields p.came p.went (b ∷ []) out.0 p.in_order p.are chosen)) (subst (λ (bs : List RecordBatchTree). FailsBatches error form s bs) (append_assoc front p.went out.0) out.2)
+            let selected : AreSelectedBatches (remaining_selection c (length (batch_rows s.fields p.came))) s.fields (b ∷ []) out.0 = subst (λ (x : SelectionTree). AreSelectedBatches x s.fields (b ∷ []) out.0) p.rest (subst (λ (gs : List FieldTree). AreSelectedBatches now gs (b ∷ []) out.0) same out.1) in
+            part-stops error c form front s (p.came ++ b ∷ []) (p.went ++ out.0) (is-copy c s (p.came ++ b ∷ []) (p.went ++ out.0) p.has_column (copied-more c s.fields p.came p.went (b ∷ []) out.0 p.in_order p.are selected)) (subst (λ (bs : List RecordBatchTree). FailsBatches error form s bs) (append_assoc front p.went out.0) out.2)
 
   pub finished : (form : forms.Format) (c : SelectionTree) (s : SchemaModel) (t : Option Remaining) (start end : W) (k : ℕ) (writer : BatchWriter W)
       → ((form : forms.Format) (start : W) (s : SchemaModel) (went : List RecordBatchTree) → HasWritten contents form start s went writer → WritesTableBatches form s went (contents start) (contents end)) → CopyEnd contents form c s t start [] k writer

@@ -3,7 +3,7 @@ use Rattle.std.proofs.Common.{Ok, append-nil, ◌≡◌, ℕ, zero, suc, ◌+◌
 use Rattle.std.specs.List.{filter, flat_map, slice_get}
 use Rattle.std.specs.Prelude.{◌==◌, Bool, map, take, drop, if◌then◌else◌}
 use Rattle.std.proofs.lemmas.List.Elements.{filter-append}
-use Rattle.nest_memory.specs.Cut.{cut}
+use Rattle.nest_memory.specs.Sublist.{sublist}
 use Rattle.nest_memory.specs.TypeTree.{FieldTree, field_type}
 use Rattle.nest_model.specs.Layout.{Layout}
 use Rattle.nest_model.specs.Meaning.{first_len, len}
@@ -41,7 +41,7 @@ take-two zero xs ys = let e : 0 ≡ 0 - length xs = omega arith in ap (λ k. tak
 take-two (suc n) [] ys = let e : suc n ≡ suc n - 0 = omega arith in ap (λ k. take k ys) e
 take-two (suc n) (x ∷ xs) ys = let e : n - length xs ≡ suc n - length (x ∷ xs) = omega arith in ap (λ zs. x ∷ zs) (take-two n xs ys ∙ ap (λ k. take n xs ++ take k ys) e)
 
-cut-two : {X : Type 0} (xs ys : List X) (o n : ℕ) → cut (xs ++ ys) o n ≡ cut xs o n ++ cut ys (o - length xs) (n - (length xs - o))
+cut-two : {X : Type 0} (xs ys : List X) (o n : ℕ) → sublist (xs ++ ys) o n ≡ sublist xs o n ++ sublist ys (o - length xs) (n - (length xs - o))
 cut-two xs ys o n =
     ap (λ zs. take n zs) (drop-both o xs ys)
     ∙ take-two n (drop o xs) (drop (o - length xs) ys)
@@ -99,9 +99,9 @@ pub copied-more : (c : SelectionTree) (fs : List FieldTree) (bs vs more ws : Lis
 copied-more all fs bs vs more ws h e f = λ i. e i ++ f i
 copied-more (slice o n) fs bs vs more ws h e f =
     let k = length (batch_rows fs bs) in
-    let x : cut (batch_rows fs bs) o n ≡ batch_rows fs vs = some-is (cut (batch_rows fs bs) o n) (batch_rows fs vs) e in
-    let y : cut (batch_rows fs more) (o - k) (n - (k - o)) ≡ batch_rows fs ws = some-is (cut (batch_rows fs more) (o - k) (n - (k - o))) (batch_rows fs ws) f in
-    ap (λ rs. Some (cut rs o n)) (rows-both fs bs more)
+    let x : sublist (batch_rows fs bs) o n ≡ batch_rows fs vs = some-is (sublist (batch_rows fs bs) o n) (batch_rows fs vs) e in
+    let y : sublist (batch_rows fs more) (o - k) (n - (k - o)) ≡ batch_rows fs ws = some-is (sublist (batch_rows fs more) (o - k) (n - (k - o))) (batch_rows fs ws) f in
+    ap (λ rs. Some (sublist rs o n)) (rows-both fs bs more)
     ∙ ap Some (cut-two (batch_rows fs bs) (batch_rows fs more) o n ∙ (λ i. x i ++ y i) ∙ sym (rows-both fs vs ws))
 copied-more (where_true name) fs bs vs more ws h e f =
     let x : filter (is_true_in name) (batch_rows fs bs) ≡ batch_rows fs vs = some-is (filter (is_true_in name) (batch_rows fs bs)) (batch_rows fs vs) e in

@@ -76,7 +76,7 @@ no-line (b ∷ bs) h = by (lines_of (b ∷ bs)) (line-there b bs) h
 pub some-lines : (text : List ℕ) (limit used count : ℕ) → AreFirstLines text limit used count → 0 < limit → text ≢ [] → 0 < count
 some-lines text limit used (suc count) h some there = omega arith
 some-lines text limit used zero h some there =
-    let all : used ≡ length text = h.whole (omega (arith, some)) in
+    let all : used ≡ length text = h.complete (omega (arith, some)) in
     let whole : take used text ≡ text = take_all used text (omega (arith, all)) in
     absurd (there (no-line text (ap (λ (t : List ℕ). length (lines_of t)) (sym whole) ∙ h.counted)))
 

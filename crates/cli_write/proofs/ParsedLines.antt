@@ -24,9 +24,9 @@ use Rattle.nest_model.specs.Slot.{Slot}
 
 there-true : (s : Slot) → s ≢ slots.null → is_valid s ≡ true
 there-true slots.null h = absurd (h refl)
-there-true (slots.truth b) h = refl
+there-true (slots.boolean b) h = refl
 there-true (slots.number zs) h = refl
-there-true (slots.text t) h = refl
+there-true (slots.utf8 t) h = refl
 there-true (slots.bytes b) h = refl
 there-true (slots.list ss) h = refl
 there-true (slots.record_of ss) h = refl

@@ -1,9 +1,11 @@
 -- Inputs concatenated.
 use Rattle.std.specs.Prelude.{◌≡◌, ◌++◌, ℕ, List, [], Option, Some, None, Ok}
+use Rattle.std.specs.Io.KnownBytes.{Appends}
 use Rattle.ipc.specs.Streams.{RecordBatchTree}
 use Rattle.ipc_schema.specs.Schemas.{SchemaModel}
 use Rattle.cli_read.specs.Decoded.{Decoded}
 use Rattle.cli_read.specs.Remaining.{Remaining}
+use Rattle.cli_rows.specs.Concatenated.{DecodedTables, EncodesConcatenation}
 use Rattle.cli_rows.specs.Output.{HasTable}
 use Rattle.cli_args.specs.Requests.{all}
 use Rattle.cli_args.specs.declared.format.Format as forms
@@ -53,3 +55,7 @@ module _ {W : Type 0} (contents : W → Option (List ℕ)) where
   -- or this is why not
   abbrev pub FailsToAppend : Option Decoded → BatchWriter W → AppendError → Type 0
   FailsToAppend x old e = (form : forms.Format) (start : W) (s : SchemaModel) (went : List RecordBatchTree) → HasWritten contents form start s went old → IsAppendError e form s went x
+
+-- bytes were written that decode to the concatenation of inputs
+abbrev pub WritesConcatenation : forms.Format → DecodedTables → Option (List ℕ) → Option (List ℕ) → Type 0
+WritesConcatenation form reads old new = (bytes : List ℕ) × EncodesConcatenation form reads bytes × Appends old new bytes

@@ -14,7 +14,7 @@ use crate::copier::{Progress, copy_all};
 use crate::writer::{BatchWriter, begin_writer};
 use cli_args::{Format, Selection};
 use cli_read::{BatchReader, Input, open};
-use cli_rows::{BatchError, row_type, same_schema};
+use cli_rows::{BatchError, row_type};
 use ipc_io::SeekRead;
 use ipc_schema::Projection;
 use nest_memory::datatypes::DataType;
@@ -143,7 +143,7 @@ fn append_reader<R: SeekRead + Drop, W: Write + Drop, P: Progress>(
     ensures same { IfErr result (λ e. IsBeforeBatches e → writer.new ≡ writer.old) }
     ensures error { IfErr result (FailsToAppend W.contents (decoded_reader R.remaining R.stream_position R.stream_bytes reader) writer.old) }
 {
-    if !same_schema(writer.schema(), reader.schema()) {
+    if writer.schema() != reader.schema() {
         drop(reader);
         return Err(AppendError::Schema);
     }

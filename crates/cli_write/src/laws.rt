@@ -1,6 +1,4 @@
 //! Examples and laws of written outputs. Each function's contract is an example or a law, and its body is empty.
-ghost use Rattle.std.specs.Io.KnownBytes.{Appends};
-ghost use Rattle.std.specs.List.{AllByRecursion, flat_map};
 ghost use Rattle.std.specs.Prelude.{◌≡◌, ◌++◌, ℕ, List, [], ◌∷◌, true, false, None, Ok, Option, Some, codes, map};
 ghost use Rattle.ipc_flatbuf.specs.declared.error.IpcReadError.TheVariants.{Truncated};
 ghost use Rattle.ipc_schema.specs.Schemas.{SchemaModel};
@@ -10,12 +8,12 @@ ghost use Rattle.json_read.specs.declared.error.LineError.TheVariants.{InvalidJs
 ghost use Rattle.json_read.specs.declared.error.UnsupportedTypeError.TheVariants.{FloatingPoint};
 ghost use Rattle.cli_args.specs.Requests.{all, slice, where_true};
 ghost use Rattle.cli_args.specs.declared.format.Format.TheVariants.{Stream};
-ghost use Rattle.cli_rows.specs.Concatenated.{EncodesConcatenation};
+ghost use Rattle.cli_rows.specs.Concatenated.{HaveSchema, all_batches};
 ghost use Rattle.cli_rows.specs.TableExamples.{boolean_table, columnless_table, ok_field, three_booleans};
 ghost use Rattle.cli_rows.specs.Tables.{TableTree};
 ghost use Rattle.cli_rows.specs.declared.error.CliError.TheVariants.{Read, UnknownColumn};
 ghost use Rattle.cli_read.specs.InputExamples.{broken_input, complete_input};
-ghost use Rattle.cli_write.specs.Concat.{IsAppendError};
+ghost use Rattle.cli_write.specs.Concat.{IsAppendError, WritesConcatenation};
 ghost use Rattle.cli_write.specs.Copies.{FailsAt, IsCopy, IsSufficient};
 ghost use Rattle.cli_write.specs.Imports.{HasRows, IsImportError, WritesLines};
 ghost use Rattle.cli_write.specs.LineExamples.{IsBooleanLine, float_field};
@@ -66,7 +64,7 @@ pub fn inputs_are_appended()
 
 /// The record batches of inputs of one schema, written one after another, decode to the concatenation of the inputs.
 pub fn written_batches_are_concatenated(form: Format)
-    ensures { (s : SchemaModel) (parts : List TableTree) (old new : Option (List ℕ)) → AllByRecursion (λ h. h.schema ≡ s) parts → WritesTableBatches form s (flat_map (λ h. h.batches) parts) old new → (bytes : List ℕ) × EncodesConcatenation form (map Ok parts) bytes × Appends old new bytes }
+    ensures { (s : SchemaModel) (parts : List TableTree) (old new : Option (List ℕ)) → HaveSchema s parts → WritesTableBatches form s (all_batches parts) old new → WritesConcatenation form (map Ok parts) old new }
 {}
 
 /// Lines `{"ok":true}` and `{"ok":false}` are these rows in their order, in any record batches. Neither in another order, nor fewer rows,

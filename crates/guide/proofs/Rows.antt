@@ -5,7 +5,7 @@ use Rattle.nest_array.specs.Seen.{layout_of}
 use Rattle.nest_array.specs.declared.any.AnyArray.{AnyArray}
 use Rattle.nest_memory.specs.declared.error.Error.{Error}
 use Rattle.nest_model.specs.Accessors.{validity_of}
-use Rattle.nest_model.specs.Layout.{Layout, null, boolean, primitive, binary, text, fixed_size_binary, fixed_size_list, list, map, struct, union, dictionary}
+use Rattle.nest_model.specs.Layout.{Layout, null, boolean, primitive, binary, utf8, fixed_size_binary, fixed_size_list, list, map, struct, union, dictionary}
 use Rattle.nest_model.specs.Meaning.{len, run, slot, slots_of, where_valid}
 use Rattle.nest_model.specs.Nullness.{is_null_at}
 use Rattle.nest_model.specs.NullnessLaws.{null_at-slot}
@@ -14,7 +14,7 @@ use Rattle.nest_model.specs.Reads.{slots-length}
 use Rattle.nest_model.specs.Slot as slots
 use Rattle.nest_model.specs.Slot.{Slot, Slots, seal}
 use Rattle.nest_scan.specs.Items.{IsList}
-use Rattle.nest_scan.specs.Places.{IsItemOrMemory, IsItemOrNull}
+use Rattle.nest_scan.specs.Elements.{IsItemOrMemory, IsItemOrNull}
 use Rattle.guide.specs.Columns.{item_count, max_list_length}
 
 not_false : (b : Bool) → not b ≡ false → b ≡ true
@@ -26,7 +26,7 @@ valid (null t n) i h = absurd cc
 valid (boolean t bs va) i h = not_false (valid_at va i) h
 valid (primitive k t vs va) i h = not_false (valid_at va i) h
 valid (binary l t os bs va) i h = not_false (valid_at va i) h
-valid (text l t os bs va) i h = not_false (valid_at va i) h
+valid (utf8 l t os bs va) i h = not_false (valid_at va i) h
 valid (fixed_size_binary t bs va) i h = not_false (valid_at va i) h
 valid (fixed_size_list t c va) i h = not_false (valid_at va i) h
 valid (list l t os c va) i h = not_false (valid_at va i) h

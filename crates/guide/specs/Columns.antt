@@ -1,6 +1,6 @@
 -- The arrays of the guide, slot by slot.
 use Rattle.std.specs.Prelude.{◌≡◌, ◌-◌, ℕ, suc, ℤ, pos, ◌+ℤ◌, max, true, false, None, Some, List, [], ◌∷◌, codes}
-use Rattle.nest_memory.specs.Cut.{cut}
+use Rattle.nest_memory.specs.Sublist.{sublist}
 use Rattle.nest_memory.specs.TypeTree as types
 use Rattle.nest_memory.specs.TypeTree.{TypeTree, FieldTrees, field, more_fields, no_fields}
 use Rattle.nest_memory.specs.declared.datatypes.physical_type.PrimitiveType.TheVariants as primitives
@@ -35,15 +35,15 @@ three_numbers = number 1 ∷ slots.null ∷ number 3 ∷ []
 
 -- true, null, false, true
 abbrev pub four_booleans : List Slot
-four_booleans = slots.truth true ∷ slots.null ∷ slots.truth false ∷ slots.truth true ∷ []
+four_booleans = slots.boolean true ∷ slots.null ∷ slots.boolean false ∷ slots.boolean true ∷ []
 
 -- "ab", "", null, "c"
 abbrev pub four_strings : List Slot
-four_strings = slots.text (97 ∷ 98 ∷ []) ∷ slots.text [] ∷ slots.null ∷ slots.text (99 ∷ []) ∷ []
+four_strings = slots.utf8 (97 ∷ 98 ∷ []) ∷ slots.utf8 [] ∷ slots.null ∷ slots.utf8 (99 ∷ []) ∷ []
 
 -- its layout
 abbrev pub strings_layout : Layout
-strings_layout = layouts.text false types.utf8 (0 ∷ 2 ∷ 2 ∷ 2 ∷ 3 ∷ []) (97 ∷ 98 ∷ 99 ∷ []) (Some (true ∷ true ∷ false ∷ true ∷ []))
+strings_layout = layouts.utf8 false types.utf8 (0 ∷ 2 ∷ 2 ∷ 2 ∷ 3 ∷ []) (97 ∷ 98 ∷ 99 ∷ []) (Some (true ∷ true ∷ false ∷ true ∷ []))
 
 -- the bytes 1 2, the byte 3
 abbrev pub two_binaries : List Slot
@@ -67,11 +67,11 @@ two_pairs = list_slot (number 1 ∷ slots.null ∷ []) ∷ list_slot (number 3 �
 
 -- {1, "ab"}
 abbrev pub first_struct : Slot
-first_struct = struct_slot (number 1 ∷ slots.text (97 ∷ 98 ∷ []) ∷ [])
+first_struct = struct_slot (number 1 ∷ slots.utf8 (97 ∷ 98 ∷ []) ∷ [])
 
 -- {null, ""}
 abbrev pub second_struct : Slot
-second_struct = struct_slot (slots.null ∷ slots.text [] ∷ [])
+second_struct = struct_slot (slots.null ∷ slots.utf8 [] ∷ [])
 
 -- {3, null}
 abbrev pub third_struct : Slot
@@ -79,7 +79,7 @@ third_struct = struct_slot (number 3 ∷ slots.null ∷ [])
 
 -- {4, "c"}
 abbrev pub fourth_struct : Slot
-fourth_struct = struct_slot (number 4 ∷ slots.text (99 ∷ []) ∷ [])
+fourth_struct = struct_slot (number 4 ∷ slots.utf8 (99 ∷ []) ∷ [])
 
 abbrev pub four_structs : List Slot
 four_structs = first_struct ∷ second_struct ∷ third_struct ∷ fourth_struct ∷ []
@@ -111,11 +111,11 @@ two_maps = list_slot (first_struct ∷ second_struct ∷ []) ∷ list_slot (thir
 
 -- the number 1, the string "", a null string, the number 4
 abbrev pub four_union_values : List Slot
-four_union_values = slots.pick 0 types.int64 (number 1) ∷ slots.pick 1 types.utf8 (slots.text []) ∷ slots.pick 1 types.utf8 slots.null ∷ slots.pick 0 types.int64 (number 4) ∷ []
+four_union_values = slots.pick 0 types.int64 (number 1) ∷ slots.pick 1 types.utf8 (slots.utf8 []) ∷ slots.pick 1 types.utf8 slots.null ∷ slots.pick 0 types.int64 (number 4) ∷ []
 
 -- "c", null, "ab", "c"
 abbrev pub four_dictionary_values : List Slot
-four_dictionary_values = slots.text (99 ∷ []) ∷ slots.null ∷ slots.text (97 ∷ 98 ∷ []) ∷ slots.text (99 ∷ []) ∷ []
+four_dictionary_values = slots.utf8 (99 ∷ []) ∷ slots.null ∷ slots.utf8 (97 ∷ 98 ∷ []) ∷ slots.utf8 (99 ∷ []) ∷ []
 
 -- [1, 2], null, [], [3, null]
 abbrev pub four_lists : List Slot
@@ -127,11 +127,11 @@ last_two_lists = list_slot [] ∷ list_slot (number 3 ∷ slots.null ∷ []) ∷
 
 -- true, null
 abbrev pub pushed_booleans : List Slot
-pushed_booleans = slots.truth true ∷ slots.null ∷ []
+pushed_booleans = slots.boolean true ∷ slots.null ∷ []
 
 -- "ab", null
 abbrev pub pushed_strings : List Slot
-pushed_strings = slots.text (97 ∷ 98 ∷ []) ∷ slots.null ∷ []
+pushed_strings = slots.utf8 (97 ∷ 98 ∷ []) ∷ slots.null ∷ []
 
 -- "ab", null, as bytes
 abbrev pub pushed_binaries : List Slot
@@ -147,11 +147,11 @@ three_pairs = three_lists
 
 -- "ab", "c", null, "ab"
 abbrev pub pushed_dictionary_values : List Slot
-pushed_dictionary_values = slots.text (97 ∷ 98 ∷ []) ∷ slots.text (99 ∷ []) ∷ slots.null ∷ slots.text (97 ∷ 98 ∷ []) ∷ []
+pushed_dictionary_values = slots.utf8 (97 ∷ 98 ∷ []) ∷ slots.utf8 (99 ∷ []) ∷ slots.null ∷ slots.utf8 (97 ∷ 98 ∷ []) ∷ []
 
 -- an array ends with the slots of another of its data type
 abbrev pub EndsWith : Layout → Layout → Type 0
-EndsWith column tail = (layout_type column ≡ layout_type tail) × (cut (slots_of column) (len column - len tail) (len tail) ≡ slots_of tail)
+EndsWith column tail = (layout_type column ≡ layout_type tail) × (sublist (slots_of column) (len column - len tail) (len tail) ≡ slots_of tail)
 
 -- the sum of the slots that are numbers
 abbrev pub total : List Slot → ℤ

@@ -37,7 +37,7 @@ two_paid = number 7 ∷ slots.null ∷ []
 
 -- the columns of an order with this name, and of a row of nulls
 abbrev pub two_orders : List ℕ → List (List Slot)
-two_orders name = (slots.text name ∷ slots.null ∷ []) ∷ two_counts ∷ two_paid ∷ []
+two_orders name = (slots.utf8 name ∷ slots.null ∷ []) ∷ two_counts ∷ two_paid ∷ []
 
 -- columns are equal one by one: equal data types and equal slots
 abbrev pub AreSame : List Layout → List Layout → Type 0

@@ -11,7 +11,7 @@ use Rattle.nest_memory.specs.declared.datatypes.physical_type.PrimitiveType.TheV
 use Rattle.nest_model.specs.BuilderItem.{holds_kind, slot_of_plain}
 use Rattle.nest_model.specs.BuilderTree as builders
 use Rattle.nest_model.specs.BuilderTree.{BuilderTree, BuilderTrees, more_builders, no_builders}
-use Rattle.nest_model.specs.BuilderWhole.{IsWhole}
+use Rattle.nest_model.specs.BuilderComplete.{IsComplete}
 use Rattle.nest_model.specs.Slot as slots
 use Rattle.nest_model.specs.Slot.{Slot}
 
@@ -40,7 +40,7 @@ ages_in b = []
 
 -- a complete builder of people
 abbrev pub ArePeople : BuilderTree → Type 0
-ArePeople b = IsWhole b × (b ≡ people (struct_bits b) (names_in b) (ages_in b))
+ArePeople b = IsComplete b × (b ≡ people (struct_bits b) (names_in b) (ages_in b))
 
 -- the two cells of a row, each a value of any kind or missing
 abbrev pub Cells : Type 0

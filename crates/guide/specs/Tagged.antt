@@ -36,11 +36,11 @@ tagged_list_type = types.list (field (codes "item") (types.struct tagged_fields)
 
 -- [{3, "ab"}, {4, "c"}]
 abbrev pub last_tagged_list : Slot
-last_tagged_list = list_slot (struct_slot (number 3 ∷ slots.text (97 ∷ 98 ∷ []) ∷ []) ∷ struct_slot (number 4 ∷ slots.text (99 ∷ []) ∷ []) ∷ [])
+last_tagged_list = list_slot (struct_slot (number 3 ∷ slots.utf8 (97 ∷ 98 ∷ []) ∷ []) ∷ struct_slot (number 4 ∷ slots.utf8 (99 ∷ []) ∷ []) ∷ [])
 
 -- [{1, "c"}, {null, null}], and that list
 abbrev pub two_tagged_lists : List Slot
-two_tagged_lists = list_slot (struct_slot (number 1 ∷ slots.text (99 ∷ []) ∷ []) ∷ struct_slot (slots.null ∷ slots.null ∷ []) ∷ []) ∷ last_tagged_list ∷ []
+two_tagged_lists = list_slot (struct_slot (number 1 ∷ slots.utf8 (99 ∷ []) ∷ []) ∷ struct_slot (slots.null ∷ slots.null ∷ []) ∷ []) ∷ last_tagged_list ∷ []
 
 -- their layout
 abbrev pub tagged_lists_layout : Layout

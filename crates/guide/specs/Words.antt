@@ -13,14 +13,14 @@ pub use Rattle.nest_array.specs.ScalarParts.{scalar_parts}
 pub use Rattle.nest_array.specs.Seen.{layout_of, layouts_of}
 pub use Rattle.nest_array.specs.WindowParts.{window_slots}
 pub use Rattle.nest_flat.specs.FlatParts.{optional}
-pub use Rattle.nest_memory.specs.Cut.{cut}
+pub use Rattle.nest_memory.specs.Sublist.{sublist}
 pub use Rattle.nest_memory.specs.Rising.{to_nat}
 pub use Rattle.nest_memory.specs.TypeOf.{field_list_of, type_of}
 pub use Rattle.nest_memory.specs.TypeText.{text_of_type}
 pub use Rattle.nest_memory.specs.declared.error.Error.TheVariants.{Memory}
 pub use Rattle.nest_model.specs.Accessors.{validity_of, with_validity}
-pub use Rattle.nest_model.specs.Chosen.{chosen, mask_places}
-pub use Rattle.nest_model.specs.Fits.{ValidityFault}
+pub use Rattle.nest_model.specs.Selected.{selected, mask_indices}
+pub use Rattle.nest_model.specs.Fits.{ValidityError}
 pub use Rattle.nest_model.specs.Layout.{layout_type}
 pub use Rattle.nest_model.specs.Meaning.{len, slot, slots_of, where_valid}
 pub use Rattle.nest_model.specs.SameArray.{IsSameArray}

@@ -1,7 +1,7 @@
 //! `take` and `filter`.
 ghost use Rattle.std.specs.Prelude.{◌≡◌, ◌↔◌, IsTrue, IfOk};
-ghost use Rattle.nest_take.specs.Places.{AreBelow};
-ghost use Rattle.guide.specs.Words.{chosen, layout_of, layout_type, len, mask_places, slots_of};
+ghost use Rattle.nest_take.specs.Indices.{AreBelow};
+ghost use Rattle.guide.specs.Words.{selected, layout_of, layout_type, len, mask_indices, slots_of};
 
 use std::alloc::Global;
 use tiekvorn::compute::{filter, take};
@@ -18,7 +18,7 @@ pub fn are_in_bounds(indices: &[usize], len: usize) -> bool
 /// Returns the slots at `indices`, in that order. An index may occur more than once.
 pub fn take_rows(alloc: Global, column: &AnyArray, indices: &[usize]) -> Result<AnyArray, Error>
     requires { AreBelow indices.now (len (layout_of column.now)) }
-    ensures slots { IfOk result (λ a. slots_of (layout_of a) ≡ chosen (slots_of (layout_of column.now)) indices.now) }
+    ensures slots { IfOk result (λ a. slots_of (layout_of a) ≡ selected (slots_of (layout_of column.now)) indices.now) }
     ensures same_type { IfOk result (λ a. layout_type (layout_of a) ≡ layout_type (layout_of column.now)) }
 {
     take(alloc, column, indices)
@@ -27,7 +27,7 @@ pub fn take_rows(alloc: Global, column: &AnyArray, indices: &[usize]) -> Result<
 /// Returns the slots where `mask` is true. A null in the mask selects nothing.
 pub fn filter_rows(alloc: Global, column: &AnyArray, mask: &BooleanArray) -> Result<AnyArray, Error>
     requires { len mask.now ≡ len (layout_of column.now) }
-    ensures { IfOk result (λ a. slots_of (layout_of a) ≡ chosen (slots_of (layout_of column.now)) (mask_places (slots_of mask.now))) }
+    ensures { IfOk result (λ a. slots_of (layout_of a) ≡ selected (slots_of (layout_of column.now)) (mask_indices (slots_of mask.now))) }
 {
     filter(alloc, column, mask)
 }

@@ -1,6 +1,6 @@
 //! Slices and new validity bitmaps, on the buffers that are there.
 ghost use Rattle.std.specs.Prelude.{◌≡◌, ◌+◌, ◌≤◌, IfOk, IfErr, IsOkUnless, alloc_error};
-ghost use Rattle.guide.specs.Words.{Memory, ValidityFault, cut, layout_of, layout_type, len, slots_of, with_validity};
+ghost use Rattle.guide.specs.Words.{Memory, ValidityError, sublist, layout_of, layout_type, len, slots_of, with_validity};
 
 use std::alloc::Global;
 use tiekvorn::error::Error;
@@ -9,7 +9,7 @@ use tiekvorn::{AnyArray, Array, Bitmap, ListArray};
 /// Slices an array by value: `count` slots from `start` on.
 pub fn sliced_column(column: AnyArray, start: usize, count: usize) -> AnyArray
     requires { start + count ≤ len (layout_of column) }
-    ensures slots { slots_of (layout_of result) ≡ cut (slots_of (layout_of column)) start count }
+    ensures slots { slots_of (layout_of result) ≡ sublist (slots_of (layout_of column)) start count }
     ensures same_type { layout_type (layout_of result) ≡ layout_type (layout_of column) }
 {
     column.sliced(start, count)
@@ -18,7 +18,7 @@ pub fn sliced_column(column: AnyArray, start: usize, count: usize) -> AnyArray
 /// Slices an array in place.
 pub fn slice_in_place(column: &mut AnyArray, start: usize, count: usize)
     requires { start + count ≤ len (layout_of column.old) }
-    ensures { slots_of (layout_of column.new) ≡ cut (slots_of (layout_of column.old)) start count }
+    ensures { slots_of (layout_of column.new) ≡ sublist (slots_of (layout_of column.old)) start count }
 {
     column.slice(start, count);
 }
@@ -31,7 +31,7 @@ pub fn new_slice(
     count: usize,
 ) -> Result<AnyArray, Error>
     requires { start + count ≤ len lists.now }
-    ensures rows { IfOk result (λ a. slots_of (layout_of a) ≡ cut (slots_of lists.now) start count) }
+    ensures rows { IfOk result (λ a. slots_of (layout_of a) ≡ sublist (slots_of lists.now) start count) }
     ensures memory { IsOkUnless result (Memory alloc_error) }
 {
     Array::sliced(lists, alloc, start, count)
@@ -39,7 +39,7 @@ pub fn new_slice(
 
 /// Sets the validity bitmap of an array of any kind. An `Err` leaves the array as it was.
 pub fn replace_validity(column: &mut AnyArray, validity: Option<Bitmap>) -> Result<(), Error>
-    ensures refused { IfErr result (λ e. ValidityFault e (layout_of column.old) validity × (layout_of column.new ≡ layout_of column.old)) }
+    ensures refused { IfErr result (λ e. ValidityError e (layout_of column.old) validity × (layout_of column.new ≡ layout_of column.old)) }
     ensures set { IfOk result (λ _. layout_of column.new ≡ with_validity (layout_of column.old) validity) }
 {
     column.set_validity(validity)

@@ -12,7 +12,7 @@ use tiekvorn::{
 /// Returns the string at `i`, or `None` where it is null.
 pub fn string_at(strings: &Utf8Array<i32>, i: usize) -> Option<&str>
     requires { i < len strings.now }
-    ensures { optional (λ x. slots.text x.now) result ≡ slot strings.now i }
+    ensures { optional (λ x. slots.utf8 x.now) result ≡ slot strings.now i }
 {
     strings.get(i)
 }

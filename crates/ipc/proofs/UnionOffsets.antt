@@ -10,8 +10,8 @@ use Rattle.nest_memory.specs.declared.datatypes.physical_type.PhysicalType.TheVa
 use Rattle.nest_model.specs.Accessors.{types_of, union_offsets_of, start_of}
 use Rattle.nest_model.specs.Array.{TopFits}
 use Rattle.nest_model.specs.Fits.{child_len}
-use Rattle.nest_model.specs.Layout.{Layout, Layouts, null, boolean, primitive, binary, text, fixed_size_binary, fixed_size_list, list as list_of, map as map_of, struct, union, dictionary, no_layouts, more_layouts, layout_type, weight, weight_all}
-use Rattle.nest_model.specs.Meaning.{len, union_place}
+use Rattle.nest_model.specs.Layout.{Layout, Layouts, null, boolean, primitive, binary, utf8, fixed_size_binary, fixed_size_list, list as list_of, map as map_of, struct, union, dictionary, no_layouts, more_layouts, layout_type, weight, weight_all}
+use Rattle.nest_model.specs.Meaning.{len, union_index}
 use Rattle.nest_model.specs.Part.{field_named}
 use Rattle.nest_array.specs.Kinds.{typed}
 use Rattle.nest_array.specs.Seen.{layout_of, layouts_of}
@@ -32,7 +32,7 @@ own_or_below (null t n) b = refl
 own_or_below (boolean t bs va) b = refl
 own_or_below (primitive k t vs va) b = refl
 own_or_below (binary large t os bs va) b = refl
-own_or_below (text large t os bs va) b = refl
+own_or_below (utf8 large t os bs va) b = refl
 own_or_below (fixed_size_binary t bs va) b = refl
 own_or_below (fixed_size_list t c va) b = first_alone c (spec_children b)
 own_or_below (list_of large t os c va) b = first_alone c (spec_children b)
@@ -47,7 +47,7 @@ lighter (null t n) = omega arith
 lighter (boolean t bs va) = omega arith
 lighter (primitive k t vs va) = omega arith
 lighter (binary large t os bs va) = omega arith
-lighter (text large t os bs va) = omega arith
+lighter (utf8 large t os bs va) = omega arith
 lighter (fixed_size_binary t bs va) = omega arith
 lighter (fixed_size_list t c va) = omega arith
 lighter (list_of large t os c va) = omega arith
@@ -62,7 +62,7 @@ first_apart (null t n) b fits apart = refl
 first_apart (boolean t bs va) b fits apart = refl
 first_apart (primitive k t vs va) b fits apart = refl
 first_apart (binary large t os bs va) b fits apart = refl
-first_apart (text large t os bs va) b fits apart = refl
+first_apart (utf8 large t os bs va) b fits apart = refl
 first_apart (fixed_size_binary t bs va) b fits apart = refl
 first_apart (fixed_size_list t c va) b fits apart = refl
 first_apart (list_of large t os c va) b fits apart = refl
@@ -76,7 +76,7 @@ none_past es (null t n) fits apart = refl
 none_past es (boolean t bs va) fits apart = refl
 none_past es (primitive k t vs va) fits apart = refl
 none_past es (binary large t os bs va) fits apart = refl
-none_past es (text large t os bs va) fits apart = refl
+none_past es (utf8 large t os bs va) fits apart = refl
 none_past es (fixed_size_binary t bs va) fits apart = refl
 none_past es (fixed_size_list t c va) fits apart = refl
 none_past es (list_of large t os c va) fits apart = refl
@@ -90,7 +90,7 @@ other_apart (null t n) b fits apart = refl
 other_apart (boolean t bs va) b fits apart = refl
 other_apart (primitive k t vs va) b fits apart = refl
 other_apart (binary large t os bs va) b fits apart = refl
-other_apart (text large t os bs va) b fits apart = refl
+other_apart (utf8 large t os bs va) b fits apart = refl
 other_apart (fixed_size_binary t bs va) b fits apart = refl
 other_apart (fixed_size_list t c va) b fits apart = refl
 other_apart (list_of large t os c va) b fits apart = refl
@@ -127,10 +127,10 @@ by_test false k m told =
     lt-leb k m (omega (arith, few))
 
 -- the field and offset of a slot
-module _ (cs : Layouts) (b : Layout) (i f position n : ℕ) (field : field_named (ids_of (layout_type b)) (get_or (types_of b) i (pos 0)) ≡ Some f) (at : position ≡ union_place (union_offsets_of b) (start_of b) i) (slots : n ≡ child_len cs (Some f)) where
+module _ (cs : Layouts) (b : Layout) (i f position n : ℕ) (field : field_named (ids_of (layout_type b)) (get_or (types_of b) i (pos 0)) ≡ Some f) (at : position ≡ union_index (union_offsets_of b) (start_of b) i) (slots : n ≡ child_len cs (Some f)) where
   slot_is : offset_past cs b i ≡ leb (2 ^ 31) (n + position)
   slot_is =
-      ap (λ (o : Option ℕ). leb (2 ^ 31) (child_len cs o + union_place (union_offsets_of b) (start_of b) i)) field
+      ap (λ (o : Option ℕ). leb (2 ^ 31) (child_len cs o + union_index (union_offsets_of b) (start_of b) i)) field
       ∙ ap (λ (p : ℕ). leb (2 ^ 31) (child_len cs (Some f) + p)) (sym at)
       ∙ ap (λ (m : ℕ). leb (2 ^ 31) (m + position)) (sym slots)
 

@@ -8,7 +8,7 @@ use Rattle.nest_memory.specs.TypeTree as types
 use Rattle.nest_memory.specs.TypeTree.{TypeTree, field, no_fields, more_fields}
 use Rattle.nest_memory.specs.declared.datatypes.IntegerType.TheVariants.{Int8}
 use Rattle.nest_memory.specs.declared.datatypes.physical_type.PrimitiveType.TheVariants as primitives
-use Rattle.nest_model.specs.Layout.{Layout, primitive, text, struct, dictionary, no_layouts, more_layouts}
+use Rattle.nest_model.specs.Layout.{Layout, primitive, utf8, struct, dictionary, no_layouts, more_layouts}
 use Rattle.ipc_flatbuf.specs.declared.error.IpcReadError.TheVariants.{Delta}
 use Rattle.ipc_flatbuf.specs.Flatbuffers.{spec_offset_at, spec_back_from, spec_table_at, spec_field_position, spec_charge_budget, spec_read_table, spec_read_vector, structs_at, spec_items_at, vector_at}
 use Rattle.ipc_schema.specs.OutermostIds.{outermost_within}
@@ -30,7 +30,7 @@ texts_c = rw text_99 refl
 
 -- a, b and c
 abbrev three : StateTree
-three = record { picked = colors; known = (pos 0, text false types.utf8 (0 ∷ 1 ∷ 2 ∷ 3 ∷ []) (97 ∷ 98 ∷ 99 ∷ []) None) ∷ []; appendable = pos 0 ∷ [] }
+three = record { picked = colors; known = (pos 0, utf8 false types.utf8 (0 ∷ 1 ∷ 2 ∷ 3 ∷ []) (97 ∷ 98 ∷ 99 ∷ []) None) ∷ []; appendable = pos 0 ∷ [] }
 
 is_joined : dictionary_in false (known 97 98) joined_message ≡ Ok three
 unfolding spec_offset_at spec_back_from spec_table_at spec_field_position spec_charge_budget spec_read_table spec_read_vector structs_at spec_items_at vector_at spec_each_within spec_all_within batch_at stored_in first_counts buffer_slice first_buffer decoded_validity decoded_node decoded_buffer decoded_validity_buffer decoded_values are_offsets checked_offsets decoded_offsets decoded_data decoded_variable_size_head decoded_binary_parts decoded_utf8 outermost_within data_in dictionary_in
@@ -57,7 +57,7 @@ shelves = record {
 
 -- one word, and one record of it
 abbrev word : ℕ → Layout
-word letter = text false types.utf8 (0 ∷ 1 ∷ []) (letter ∷ []) None
+word letter = utf8 false types.utf8 (0 ∷ 1 ∷ []) (letter ∷ []) None
 
 abbrev shelf : ℕ → Layout
 shelf letter = struct record_type (more_layouts (dictionary (by_key types.utf8) (primitive primitives.Int8 types.int8 ((pos 0 ∷ []) ∷ []) None) (word letter)) no_layouts) None
@@ -86,7 +86,7 @@ over_others = refl
 
 -- a delta of words leaves the records appendable, and unchanged
 abbrev two_words : StateTree
-two_words = record { picked = shelves; known = (pos 0, shelf 97) ∷ (pos 1, text false types.utf8 (0 ∷ 1 ∷ 2 ∷ []) (97 ∷ 98 ∷ []) None) ∷ []; appendable = pos 0 ∷ pos 1 ∷ [] }
+two_words = record { picked = shelves; known = (pos 0, shelf 97) ∷ (pos 1, utf8 false types.utf8 (0 ∷ 1 ∷ 2 ∷ []) (97 ∷ 98 ∷ []) None) ∷ []; appendable = pos 0 ∷ pos 1 ∷ [] }
 
 words_behind : spec_with_values true with_both (pos 1) (word 98) ≡ Ok two_words
 words_behind = refl

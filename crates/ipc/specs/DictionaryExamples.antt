@@ -8,7 +8,7 @@ use Rattle.nest_memory.specs.TypeTree as types
 use Rattle.nest_memory.specs.TypeTree.{field}
 use Rattle.nest_memory.specs.declared.datatypes.IntegerType.TheVariants.{Int32}
 use Rattle.nest_memory.specs.declared.datatypes.physical_type.PrimitiveType.TheVariants as primitives
-use Rattle.nest_model.specs.Layout.{Layout, primitive, text, dictionary}
+use Rattle.nest_model.specs.Layout.{Layout, primitive, utf8, dictionary}
 use Rattle.ipc_flatbuf.specs.declared.error.IpcReadError.TheVariants.{MissingDictionary, UnknownDictionary, DuplicateDictionary}
 use Rattle.ipc_flatbuf.specs.declared.projection.FieldAction.TheVariants.{Read, Skip}
 use Rattle.ipc_flatbuf.specs.Flatbuffers.{spec_offset_at, spec_back_from, spec_table_at, spec_field_position, spec_charge_budget, spec_read_table, spec_read_vector, structs_at, spec_items_at, vector_at}
@@ -62,7 +62,7 @@ colors = record {
 }
 
 abbrev texts : ℕ → ℕ → Layout
-texts one other = text false types.utf8 (0 ∷ 1 ∷ 2 ∷ []) (one ∷ other ∷ []) None
+texts one other = utf8 false types.utf8 (0 ∷ 1 ∷ 2 ∷ []) (one ∷ other ∷ []) None
 
 abbrev pub known : ℕ → ℕ → StateTree
 known one other = record { picked = colors; known = (pos 0, texts one other) ∷ []; appendable = pos 0 ∷ [] }

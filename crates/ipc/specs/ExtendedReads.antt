@@ -14,8 +14,8 @@ use Rattle.ipc_flatbuf.specs.declared.batch.parts.BufferSpec.{BufferSpec}
 use Rattle.ipc_flatbuf.specs.declared.error.IpcReadError.{IpcReadError}
 use Rattle.ipc_flatbuf.specs.declared.error.IpcReadError.TheVariants.{TypeRange, BufferTooShort, NullCount, Offsets, OffsetPastChild, Utf8, MissingDictionary, KeyRange}
 use Rattle.nest_memory.specs.Bits.{bit, bits_from}
-use Rattle.nest_memory.specs.Cut.{cut}
-use Rattle.nest_memory.specs.Physical.{physical_type, primitive_tree, binary_of_width, text_of_width}
+use Rattle.nest_memory.specs.Sublist.{sublist}
+use Rattle.nest_memory.specs.Physical.{physical_type, primitive_tree, binary_of_width, utf8_of_width}
 use Rattle.nest_memory.specs.Rising.{are_offsets, numbers, last_of, to_nat}
 use Rattle.nest_memory.specs.TypeTree.{TypeTree, size_of, value_type, logical_type}
 use Rattle.nest_memory.specs.TypeEq.{same_type, same_type-decides}
@@ -27,8 +27,8 @@ use Rattle.nest_memory.specs.declared.datatypes.physical_type.PrimitiveType.{Pri
 use Rattle.nest_memory.proofs.Rises.{never_fall_as, offsets_some}
 use Rattle.nest_model.specs.Accessors.{validity_of, key_at, key_kind}
 use Rattle.nest_model.specs.Array.{AreOffsets, AreKeys, TopFits, ChildrenFit, IsArray}
-use Rattle.nest_model.specs.Fits.{ValidityFits, EachText, EachValidNames, IsLogically}
-use Rattle.nest_model.specs.Layout.{Layout, null, boolean, primitive, binary, text, fixed_size_binary, dictionary, layout_type}
+use Rattle.nest_model.specs.Fits.{ValidityFits, EachUtf8, EachValidNames, IsLogically}
+use Rattle.nest_model.specs.Layout.{Layout, null, boolean, primitive, binary, utf8, fixed_size_binary, dictionary, layout_type}
 use Rattle.nest_model.specs.Meaning.{len, slots_of}
 use Rattle.nest_model.specs.Part.{Validity, begin, extent, count_rows, valid_at}
 use Rattle.nest_model.specs.Reads.{slots-length}
@@ -286,15 +286,15 @@ module _ (large : Bool) (t : TypeTree) (counts : NodeCounts) (body : List ℕ) (
       then_part (StringsFit counts.slots) r (IsReadOf counts.slots r) (decoded_binary_parts large counts body r) (decoded_binary_parts large counts body s) _ _ strings_next
       (λ x u v e is on. leaf counts.slots (binary large t x.offsets x.bytes x.validity) r u v (λ long. (is.offsets, (is.within, (valid_as x.validity (count_rows x.offsets) counts.slots long is.valid, (kind, tt))))) tt on)
 
-  each_text : (os bs : List ℕ) → are_utf8 os bs ≡ true → EachText os bs
+  each_text : (os bs : List ℕ) → are_utf8 os bs ≡ true → EachUtf8 os bs
   unfolding are_utf8
   each_text os bs all i lt =
-      let test : ℕ → Bool = λ j. is_utf8 (cut bs (begin os j) (extent os j)) in
+      let test : ℕ → Bool = λ j. is_utf8 (sublist bs (begin os j) (extent os j)) in
       let position : get_or (range_with_len 0 (count_rows os)) i 0 ≡ i = get_or-range_with_len 0 (count_rows os) i 0 lt ∙ (let e : 0 + i ≡ i = omega arith in e) in
       let there : i < length (range_with_len 0 (count_rows os)) = omega (arith, lt, length-range_with_len 0 (count_rows os)) in
       IsUtf8-from_is_utf8 _ (ap test (sym position) ∙ AllPass-from_list_all test (range_with_len 0 (count_rows os)) all i 0 there)
 
-  text_next : physical_type t ≡ text_of_width large → ReadTogether (IsReadOf counts.slots r) (decoded_utf8 large t counts body r) (decoded_utf8 large t counts body s)
+  text_next : physical_type t ≡ utf8_of_width large → ReadTogether (IsReadOf counts.slots r) (decoded_utf8 large t counts body r) (decoded_utf8 large t counts body s)
   unfolding decoded_utf8
   text_next kind =
       then_part (StringsFit counts.slots) r (IsReadOf counts.slots r) (decoded_binary_parts large counts body r) (decoded_binary_parts large counts body s) _ _ strings_next
@@ -302,12 +302,12 @@ module _ (large : Bool) (t : TypeTree) (counts : NodeCounts) (body : List ℕ) (
       (λ a q texts. leaf counts.slots a r u v (λ long. fits_as x a texts is long kind) (below_as x a texts) on))
     where
       IsTexts : BinaryParts → Layout → Type 0
-      IsTexts x a = (a ≡ text large t x.offsets x.bytes x.validity) × EachText x.offsets x.bytes
+      IsTexts x a = (a ≡ utf8 large t x.offsets x.bytes x.validity) × EachUtf8 x.offsets x.bytes
 
       texts_are : (x : BinaryParts) → IfOk (checked_utf8 large t x) (IsTexts x)
-      texts_are x = checked (IsTexts x) (are_utf8 x.offsets x.bytes) Utf8 (λ texts. Ok (text large t x.offsets x.bytes x.validity)) (λ e. (refl, each_text x.offsets x.bytes e))
+      texts_are x = checked (IsTexts x) (are_utf8 x.offsets x.bytes) Utf8 (λ texts. Ok (utf8 large t x.offsets x.bytes x.validity)) (λ e. (refl, each_text x.offsets x.bytes e))
 
-      fits_as : (x : BinaryParts) (a : Layout) → IsTexts x a → StringsFit counts.slots x → len a ≡ counts.slots → physical_type t ≡ text_of_width large → TopFits a
+      fits_as : (x : BinaryParts) (a : Layout) → IsTexts x a → StringsFit counts.slots x → len a ≡ counts.slots → physical_type t ≡ utf8_of_width large → TopFits a
       fits_as x a texts is long k =
           subst TopFits (sym texts.0) (is.offsets, (is.within, (texts.1, (valid_as x.validity (count_rows x.offsets) counts.slots (sym (ap len texts.0) ∙ long) is.valid, (k, tt)))))
 

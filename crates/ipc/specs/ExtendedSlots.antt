@@ -9,7 +9,7 @@ use Rattle.nest_model.specs.Array.{AreOffsets, TopFits}
 use Rattle.nest_model.specs.Fits.{EachLen, EachCovers, EachValidNames, Names, SlotsThere, child_len}
 use Rattle.nest_model.specs.Layout.{Layout, Layouts, fixed_size_list, list as list_of, map as map_of, struct, union, dictionary, no_layouts, more_layouts, layout_type}
 use Rattle.nest_model.specs.Meaning.{len, first_len, slot, each, picked, run, slots_of}
-use Rattle.nest_model.specs.Part.{Validity, begin, extent, count_rows, valid_at, field_named, place}
+use Rattle.nest_model.specs.Part.{Validity, begin, extent, count_rows, valid_at, field_named, to_index}
 use Rattle.nest_model.specs.Reads.{slots-length, slot-place}
 use Rattle.nest_model.specs.Runs.{run-ext, product-fits}
 use Rattle.nest_model.specs.SameArray.{IsSameArray}
@@ -101,8 +101,8 @@ pick_at t ks cs ds None start i there h lt =
     (λ f m. picked_covered f cs ds (start + length ks) f (start + i) h there (omega arith))
 pick_at t ks cs ds (Some os) start i there h lt =
     let offset : ℤ = get_or os i (pos 0) in
-    of_same (field_named (ids_of t) (get_or ks i (pos 0))) (λ f. picked f cs f (place offset)) (λ f. picked f ds f (place offset))
-    (λ f m. picked_there f cs ds f (place offset) h (place_named offset (child_len cs (Some f)) (subst (λ (o : Option ℕ). Names offset (child_len cs o)) m (there i lt))))
+    of_same (field_named (ids_of t) (get_or ks i (pos 0))) (λ f. picked f cs f (to_index offset)) (λ f. picked f ds f (to_index offset))
+    (λ f m. picked_there f cs ds f (to_index offset) h (place_named offset (child_len cs (Some f)) (subst (λ (o : Option ℕ). Names offset (child_len cs o)) m (there i lt))))
 
 pub union_same : (t : TypeTree) (ks : List ℤ) (cs ds : Layouts) (os : Option (List ℤ)) (start : ℕ) → TopFits (union t ks cs os start) → EachSame cs ds → IsSameArray (union t ks cs os start) (union t ks ds os start)
 union_same t ks cs ds os start fits h =
@@ -130,5 +130,5 @@ pub keyed_same : (t : TypeTree) (ks c d : Layout) → EachValidNames (validity_o
 keyed_same t ks c d named h =
     same-from_places (dictionary t ks c) (dictionary t ks d) refl refl
     (λ i lt.
-    where_valid (valid_at (validity_of ks) i) (slot c (place (key_at ks i))) (slot d (place (key_at ks i)))
-    (λ valid. grown_slot c d (place (key_at ks i)) h (place_named (key_at ks i) (len c) (named i lt valid))))
+    where_valid (valid_at (validity_of ks) i) (slot c (to_index (key_at ks i))) (slot d (to_index (key_at ks i)))
+    (λ valid. grown_slot c d (to_index (key_at ks i)) h (place_named (key_at ks i) (len c) (named i lt valid))))

@@ -3,7 +3,7 @@
 use Rattle.std.specs.Prelude.{ℕ, ◌-◌, ℤ, Bool, true, false, not, ◌&&◌, ◌==◌, nat_le, if◌then◌else◌, List, [], ◌∷◌, ◌++◌, Option, Some, None}
 use Rattle.std.specs.List.{list_any}
 use Rattle.nest_array.specs.Seen.{layout_of}
-use Rattle.nest_model.specs.Cut.{cut_layout}
+use Rattle.nest_model.specs.Slice.{slice_layout}
 use Rattle.nest_model.specs.Layout.{Layout}
 use Rattle.nest_model.specs.Meaning.{len}
 use Rattle.nest_model.specs.SameArray.{same_array}
@@ -25,11 +25,11 @@ whole e = (false, e)
 
 -- the values after the first n
 abbrev pub spec_delta_values : Layout → ℕ → Layout
-spec_delta_values c n = cut_layout c n (len c - n)
+spec_delta_values c n = slice_layout c n (len c - n)
 
 -- values c begin with d: the data type is the same, and the first slots are those of d
 abbrev pub spec_begins_with : Layout → Layout → Bool
-spec_begins_with d c = nat_le (len d) (len c) && same_array d (cut_layout c 0 (len d))
+spec_begins_with d c = nat_le (len d) (len c) && same_array d (slice_layout c 0 (len d))
 
 -- the batches of values that begin with those of their id: a delta of the values after these, if there are some
 abbrev pub batches_for : Option Layout → ℤ × Layout → List DictionaryBatchTree

@@ -8,8 +8,8 @@ use Rattle.std.proofs.lemmas.Bool.{leb-true}
 use Rattle.std.proofs.lemmas.List.{length-drop, take_all, take-append-drop}
 use Rattle.nest_memory.specs.TypeTree.{size_of, logical_type}
 use Rattle.nest_model.specs.Array.{IsArray, AreArrays, ChildrenFit}
-use Rattle.nest_model.specs.Cut.{cut_layout, cut_layouts}
-use Rattle.nest_model.specs.CutLaws.{type-cut, len-cut, slots-cut}
+use Rattle.nest_model.specs.Slice.{slice_layout, slice_layouts}
+use Rattle.nest_model.specs.SliceLaws.{type-cut, len-cut, slots-cut}
 use Rattle.nest_model.specs.FitsLaws.{array-cut}
 use Rattle.nest_model.specs.Layout.{Layout, Layouts, fixed_size_list, list as list_of, map as map_of, struct, union, dictionary, no_layouts, more_layouts, layout_type}
 use Rattle.nest_model.specs.Meaning.{len, slots_of}
@@ -27,11 +27,11 @@ use Rattle.ipc.specs.FileDictionaries.{DictionaryBatchTree, spec_delta_values, s
 
 -- ---- the values of a delta
 
-begun_same : (d c : Layout) → spec_begins_with d c ≡ true → (len d ≤ len c) × IsSameArray d (cut_layout c 0 (len d))
+begun_same : (d c : Layout) → spec_begins_with d c ≡ true → (len d ≤ len c) × IsSameArray d (slice_layout c 0 (len d))
 begun_same d c h =
-    let enough : nat_le (len d) (len c) ≡ true = first_so (nat_le (len d) (len c)) (same_array d (cut_layout c 0 (len d))) h in
-    let same : same_array d (cut_layout c 0 (len d)) ≡ true = second_so (nat_le (len d) (len c)) (same_array d (cut_layout c 0 (len d))) h in
-    (leb-true (len d) (len c) enough, (same_array-decides d (cut_layout c 0 (len d))).0 same)
+    let enough : nat_le (len d) (len c) ≡ true = first_so (nat_le (len d) (len c)) (same_array d (slice_layout c 0 (len d))) h in
+    let same : same_array d (slice_layout c 0 (len d)) ≡ true = second_so (nat_le (len d) (len c)) (same_array d (slice_layout c 0 (len d))) h in
+    (leb-true (len d) (len c) enough, (same_array-decides d (slice_layout c 0 (len d))).0 same)
 
 pub begun_long : (d c : Layout) → spec_begins_with d c ≡ true → len d ≤ len c
 begun_long d c h = (begun_same d c h).0
@@ -65,30 +65,30 @@ begun d c h =
 -- ---- a slice has the same dictionaries
 
 mutual
-  pub count_cut : (c : Layout) (o n : ℕ) → count_dictionaries (cut_layout c o n) ≡ count_dictionaries c
+  pub count_cut : (c : Layout) (o n : ℕ) → count_dictionaries (slice_layout c o n) ≡ count_dictionaries c
   count_cut (fixed_size_list t c va) o n = count_cut c (o * size_of t) (n * size_of t)
   count_cut (struct t cs va) o n = count_cuts cs o n
   count_cut a o n = refl
 
-  pub count_cuts : (cs : Layouts) (o n : ℕ) → count_each_dictionaries (cut_layouts cs o n) ≡ count_each_dictionaries cs
+  pub count_cuts : (cs : Layouts) (o n : ℕ) → count_each_dictionaries (slice_layouts cs o n) ≡ count_each_dictionaries cs
   count_cuts no_layouts o n = refl
   count_cuts (more_layouts c cs) o n = λ w. count_cut c o n w + count_cuts cs o n w
 
 mutual
-  pub own_cut : (id : ℕ) (c : Layout) (o n : ℕ) → own_entries id (cut_layout c o n) ≡ own_entries id c
+  pub own_cut : (id : ℕ) (c : Layout) (o n : ℕ) → own_entries id (slice_layout c o n) ≡ own_entries id c
   own_cut id (fixed_size_list t c va) o n = own_cut id c (o * size_of t) (n * size_of t)
   own_cut id (struct t cs va) o n = each_own_cut id cs o n
   own_cut id a o n = refl
 
-  pub each_own_cut : (id : ℕ) (cs : Layouts) (o n : ℕ) → each_own id (cut_layouts cs o n) ≡ each_own id cs
+  pub each_own_cut : (id : ℕ) (cs : Layouts) (o n : ℕ) → each_own id (slice_layouts cs o n) ≡ each_own id cs
   each_own_cut id no_layouts o n = refl
   each_own_cut id (more_layouts c cs) o n =
-      (λ w. own_cut id c o n w ++ each_own (id + count_cut c o n w) (cut_layouts cs o n))
+      (λ w. own_cut id c o n w ++ each_own (id + count_cut c o n w) (slice_layouts cs o n))
       ∙ ap (λ (others : DictionaryEntries). own_entries id c ++ others) (each_own_cut (id + count_dictionaries c) cs o n)
 
 -- ---- and the same id
 
-values_cut : (id : ℕ) (c : Layout) (o n : ℕ) → values_of id (cut_layout c o n) ≡ values_of id c
+values_cut : (id : ℕ) (c : Layout) (o n : ℕ) → values_of id (slice_layout c o n) ≡ values_of id c
 values_cut id c o n = λ w. record { values = logical_type (type-cut c o n w); inside = ids_from (suc id) (count_cut c o n w) }
 
 pub named_behind : (named : ValueTypes) (id : ℤ) (c : Layout) (n : ℕ) → IsNamed named (id, c) → IsNamed named (id, spec_delta_values c n)

@@ -6,7 +6,7 @@ use Rattle.std.specs.List.{AllByRecursion}
 use Rattle.std.specs.Map.{lookup}
 use Rattle.std.specs.Ordering.{int_cmp}
 use Rattle.std.proofs.lemmas.List.{append-nil, map-append}
-use Rattle.nest_memory.specs.Physical.{physical_type, binary_of_width, text_of_width}
+use Rattle.nest_memory.specs.Physical.{physical_type, binary_of_width, utf8_of_width}
 use Rattle.nest_memory.specs.TypeTree as types
 use Rattle.nest_memory.specs.TypeTree.{Letters, TypeTree, FieldTree, FieldTrees, field, no_fields, more_fields, field_type, logical_type, item_type, fields_of, value_type}
 use Rattle.nest_memory.specs.declared.datatypes.IntegerType.{IntegerType}
@@ -15,7 +15,7 @@ use Rattle.nest_memory.specs.declared.datatypes.physical_type.PhysicalType.TheVa
 use Rattle.nest_model.specs.Array.{IsArray, AreArrays}
 use Rattle.nest_model.specs.FactLaws.{binary-facts, text-facts, fixed_size_binary-facts, fixed_size_list-facts, list-facts, map-facts, struct-facts, union-facts, dictionary-facts}
 use Rattle.nest_model.specs.Fits.{EachType, IsLogically}
-use Rattle.nest_model.specs.Layout.{Layout, Layouts, null, boolean, primitive, binary, text, fixed_size_binary, fixed_size_list, list as list_of, map as map_of, struct, union, dictionary, no_layouts, more_layouts, layout_type}
+use Rattle.nest_model.specs.Layout.{Layout, Layouts, null, boolean, primitive, binary, utf8, fixed_size_binary, fixed_size_list, list as list_of, map as map_of, struct, union, dictionary, no_layouts, more_layouts, layout_type}
 use Rattle.ipc_flatbuf.specs.declared.error.IpcWriteError.TheVariants as write_errors
 use Rattle.ipc_schema.specs.Dictionaries.{ValueTypeModel}
 use Rattle.ipc_schema.specs.Extensions.{spec_storage_type, values_type, spec_table_type, spec_is_extension}
@@ -314,7 +314,7 @@ flat_binary : (large : Bool) → is_flat (binary_of_width large) ≡ true
 flat_binary true = refl
 flat_binary false = refl
 
-flat_text : (large : Bool) → is_flat (text_of_width large) ≡ true
+flat_text : (large : Bool) → is_flat (utf8_of_width large) ≡ true
 flat_text true = refl
 flat_text false = refl
 
@@ -324,7 +324,7 @@ mutual
   agrees (boolean t bs va) h = flat_agrees (boolean t bs va) (flat_by t _ h.0.1.1.0 refl) none_agree
   agrees (primitive k t vs va) h = flat_agrees (primitive k t vs va) (flat_by t _ h.0.1.1.0 refl) none_agree
   agrees (binary large t os bs va) h = flat_agrees (binary large t os bs va) (flat_by t _ (binary-facts large t os bs va h.0).typed (flat_binary large)) none_agree
-  agrees (text large t os bs va) h = flat_agrees (text large t os bs va) (flat_by t _ (text-facts large t os bs va h.0).typed (flat_text large)) none_agree
+  agrees (utf8 large t os bs va) h = flat_agrees (utf8 large t os bs va) (flat_by t _ (text-facts large t os bs va h.0).typed (flat_text large)) none_agree
   agrees (fixed_size_binary t bs va) h = flat_agrees (fixed_size_binary t bs va) (flat_by t _ (fixed_size_binary-facts t bs va h.0).typed refl) none_agree
   agrees (fixed_size_list t c va) h = items_agree (fixed_size_list t c va) c (fixed_size_list-facts t c va h.0).items (agrees c h.1) (λ depth fs is. is)
   agrees (list_of large t os c va) h = items_agree (list_of large t os c va) c (list-facts large t os c va h.0).items (agrees c h.1) (λ depth fs is. is)

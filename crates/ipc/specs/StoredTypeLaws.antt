@@ -4,7 +4,7 @@ use Rattle.std.proofs.Common.{sym, ap, ◌∙◌}
 use Rattle.ipc_flatbuf.specs.ReadResults.{◌>>=◌, check}
 use Rattle.ipc_flatbuf.specs.declared.error.IpcReadError.{IpcReadError}
 use Rattle.ipc_flatbuf.specs.declared.error.IpcReadError.TheVariants.{TypeRange, OffsetPastChild, Utf8, MissingDictionary, KeyRange, UnionOffset}
-use Rattle.nest_memory.specs.Cut.{cut}
+use Rattle.nest_memory.specs.Sublist.{sublist}
 use Rattle.nest_memory.specs.Physical.{physical_type}
 use Rattle.nest_memory.specs.Rising.{last_of}
 use Rattle.nest_memory.specs.TypeTree as types
@@ -14,8 +14,8 @@ use Rattle.nest_memory.specs.declared.datatypes.physical_type.PhysicalType.{Phys
 use Rattle.nest_memory.specs.declared.datatypes.physical_type.PhysicalType.TheVariants as physical
 use Rattle.nest_memory.specs.declared.datatypes.physical_type.PrimitiveType.{PrimitiveType}
 use Rattle.nest_model.specs.Accessors.{with_type}
-use Rattle.nest_model.specs.Layout.{Layout, boolean, text, fixed_size_binary, fixed_size_list, union, dictionary, layout_type}
-use Rattle.nest_model.specs.Meaning.{len, slot, run, slots_of, union_place, of_field, picked}
+use Rattle.nest_model.specs.Layout.{Layout, boolean, utf8, fixed_size_binary, fixed_size_list, union, dictionary, layout_type}
+use Rattle.nest_model.specs.Meaning.{len, slot, run, slots_of, union_index, of_field, picked}
 use Rattle.nest_model.specs.Part.{valid_at, field_named}
 use Rattle.nest_model.specs.Slot as slots
 use Rattle.nest_model.specs.Slot.{seal}
@@ -88,7 +88,7 @@ text_by : (large : Bool) (t u : TypeTree) (counts : NodeCounts) (body : List ℕ
 unfolding decoded_utf8
 text_by large t u counts body rest = then_answered (retyped u) (decoded_binary_parts large counts body rest) _ _ (λ s. of_texts s.0 s.1 (are_utf8 s.0.offsets s.0.bytes))
   where
-    of_texts : (s : BinaryParts) (left : Rest) (texts : Bool) → ((check texts Utf8 >>= λ x. Ok (text large u s.offsets s.bytes s.validity)) >>= λ a. Ok (a, left)) ≡ answered (retyped u) ((check texts Utf8 >>= λ x. Ok (text large t s.offsets s.bytes s.validity)) >>= λ a. Ok (a, left))
+    of_texts : (s : BinaryParts) (left : Rest) (texts : Bool) → ((check texts Utf8 >>= λ x. Ok (utf8 large u s.offsets s.bytes s.validity)) >>= λ a. Ok (a, left)) ≡ answered (retyped u) ((check texts Utf8 >>= λ x. Ok (utf8 large t s.offsets s.bytes s.validity)) >>= λ a. Ok (a, left))
     of_texts s left true = refl
     of_texts s left false = refl
 
@@ -208,9 +208,9 @@ stored_len (fixed_size_list t c va) = ap (λ (n : ℕ). len c / n) (sym (size_st
 stored_len a = refl
 
 stored_slot : (a : Layout) (i : ℕ) → slot (stored_values a) i ≡ slot a i
-stored_slot (fixed_size_binary t bs va) i = ap (λ (n : ℕ). if valid_at va i then slots.bytes (cut bs (i * n) n) else slots.null) (sym (size_stored t))
+stored_slot (fixed_size_binary t bs va) i = ap (λ (n : ℕ). if valid_at va i then slots.bytes (sublist bs (i * n) n) else slots.null) (sym (size_stored t))
 stored_slot (fixed_size_list t c va) i = ap (λ (n : ℕ). if valid_at va i then slots.list (seal (run (slot c) (i * n) n)) else slots.null) (sym (size_stored t))
-stored_slot (union t ks cs os start) i = ap (λ (ids : Option (List ℤ)). of_field (field_named ids (get_or ks i (pos 0))) (λ f. picked f cs f (union_place os start i))) (sym (ids_stored t))
+stored_slot (union t ks cs os start) i = ap (λ (ids : Option (List ℤ)). of_field (field_named ids (get_or ks i (pos 0))) (λ f. picked f cs f (union_index os start i))) (sym (ids_stored t))
 stored_slot a i = refl
 
 pub stored_slots : (a : Layout) → slots_of (stored_values a) ≡ slots_of a

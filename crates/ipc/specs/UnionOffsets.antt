@@ -6,7 +6,7 @@ use Rattle.nest_memory.specs.TypeTree.{ids_of}
 use Rattle.nest_model.specs.Accessors.{types_of, union_offsets_of, start_of}
 use Rattle.nest_model.specs.Fits.{child_len}
 use Rattle.nest_model.specs.Layout.{Layout, Layouts, fixed_size_list, list as list_of, map as map_of, struct, union, no_layouts, more_layouts, layout_type}
-use Rattle.nest_model.specs.Meaning.{len, union_place}
+use Rattle.nest_model.specs.Meaning.{len, union_index}
 use Rattle.nest_model.specs.Part.{field_named}
 
 -- the child arrays of an array, without the values of a dictionary array, which are extended by their own messages
@@ -20,7 +20,7 @@ spec_children a = no_layouts
 
 -- the offset of slot i of a union overflows after these fields
 abbrev pub offset_past : Layouts → Layout → ℕ → Bool
-offset_past cs more i = nat_le (2 ^ 31) (child_len cs (field_named (ids_of (layout_type more)) (get_or (types_of more) i (pos 0))) + union_place (union_offsets_of more) (start_of more) i)
+offset_past cs more i = nat_le (2 ^ 31) (child_len cs (field_named (ids_of (layout_type more)) (get_or (types_of more) i (pos 0))) + union_index (union_offsets_of more) (start_of more) i)
 
 -- the offset of some slot does
 abbrev pub spec_slots_overflow : Layouts → Layout → Bool

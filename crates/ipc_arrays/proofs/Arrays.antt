@@ -10,7 +10,7 @@ use Rattle.nest_memory.specs.declared.datatypes.physical_type.PrimitiveType.{Pri
 use Rattle.nest_model.specs.Accessors.{bits_of, bytes_of, child_of, keys_of, natives_of, offsets_of, validity_of}
 use Rattle.nest_model.specs.Array.{TopFits}
 use Rattle.nest_model.specs.Fits.{ValidityFits}
-use Rattle.nest_model.specs.Layout.{Layout, boolean, primitive, binary, text, fixed_size_binary, dictionary, layout_type}
+use Rattle.nest_model.specs.Layout.{Layout, boolean, primitive, binary, utf8, fixed_size_binary, dictionary, layout_type}
 use Rattle.nest_model.specs.Meaning.{len}
 use Rattle.nest_model.specs.Nullness.{null_count, is_null_at}
 use Rattle.ipc_arrays.specs.DictionaryKeys.{zero_at_nulls}
@@ -167,5 +167,5 @@ sized_writable a parts fits = subst IsWritable (sym parts) (record { fits = subs
 pub binary_writable : (large : Bool) (a : Layout) → a ≡ binary large (layout_type a) (offsets_of a) (bytes_of a) (validity_of a) → TopFits a → OffsetsRoundTrip large (offsets_of a) → IsWritable a
 binary_writable large a parts fits round_trips = subst IsWritable (sym parts) (record { fits = subst TopFits parts fits; numbers = round_trips })
 
-pub text_writable : (large : Bool) (a : Layout) → a ≡ text large (layout_type a) (offsets_of a) (bytes_of a) (validity_of a) → TopFits a → OffsetsRoundTrip large (offsets_of a) → IsWritable a
+pub text_writable : (large : Bool) (a : Layout) → a ≡ utf8 large (layout_type a) (offsets_of a) (bytes_of a) (validity_of a) → TopFits a → OffsetsRoundTrip large (offsets_of a) → IsWritable a
 text_writable large a parts fits round_trips = subst IsWritable (sym parts) (record { fits = subst TopFits parts fits; numbers = round_trips })

@@ -1,13 +1,13 @@
 -- Loops over windows, and the bounds of windows over children.
 use Rattle.std.proofs.Common.{◌≡◌, ℕ, zero, suc, ◌+◌, ◌<◌, ◌≤◌, Bool, false, List, [], ◌∷◌, ◌++◌, length, get_or, take, Some, None, refl, sym, ap, subst, ◌∙◌, arith}
 use Rattle.std.specs.Prelude.{ℤ, Option}
-use Rattle.nest_memory.specs.Cut.{cut}
+use Rattle.nest_memory.specs.Sublist.{sublist}
 use Rattle.nest_model.specs.Accessors.{child_of, children_of, offsets_of, start_of, types_of, union_offsets_of, validity_of}
 use Rattle.nest_model.specs.Array.{TopFits}
 use Rattle.nest_model.specs.Fits.{EachCovers, EachLen, ValidityFits}
 use Rattle.nest_model.specs.Layout.{Layout, Layouts, fixed_size_list, list as list_of, map as map_of, struct, union, no_layouts, more_layouts, layout_type}
 use Rattle.nest_model.specs.Meaning.{len, first_len}
-use Rattle.nest_model.specs.Part.{Validity, cut_validity}
+use Rattle.nest_model.specs.Part.{Validity, sliced_validity}
 use Rattle.nest_model.specs.Runs.{length-cut}
 use Rattle.nest_array.specs.Seen.{layout_of, layouts_of}
 use Rattle.nest_array.specs.WindowParts.{WindowParts, window_parts}
@@ -86,34 +86,34 @@ dense_below a os o n kind some = ap (λ (b : Layout). windows_below b o n) (kind
 pub bits_long : (a : Layout) (bits : List Bool) → TopFits a → validity_of a ≡ Some bits → length bits ≡ len a
 bits_long a bits fits e = subst (λ (va : Validity). ValidityFits va (len a)) e (validity_fits a fits)
 
-pub own_sized : (a : Layout) (o n : ℕ) → a ≡ fixed_size_list (layout_type a) (child_of a) (validity_of a) → own_buffers (normalized_slice a o n) ≡ normalized_validity_bytes (cut_validity (validity_of a) o n) ∷ []
+pub own_sized : (a : Layout) (o n : ℕ) → a ≡ fixed_size_list (layout_type a) (child_of a) (validity_of a) → own_buffers (normalized_slice a o n) ≡ normalized_validity_bytes (sliced_validity (validity_of a) o n) ∷ []
 own_sized a o n kind = ap (λ (b : Layout). own_buffers (normalized_slice b o n)) kind
 
-pub own_record : (a : Layout) (o n : ℕ) → a ≡ struct (layout_type a) (children_of a) (validity_of a) → own_buffers (normalized_slice a o n) ≡ normalized_validity_bytes (cut_validity (validity_of a) o n) ∷ []
+pub own_record : (a : Layout) (o n : ℕ) → a ≡ struct (layout_type a) (children_of a) (validity_of a) → own_buffers (normalized_slice a o n) ≡ normalized_validity_bytes (sliced_validity (validity_of a) o n) ∷ []
 own_record a o n kind = ap (λ (b : Layout). own_buffers (normalized_slice b o n)) kind
 
 pub own_list : (large : Bool) (a : Layout) (o n : ℕ) → a ≡ list_of large (layout_type a) (offsets_of a) (child_of a) (validity_of a)
-    → own_buffers (normalized_slice a o n) ≡ normalized_validity_bytes (cut_validity (validity_of a) o n) ∷ offset_bytes large (rebased (cut (offsets_of a) o (n + 1))) ∷ []
+    → own_buffers (normalized_slice a o n) ≡ normalized_validity_bytes (sliced_validity (validity_of a) o n) ∷ offset_bytes large (rebased (sublist (offsets_of a) o (n + 1))) ∷ []
 own_list large a o n kind = ap (λ (b : Layout). own_buffers (normalized_slice b o n)) kind
 
 pub own_map : (a : Layout) (o n : ℕ) → a ≡ map_of (layout_type a) (offsets_of a) (child_of a) (validity_of a)
-    → own_buffers (normalized_slice a o n) ≡ normalized_validity_bytes (cut_validity (validity_of a) o n) ∷ offset_bytes false (rebased (cut (offsets_of a) o (n + 1))) ∷ []
+    → own_buffers (normalized_slice a o n) ≡ normalized_validity_bytes (sliced_validity (validity_of a) o n) ∷ offset_bytes false (rebased (sublist (offsets_of a) o (n + 1))) ∷ []
 own_map a o n kind = ap (λ (b : Layout). own_buffers (normalized_slice b o n)) kind
 
-pub own_sparse : (a : Layout) (o n : ℕ) → UnionOf a → union_offsets_of a ≡ None → own_buffers (normalized_slice a o n) ≡ numbers_bytes type_format (cut (types_of a) o n) ∷ []
+pub own_sparse : (a : Layout) (o n : ℕ) → UnionOf a → union_offsets_of a ≡ None → own_buffers (normalized_slice a o n) ≡ numbers_bytes type_format (sublist (types_of a) o n) ∷ []
 own_sparse a o n kind none = ap (λ (b : Layout). own_buffers (normalized_slice b o n)) (kind ∙ ap (λ (os : Option (List ℤ)). union (layout_type a) (types_of a) (children_of a) os (start_of a)) none)
 
 pub own_dense : (a : Layout) (os : List ℤ) (o n : ℕ) → UnionOf a → union_offsets_of a ≡ Some os
-    → own_buffers (normalized_slice a o n) ≡ numbers_bytes type_format (cut (types_of a) o n) ∷ numbers_bytes (offset_format false) (cut os o n) ∷ []
+    → own_buffers (normalized_slice a o n) ≡ numbers_bytes type_format (sublist (types_of a) o n) ∷ numbers_bytes (offset_format false) (sublist os o n) ∷ []
 own_dense a os o n kind some = ap (λ (b : Layout). own_buffers (normalized_slice b o n)) (kind ∙ ap (λ (os : Option (List ℤ)). union (layout_type a) (types_of a) (children_of a) os (start_of a)) some)
 
 -- lists have one more offset than slots
-pub rows_long : (large : Bool) (a : Layout) (o n : ℕ) → a ≡ list_of large (layout_type a) (offsets_of a) (child_of a) (validity_of a) → TopFits a → o + n ≤ len a → length (rebased (cut (offsets_of a) o (n + 1))) ≡ n + 1
+pub rows_long : (large : Bool) (a : Layout) (o n : ℕ) → a ≡ list_of large (layout_type a) (offsets_of a) (child_of a) (validity_of a) → TopFits a → o + n ≤ len a → length (rebased (sublist (offsets_of a) o (n + 1))) ≡ n + 1
 rows_long large a o n kind fits le =
     let f : TopFits (list_of large (layout_type a) (offsets_of a) (child_of a) (validity_of a)) = subst TopFits kind fits in
-    rebased_long (cut (offsets_of a) o (n + 1)) ∙ length-cut (offsets_of a) o (n + 1) (omega (arith, f.0.0, le, ap len kind))
+    rebased_long (sublist (offsets_of a) o (n + 1)) ∙ length-cut (offsets_of a) o (n + 1) (omega (arith, f.0.0, le, ap len kind))
 
-pub entries_long : (a : Layout) (o n : ℕ) → a ≡ map_of (layout_type a) (offsets_of a) (child_of a) (validity_of a) → TopFits a → o + n ≤ len a → length (rebased (cut (offsets_of a) o (n + 1))) ≡ n + 1
+pub entries_long : (a : Layout) (o n : ℕ) → a ≡ map_of (layout_type a) (offsets_of a) (child_of a) (validity_of a) → TopFits a → o + n ≤ len a → length (rebased (sublist (offsets_of a) o (n + 1))) ≡ n + 1
 entries_long a o n kind fits le =
     let f : TopFits (map_of (layout_type a) (offsets_of a) (child_of a) (validity_of a)) = subst TopFits kind fits in
-    rebased_long (cut (offsets_of a) o (n + 1)) ∙ length-cut (offsets_of a) o (n + 1) (omega (arith, f.0.0, le, ap len kind))
+    rebased_long (sublist (offsets_of a) o (n + 1)) ∙ length-cut (offsets_of a) o (n + 1) (omega (arith, f.0.0, le, ap len kind))

@@ -8,10 +8,10 @@ use Rattle.std.proofs.lemmas.List.Sums.{AllPass-from_list_all}
 use Rattle.ipc_flatbuf.specs.declared.error.IpcReadError.TheVariants.{MissingDictionary, KeyRange}
 use Rattle.nest_memory.specs.declared.error.Error.{Error}
 use Rattle.nest_memory.specs.declared.error.Error.TheVariants.{OutOfSpec}
-use Rattle.nest_memory.specs.declared.error.Spec.TheVariants as spec
+use Rattle.nest_memory.specs.declared.error.SpecError.TheVariants as spec
 use Rattle.nest_memory.specs.TypeEq.{same_type-decides}
 use Rattle.nest_memory.specs.TypeTree.{TypeTree, logical_type, value_type}
-use Rattle.nest_model.specs.Accessors.{validity_of, key_at, raw_keys, whole}
+use Rattle.nest_model.specs.Accessors.{validity_of, key_at, raw_keys, as_integer}
 use Rattle.nest_model.specs.Array.{AreKeys}
 use Rattle.nest_model.specs.Fits.{Fits, IsLogically, Names, KeysInRange}
 use Rattle.nest_model.specs.Layout.{Layout, primitive, dictionary, layout_type}
@@ -66,7 +66,7 @@ each_place p n i all lt =
     sym (ap p (place_is n i lt)) ∙ AllPass-from_list_all p (range_with_len 0 n) all i 0 (omega (arith, long, lt))
 
 range_names : (ks : Layout) (n : ℕ) → AreKeys ks → KeysInRange ks n → are_keys_in_range ks n ≡ true
-range_names (primitive k t vs va) n are range = each_named (primitive k t vs va) n (λ i lt valid. range (i, lt, valid) i (pos 0) (let long = length-map vs whole in omega (arith, long, lt)))
+range_names (primitive k t vs va) n are range = each_named (primitive k t vs va) n (λ i lt valid. range (i, lt, valid) i (pos 0) (let long = length-map vs as_integer in omega (arith, long, lt)))
 range_names ks n are range = absurd are
 
 valid_named : (ks : Layout) (n i : ℕ) → are_keys_in_range ks n ≡ true → i < len ks → valid_at (validity_of ks) i ≡ true → Names (key_at ks i) n
@@ -82,7 +82,7 @@ names_range (primitive k t vs va) n are blank named (j, lt, valid) =
     let ks : Layout = primitive k t vs va in
     let some : 0 < n = some_named (key_at ks j) n (valid_named ks n j named lt valid) in
     λ i d less.
-    let long = length-map vs whole in
+    let long = length-map vs as_integer in
     let within : i < length vs = omega (arith, long, less) in
     subst (λ (z : ℤ). Names z n) (get_or_default (raw_keys ks) i (pos 0) d less) (key_named ks n i (valid_at va i) refl blank named some within)
 names_range ks n are blank named some = absurd are

@@ -8,7 +8,7 @@ use Rattle.std.proofs.lemmas.Bool.Decides.{Decides-int_eq}
 use Rattle.std.proofs.lemmas.List.{get_or_past, get_or-replicate}
 use Rattle.std.proofs.lemmas.List.Sums.{AllPass-from_list_all}
 use Rattle.nest_model.specs.Checks.{type_count}
-use Rattle.nest_model.specs.Part.{last_place, field_named}
+use Rattle.nest_model.specs.Part.{last_position, field_named}
 use Rattle.ipc_flatbuf.specs.declared.error.IpcReadError.TheVariants.{UnionType}
 use Rattle.nest_memory.specs.Native.{signed}
 use Rattle.nest_memory.specs.declared.datatypes.UnionMode.TheVariants.{Dense}
@@ -25,14 +25,14 @@ before_more : (y z : ℤ) (b : Bool) (n : ℕ) (o : Option ℕ) → before y z (
 before_more y z true n o = refl
 before_more y z false n o = refl
 
-last_more : (xs : List ℤ) (x z : ℤ) → last_place (xs ++ x ∷ []) z ≡ (if int_eq x z then Some (length xs) else last_place xs z)
+last_more : (xs : List ℤ) (x z : ℤ) → last_position (xs ++ x ∷ []) z ≡ (if int_eq x z then Some (length xs) else last_position xs z)
 last_more [] x z = refl
-last_more (y ∷ xs) x z = ap (before y z) (last_more xs x z) ∙ before_more y z (int_eq x z) (length xs) (last_place xs z)
+last_more (y ∷ xs) x z = ap (before y z) (last_more xs x z) ∙ before_more y z (int_eq x z) (length xs) (last_position xs z)
 
 -- ---- setting marks
 
 abbrev pub HasMarks : List Bool → List ℤ → Type 0
-HasMarks marks ids = (k : ℕ) → get_or marks k false ≡ is_some (last_place ids (pos k))
+HasMarks marks ids = (k : ℕ) → get_or marks k false ≡ is_some (last_position ids (pos k))
 
 order : (k n : ℕ) → (k < n) ⊎ (n ≤ k)
 order k n = grind arith
@@ -52,8 +52,8 @@ mark_written marks ids i m z d l h e f b g k =
     let w : i + 1 ≡ suc i = omega arith in
     let x : take (i + 1) ids ≡ take i ids ++ (z ∷ []) = ap (λ j. take j ids) w ∙ take-suc ids i d h ∙ ap (λ y. take i ids ++ (y ∷ [])) e in
     let s = Decides-int_eq z (pos k) in
-    written (int_eq z (pos k)) (last_place (take i ids) (pos k)) (length (take i ids)) k m marks (λ u. pos_one k m (sym (s.0 u) ∙ f)) (λ u. s.1 (f ∙ ap pos (sym u))) (omega (arith, l, b)) (g k)
-    ∙ ap is_some (sym (last_more (take i ids) z (pos k))) ∙ ap (λ y. is_some (last_place y (pos k))) (sym x)
+    written (int_eq z (pos k)) (last_position (take i ids) (pos k)) (length (take i ids)) k m marks (λ u. pos_one k m (sym (s.0 u) ∙ f)) (λ u. s.1 (f ∙ ap pos (sym u))) (omega (arith, l, b)) (g k)
+    ∙ ap is_some (sym (last_more (take i ids) z (pos k))) ∙ ap (λ y. is_some (last_position y (pos k))) (sym x)
 
 -- an id is a number below 128
 pub id_is : (z : ℤ) → is_index_below z type_count ≡ true → (m : ℕ) × (z ≡ pos m) × (m < 128)
@@ -70,9 +70,9 @@ found_on x z ids true None f q t h e =
     subst (λ j. (j < length (x ∷ ids)) × (get_or (x ∷ ids) j (pos 0) ≡ z)) (sym p) (omega arith, t refl)
 found_on x z ids false None f q t h e = let u : None ≡ Some f = sym (ap (λ c. if c then Some 0 else None) q) ∙ e in cc
 
-found_at : (ids : List ℤ) (z : ℤ) (f : ℕ) → last_place ids z ≡ Some f → (f < length ids) × (get_or ids f (pos 0) ≡ z)
+found_at : (ids : List ℤ) (z : ℤ) (f : ℕ) → last_position ids z ≡ Some f → (f < length ids) × (get_or ids f (pos 0) ≡ z)
 found_at [] z f e = cc
-found_at (x ∷ ids) z f e = found_on x z ids (int_eq x z) (last_place ids z) f refl (λ b. (Decides-int_eq x z).0 b) (λ g h. found_at ids z g h) e
+found_at (x ∷ ids) z f e = found_on x z ids (int_eq x z) (last_position ids z) f refl (λ b. (Decides-int_eq x z).0 b) (λ g h. found_at ids z g h) e
 
 some_means : (o : Option ℕ) (n : ℕ) → ((f : ℕ) → o ≡ Some f → f < n) → is_some o ≡ is_field_below o n
 some_means None n h = refl
@@ -86,10 +86,10 @@ not_named : (z : ℤ) (k : ℕ) → is_index_below z type_count ≡ true → z �
 not_named (pos j) k e h = cc
 not_named (negsuc j) k e h = cc
 
-mark_means : (marks : List Bool) (ids : List ℤ) (n : ℕ) → MarksTypeIds marks ids → are_type_ids (Some ids) n ≡ true → (z : ℤ) → is_marked_type marks z ≡ is_field_below (last_place ids z) n
-mark_means marks ids n h are (pos k) = h.each k ∙ some_means (last_place ids (pos k)) n (λ f e. let at = found_at ids (pos k) f e in omega (arith, at.0, eqb-true _ _ (and_parts (eqb (length ids) n) (list_all (λ id. is_index_below id type_count) ids) are).0))
+mark_means : (marks : List Bool) (ids : List ℤ) (n : ℕ) → MarksTypeIds marks ids → are_type_ids (Some ids) n ≡ true → (z : ℤ) → is_marked_type marks z ≡ is_field_below (last_position ids z) n
+mark_means marks ids n h are (pos k) = h.each k ∙ some_means (last_position ids (pos k)) n (λ f e. let at = found_at ids (pos k) f e in omega (arith, at.0, eqb-true _ _ (and_parts (eqb (length ids) n) (list_all (λ id. is_index_below id type_count) ids) are).0))
 mark_means marks ids n h are (negsuc k) =
-    no_means (last_place ids (negsuc k)) n
+    no_means (last_position ids (negsuc k)) n
     (λ f e. let at = found_at ids (negsuc k) f e in not_named (get_or ids f (pos 0)) k (AllPass-from_list_all (λ z. is_index_below z type_count) ids (and_parts (eqb (length ids) n) (list_all (λ id. is_index_below id type_count) ids) are).1 f (pos 0) at.0) at.1)
 
 same_all : (p q : ℤ → Bool) → ((z : ℤ) → p z ≡ q z) → (zs : List ℤ) → list_all p zs ≡ list_all q zs

@@ -14,7 +14,7 @@ use Rattle.nest_memory.specs.declared.datatypes.UnionMode.{UnionMode}
 use Rattle.nest_memory.specs.declared.datatypes.UnionMode.TheVariants.{Dense, Sparse}
 use Rattle.nest_memory.specs.declared.error.Error.{Error}
 use Rattle.nest_model.specs.Checks.{FailsOr, most_fields, type_count}
-use Rattle.nest_model.specs.Fits.{Fits, FirstFault, ValidityFits, EachType, EachLen, EachCovers, Names, MeansField, EachMeansField, IdsCount, IdsInRange, OffsetsCount, OffsetsByMode, EachOffsetNames, SlotsThere}
+use Rattle.nest_model.specs.Fits.{Fits, FirstError, ValidityFits, EachType, EachLen, EachCovers, Names, MeansField, EachMeansField, IdsCount, IdsInRange, OffsetsCount, OffsetsByMode, EachOffsetNames, SlotsThere}
 use Rattle.nest_model.specs.Layout.{Layout, Layouts, no_layouts, more_layouts, layout_type, count_layouts, fixed_size_list, struct, union}
 use Rattle.nest_model.specs.Meaning.{len, first_len}
 use Rattle.nest_model.specs.Part.{Validity, field_named}
@@ -259,10 +259,10 @@ union_made t u parts cs rest a e h fits made =
     let same : union t parts.types cs parts.offsets 0 ≡ a = sym (made ∙ ap (λ v. union v parts.types cs parts.offsets 0) e) in
     rw (there (ids_of t) cs parts.types parts.offsets h.offsets own.1.1.1.1.1.1.1.1.1.0) (ap (λ (b : Layout). Ok (b, rest)) same)
 
-pub union_refused : (t u : TypeTree) (parts : UnionParts) (cs : Layouts) (rest : Rest) (f : Error) → u ≡ t → PassesUnionChecks t parts.types cs parts.offsets → FirstFault f (union u parts.types cs parts.offsets 0)
+pub union_refused : (t u : TypeTree) (parts : UnionParts) (cs : Layouts) (rest : Rest) (f : Error) → u ≡ t → PassesUnionChecks t parts.types cs parts.offsets → FirstError f (union u parts.types cs parts.offsets 0)
     → union_over t (ids_of t) parts (cs, rest) ≡ Err UnionOffset
 union_refused t u parts cs rest f e h first =
-    let error : FirstFault f (union t parts.types cs parts.offsets 0) = subst (λ v. FirstFault f (union v parts.types cs parts.offsets 0)) e first in
+    let error : FirstError f (union t parts.types cs parts.offsets 0) = subst (λ v. FirstError f (union v parts.types cs parts.offsets 0)) e first in
     let last = skip _ h.types (skip _ h.range (skip _ h.ids (skip _ h.mode (skip _ h.offsets (skip _ h.typed (skip _ h.few (skip _ h.count (skip _ h.kind error)))))))) in
     let none : are_union_offsets_valid (ids_of t) cs parts.types parts.offsets ≡ false = not_there _ (λ all. last_fails _ last (slots_are (ids_of t) cs parts.types parts.offsets h.offsets h.covers all)) in
     rw none refl

@@ -8,14 +8,14 @@ use Rattle.std.proofs.lemmas.Option.{get_or_from_slice_get}
 use Rattle.ipc_flatbuf.specs.ReadResults.{◌>>=◌}
 use Rattle.ipc_flatbuf.specs.declared.error.IpcReadError.TheVariants.{BufferTooShort, Offsets, OffsetPastChild, Utf8}
 use Rattle.nest_memory.specs.Native.{signed, unsigned}
-use Rattle.nest_memory.specs.Physical.{physical_type, text_of_width}
-use Rattle.nest_memory.specs.Rising.{are_offsets, numbers, to_nat, last_of, NeverFalls}
+use Rattle.nest_memory.specs.Physical.{physical_type, utf8_of_width}
+use Rattle.nest_memory.specs.Rising.{are_offsets, numbers, to_nat, last_of, IsNondecreasing}
 use Rattle.nest_memory.specs.TypeTree.{TypeTree, size_of}
 use Rattle.nest_memory.specs.declared.datatypes.physical_type.PhysicalType.TheVariants as physical
 use Rattle.nest_memory.specs.declared.error.Error.{Error}
-use Rattle.nest_model.specs.Decide.{pass-no_fault}
-use Rattle.nest_model.specs.Fits.{ValidityFits, Fits, FirstFault, checks, covered}
-use Rattle.nest_model.specs.Layout.{text, fixed_size_binary}
+use Rattle.nest_model.specs.Decide.{pass-no_error}
+use Rattle.nest_model.specs.Fits.{ValidityFits, Fits, FirstError, checks, covered}
+use Rattle.nest_model.specs.Layout.{utf8, fixed_size_binary}
 use Rattle.nest_model.specs.Part.{Validity, begin, count_rows}
 use Rattle.nest_model.specs.Runs.{product-exact, length-cut}
 use Rattle.ipc_arrays.specs.Decoding.{decoded_values, decoded_bytes, checked_offsets, decoded_offsets, decoded_data, checked_utf8}
@@ -94,13 +94,13 @@ sized_fits t bs va rows kind some long fits =
     let back = mul-div_cancel rows some in
     (kind, (some, (rw long exact, (rw (long, back) fits, tt))))
 
-pub texts_are : (large : Bool) (t : TypeTree) (os bs : List ℕ) (va : Validity) → Fits (text large t os bs va) → checked_utf8 large t (record { offsets = os; bytes = bs; validity = va }) ≡ Ok (text large t os bs va)
+pub texts_are : (large : Bool) (t : TypeTree) (os bs : List ℕ) (va : Validity) → Fits (utf8 large t os bs va) → checked_utf8 large t (record { offsets = os; bytes = bs; validity = va }) ≡ Ok (utf8 large t os bs va)
 texts_are large t os bs va fits = rw (texts_hold os bs fits.1.0) refl
 
-pub texts_are_none : (large : Bool) (t : TypeTree) (os bs : List ℕ) (va : Validity) (e : Error) → last_of os ≤ length bs → ValidityFits va (count_rows os) → physical_type t ≡ text_of_width large → FirstFault e (text large t os bs va)
+pub texts_are_none : (large : Bool) (t : TypeTree) (os bs : List ℕ) (va : Validity) (e : Error) → last_of os ≤ length bs → ValidityFits va (count_rows os) → physical_type t ≡ utf8_of_width large → FirstError e (utf8 large t os bs va)
     → checked_utf8 large t (record { offsets = os; bytes = bs; validity = va }) ≡ Err Utf8
 texts_are_none large t os bs va e within slots kind error =
-    rw (texts_fail os bs (λ each. pass-no_fault (checks (text large t os bs va)) e (within, (each, (slots, (kind, tt)))) error)) refl
+    rw (texts_fail os bs (λ each. pass-no_error (checks (utf8 large t os bs va)) e (within, (each, (slots, (kind, tt)))) error)) refl
 
 -- ---- writing offsets
 
@@ -116,7 +116,7 @@ next_rebased os i first end lt f e =
     let more : take (i + 1 + 1) (rebased os) ≡ take (i + 1) (rebased os) ++ (end - first) ∷ [] = take_more (rebased os) (i + 1) 0 (omega (arith, rebased_long os)) ∙ ap (λ (n : ℕ). take (i + 1) (rebased os) ++ n ∷ []) at in
     ap (map unsigned) more ∙ map-append unsigned (take (i + 1) (rebased os)) ((end - first) ∷ [])
 
-pub end_small : (os : List ℕ) (i end largest : ℕ) → NeverFalls os → i + 1 < length os → slice_get os (i + 1) ≡ Some end → last_of os ≤ largest → end ≤ largest
+pub end_small : (os : List ℕ) (i end largest : ℕ) → IsNondecreasing os → i + 1 < length os → slice_get os (i + 1) ≡ Some end → last_of os ≤ largest → end ≤ largest
 end_small os i end largest never lt e fits =
     let stop : end ≡ get_or os (i + 1) 0 = sym (get_or_from_slice_get os (i + 1) end 0 e) in
     omega (arith, stop, never (i + 1) (length os - 1) (omega arith) (omega arith), fits)
@@ -126,7 +126,7 @@ offsets_long large os =
     values_long (offset_format large) (map unsigned (rebased os)) (offset_sized large).long ∙ ap (λ (n : ℕ). n * (offset_format large).size) (length-map (rebased os) unsigned ∙ rebased_long os)
 
 -- the sizes of the buffers of a binary array
-pub string_sizes : (large : Bool) (format : ByteFormat) (os bs : List ℕ) (va : Validity) (n m first last : ℕ) → format ≡ offset_format large → NeverFalls os → 0 < length os → last_of os ≤ length bs → n ≡ length (normalized_validity_bytes va) → m ≡ length os * format.size → slice_get os 0 ≡ Some first → last ≡ last_of os
+pub string_sizes : (large : Bool) (format : ByteFormat) (os bs : List ℕ) (va : Validity) (n m first last : ℕ) → format ≡ offset_format large → IsNondecreasing os → 0 < length os → last_of os ≤ length bs → n ≡ length (normalized_validity_bytes va) → m ≡ length os * format.size → slice_get os 0 ≡ Some first → last ≡ last_of os
     → map length (string_buffers large os bs va) ≡ n ∷ m ∷ (last - first) ∷ []
 string_sizes large format os bs va n m first last is never some within e f g l =
     let start : first ≡ begin os 0 = sym (get_or_from_slice_get os 0 first 0 g) in
@@ -140,13 +140,13 @@ string_past large format os bs va p is long =
     let offsets : length (offset_bytes large (rebased os)) ≡ length os * format.size = offsets_long large os ∙ ap (λ (x : ByteFormat). length os * x.size) (sym is) in
     omega (arith, long, offsets, second_within (normalized_validity_bytes va) (offset_bytes large (rebased os)) (covered os bs ∷ []))
 
-pub first_small : (os : List ℕ) (i first end : ℕ) → NeverFalls os → i < length os → slice_get os 0 ≡ Some first → slice_get os i ≡ Some end → first ≤ end
+pub first_small : (os : List ℕ) (i first end : ℕ) → IsNondecreasing os → i < length os → slice_get os 0 ≡ Some first → slice_get os i ≡ Some end → first ≤ end
 first_small os i first end never lt f e =
     let start : first ≡ get_or os 0 0 = sym (get_or_from_slice_get os 0 first 0 f) in
     let stop : end ≡ get_or os i 0 = sym (get_or_from_slice_get os i end 0 e) in
     omega (arith, start, stop, never 0 i (omega arith) lt)
 
-pub first_last : (os : List ℕ) (first last : ℕ) → NeverFalls os → 0 < length os → slice_get os 0 ≡ Some first → last ≡ last_of os → first ≤ last
+pub first_last : (os : List ℕ) (first last : ℕ) → IsNondecreasing os → 0 < length os → slice_get os 0 ≡ Some first → last ≡ last_of os → first ≤ last
 first_last os first last never some f l =
     let start : first ≡ get_or os 0 0 = sym (get_or_from_slice_get os 0 first 0 f) in
     omega (arith, start, l, never 0 (length os - 1) (omega arith) (omega (arith, some)))

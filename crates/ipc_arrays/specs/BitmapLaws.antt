@@ -6,7 +6,7 @@ use Rattle.std.proofs.lemmas.Nat.Bits.{bit_at_lowest, bit_at-suc, bit_at-zero}
 use Rattle.std.proofs.lemmas.List.{get_or-take, get_or-drop, get_or_append_left, ext_get_or}
 use Rattle.std.proofs.lemmas.List.FromFn.{get_or-map-range_with_len, length-map-range_with_len}
 use Rattle.nest_memory.specs.Bits.{bit, bits_from}
-use Rattle.nest_memory.specs.Cut.{cut}
+use Rattle.nest_memory.specs.Sublist.{sublist}
 use Rattle.std.proofs.lemmas.Bool.{le-leb}
 use Rattle.ipc_arrays.specs.Decoding.{decoded_bits}
 use Rattle.ipc_arrays.specs.Bitmaps.{byte_value, byte_from, bitmap_bytes}
@@ -36,7 +36,7 @@ packed_bit bits after k h =
     let one : get_or (bitmap_bytes bits ++ after) (k / 8) 0 ≡ byte_from bits (k / 8) = get_or_append_left (bitmap_bytes bits) after 0 (k / 8) (omega arith) ∙ get_or-map-range_with_len (byte_from bits) 0 n (k / 8) (k / 8) 0 within (omega arith) in
     let at : 8 * (k / 8) + k % 8 ≡ k = omega arith in
     ap (λ x. nat_eq (bit_at x (k % 8)) 1) one
-    ∙ number_bit (cut bits (8 * (k / 8)) 8) (k % 8)
+    ∙ number_bit (sublist bits (8 * (k / 8)) 8) (k % 8)
     ∙ get_or-take 8 (drop (8 * (k / 8)) bits) (k % 8) false (omega arith)
     ∙ get_or-drop (8 * (k / 8)) bits (k % 8) false
     ∙ ap (λ j. get_or bits j false) at

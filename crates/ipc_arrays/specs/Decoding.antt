@@ -9,7 +9,7 @@ use Rattle.ipc_flatbuf.specs.declared.error.IpcReadError.TheVariants.{TypeRange,
 use Rattle.ipc_flatbuf.specs.declared.batch.parts.FieldNode.{FieldNode}
 use Rattle.ipc_flatbuf.specs.declared.batch.parts.BufferSpec.{BufferSpec}
 use Rattle.nest_memory.specs.Bits.{bits_from}
-use Rattle.nest_memory.specs.Cut.{cut}
+use Rattle.nest_memory.specs.Sublist.{sublist}
 use Rattle.nest_memory.specs.Physical.{physical_type, primitive_tree}
 use Rattle.nest_memory.specs.Rising.{are_offsets, last_of, to_nat}
 use Rattle.nest_memory.specs.TypeTree as types
@@ -23,7 +23,7 @@ use Rattle.nest_memory.specs.declared.datatypes.physical_type.PrimitiveType.{Pri
 use Rattle.nest_model.specs.Accessors.{validity_of, key_at}
 use Rattle.nest_model.specs.Checks.{most_fields, type_count}
 use Rattle.nest_model.specs.Fits.{child_len}
-use Rattle.nest_model.specs.Layout.{Layout, Layouts, null, boolean, primitive, binary, text, fixed_size_binary, fixed_size_list, list as list_of, map as map_of, struct, union, dictionary, no_layouts, more_layouts, layout_type}
+use Rattle.nest_model.specs.Layout.{Layout, Layouts, null, boolean, primitive, binary, utf8, fixed_size_binary, fixed_size_list, list as list_of, map as map_of, struct, union, dictionary, no_layouts, more_layouts, layout_type}
 use Rattle.nest_model.specs.Meaning.{len}
 use Rattle.nest_model.specs.Part.{Validity, begin, extent, count_rows, field_named, valid_at}
 use Rattle.ipc_arrays.specs.DictionaryKeys.{key_format, key_primitive, zero_at_nulls, is_same_logical_type, dictionary_of}
@@ -55,7 +55,7 @@ first_counts (node ∷ nodes) = checked_counts node.length node.null_count >>= �
 
 -- the bytes from an offset on, of a length, which must be within the body
 unfoldable pub buffer_slice : List ℕ → ℤ → ℤ → Result (List ℕ) IpcReadError
-buffer_slice body (pos offset) (pos size) = if nat_le (offset + size) (length body) then Ok (cut body offset size) else Err BufferRange
+buffer_slice body (pos offset) (pos size) = if nat_le (offset + size) (length body) then Ok (sublist body offset size) else Err BufferRange
 buffer_slice body (negsuc offset) size = Err BufferRange
 buffer_slice body offset (negsuc size) = Err BufferRange
 
@@ -109,7 +109,7 @@ pub record BinaryParts : Type 0 where
 
 -- each value is UTF-8
 unfoldable pub are_utf8 : List ℕ → List ℕ → Bool
-are_utf8 offsets bytes = list_all (λ i. is_utf8 (cut bytes (begin offsets i) (extent offsets i))) (range_with_len 0 (count_rows offsets))
+are_utf8 offsets bytes = list_all (λ i. is_utf8 (sublist bytes (begin offsets i) (extent offsets i))) (range_with_len 0 (count_rows offsets))
 
 -- checks the length of an array: the number of rows for a column; equal, at least, or any for a child
 abbrev pub checked_length : ExpectedLength → ℕ → Result (Unit {0}) IpcReadError
@@ -188,7 +188,7 @@ decoded_binary large t counts body rest = decoded_binary_parts large counts body
 
 -- the same, of UTF-8
 abbrev pub checked_utf8 : Bool → TypeTree → BinaryParts → Result Layout IpcReadError
-checked_utf8 large t s = check (are_utf8 s.offsets s.bytes) Utf8 >>= λ texts. Ok (text large t s.offsets s.bytes s.validity)
+checked_utf8 large t s = check (are_utf8 s.offsets s.bytes) Utf8 >>= λ texts. Ok (utf8 large t s.offsets s.bytes s.validity)
 
 unfoldable pub decoded_utf8 : Bool → TypeTree → NodeCounts → List ℕ → Rest → Result (Layout × Rest) IpcReadError
 decoded_utf8 large t counts body rest = do

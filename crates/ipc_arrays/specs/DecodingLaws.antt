@@ -24,7 +24,7 @@ use Rattle.nest_memory.specs.declared.datatypes.physical_type.PrimitiveType.{Pri
 use Rattle.nest_model.specs.Accessors.{key_kind, key_type_of}
 use Rattle.nest_model.specs.Checks.{most_fields}
 use Rattle.nest_model.specs.Fits.{EachType}
-use Rattle.nest_model.specs.Layout.{Layout, Layouts, no_layouts, more_layouts, layout_type, text}
+use Rattle.nest_model.specs.Layout.{Layout, Layouts, no_layouts, more_layouts, layout_type, utf8}
 use Rattle.nest_model.specs.Meaning.{len, first_len}
 use Rattle.nest_model.specs.Part.{count_rows}
 use Rattle.ipc_arrays.specs.DictionaryKeys.{key_primitive, key_format, AreZeroAtNulls, AreKeysOf, is_same_logical_type}
@@ -147,7 +147,7 @@ binary_is large t counts body rest =
     (λ s e. (refl, found (λ x. count_rows x.0.offsets ≡ counts.slots) _ _ e (strings_long large counts body rest)))
 
 text_of_is : (large : Bool) (t : TypeTree) (s : BinaryParts) (n : ℕ) → count_rows s.offsets ≡ n → IfOk (checked_utf8 large t s) (λ a. (layout_type a ≡ t) × (len a ≡ n))
-text_of_is large t s n h = checked (λ (a : Layout). (layout_type a ≡ t) × (len a ≡ n)) (are_utf8 s.offsets s.bytes) Utf8 (λ texts. Ok (text large t s.offsets s.bytes s.validity)) (λ e. (refl, h))
+text_of_is large t s n h = checked (λ (a : Layout). (layout_type a ≡ t) × (len a ≡ n)) (are_utf8 s.offsets s.bytes) Utf8 (λ texts. Ok (utf8 large t s.offsets s.bytes s.validity)) (λ e. (refl, h))
 
 text_is : (large : Bool) (t : TypeTree) (counts : NodeCounts) (body : List ℕ) (rest : Rest) → IfOk (decoded_utf8 large t counts body rest) (IsOf t counts.slots)
 unfolding decoded_utf8

@@ -12,7 +12,7 @@ use Rattle.nest_memory.specs.declared.datatypes.IntegerType.TheVariants as integ
 use Rattle.nest_memory.specs.declared.datatypes.physical_type.PhysicalType.TheVariants as physical
 use Rattle.nest_memory.specs.declared.datatypes.physical_type.PrimitiveType.{PrimitiveType}
 use Rattle.nest_memory.specs.declared.datatypes.physical_type.PrimitiveType.TheVariants as primitives
-use Rattle.nest_model.specs.Accessors.{key_at, key_kind, whole}
+use Rattle.nest_model.specs.Accessors.{key_at, key_kind, as_integer}
 use Rattle.nest_model.specs.Fits.{is_dictionary}
 use Rattle.nest_model.specs.Layout.{primitive}
 use Rattle.nest_model.specs.Part.{Validity, valid_at}
@@ -37,7 +37,7 @@ pub blank_key : (k : PrimitiveType) (t : TypeTree) (va : Validity) (values : Lis
 blank_key k t va values i lt none =
     let long = blanked_long va values in
     let place : get_or (zero_at_nulls va values) i null_key ≡ null_key = blank_place va values i lt null_key ∙ ap (λ (b : Bool). if b then get_or values i null_key else null_key) none in
-    get_or-map whole (zero_at_nulls va values) i null_key (pos 0) (omega (arith, lt, long)) ∙ ap whole place
+    get_or-map as_integer (zero_at_nulls va values) i null_key (pos 0) (omega (arith, lt, long)) ∙ ap as_integer place
 
 -- ---- native types of keys
 

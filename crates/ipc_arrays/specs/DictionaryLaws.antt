@@ -15,7 +15,7 @@ use Rattle.nest_memory.specs.declared.datatypes.IntegerType.{IntegerType}
 use Rattle.nest_memory.specs.declared.datatypes.IntegerType.TheVariants as integers
 use Rattle.nest_memory.specs.declared.datatypes.physical_type.PhysicalType.TheVariants as physical
 use Rattle.nest_memory.specs.declared.datatypes.physical_type.PrimitiveType.{PrimitiveType}
-use Rattle.nest_model.specs.Accessors.{validity_of, whole, key_at}
+use Rattle.nest_model.specs.Accessors.{validity_of, as_integer, key_at}
 use Rattle.nest_model.specs.Fits.{Names, IsLogically, EachValidNames}
 use Rattle.nest_model.specs.Layout.{Layout, primitive}
 use Rattle.nest_model.specs.Meaning.{len}
@@ -93,12 +93,12 @@ blank_twice va wa values same =
     ∙ once (valid_at va i) (get_or values i null_key) null_key)
 
 -- a valid key does not change
-pub key_stays : (va : Validity) (values : List (List ℤ)) (i : ℕ) → i < length values → valid_at va i ≡ true → get_or (map whole (zero_at_nulls va values)) i (pos 0) ≡ get_or (map whole values) i (pos 0)
+pub key_stays : (va : Validity) (values : List (List ℤ)) (i : ℕ) → i < length values → valid_at va i ≡ true → get_or (map as_integer (zero_at_nulls va values)) i (pos 0) ≡ get_or (map as_integer values) i (pos 0)
 key_stays va values i lt valid =
     let there : key_or_zero va values i ≡ get_or values i null_key = ap (λ (b : Bool). if b then get_or values i null_key else null_key) valid in
-    get_or-map whole (zero_at_nulls va values) i []
-    ∙ ap whole (blank_place va values i lt [] ∙ there ∙ get_or_default values i null_key [] lt)
-    ∙ sym (get_or-map whole values i [])
+    get_or-map as_integer (zero_at_nulls va values) i []
+    ∙ ap as_integer (blank_place va values i lt [] ∙ there ∙ get_or_default values i null_key [] lt)
+    ∙ sym (get_or-map as_integer values i [])
 
 -- so it is an index of the same value
 pub names_stay : (p q : PrimitiveType) (t u : TypeTree) (va wa : Validity) (values : List (List ℤ)) (n : ℕ) → ((i : ℕ) → valid_at va i ≡ valid_at wa i) → EachValidNames va (primitive p t values va) n → EachValidNames wa (primitive q u (zero_at_nulls va values) wa) n

@@ -7,14 +7,14 @@ use Rattle.ipc_flatbuf.specs.declared.batch.parts.FieldNode.{FieldNode}
 use Rattle.nest_memory.specs.Native.{unsigned}
 use Rattle.nest_model.specs.Accessors.{validity_of, with_validity}
 use Rattle.nest_model.specs.Fits.{covered}
-use Rattle.nest_memory.specs.Cut.{cut}
+use Rattle.nest_memory.specs.Sublist.{sublist}
 use Rattle.nest_memory.specs.Physical.{primitive_tree}
 use Rattle.nest_memory.specs.TypeTree.{size_of}
-use Rattle.nest_model.specs.Cut.{cut_layout}
-use Rattle.nest_model.specs.Layout.{Layout, Layouts, null, boolean, primitive, binary, text, fixed_size_binary, fixed_size_list, list as list_of, map as map_of, struct, union, dictionary, no_layouts, more_layouts, layout_type}
+use Rattle.nest_model.specs.Slice.{slice_layout}
+use Rattle.nest_model.specs.Layout.{Layout, Layouts, null, boolean, primitive, binary, utf8, fixed_size_binary, fixed_size_list, list as list_of, map as map_of, struct, union, dictionary, no_layouts, more_layouts, layout_type}
 use Rattle.nest_model.specs.Meaning.{len}
 use Rattle.nest_model.specs.Nullness.{null_count}
-use Rattle.nest_model.specs.Part.{Validity, begin, cut_validity}
+use Rattle.nest_model.specs.Part.{Validity, begin, sliced_validity}
 use Rattle.nest_model.specs.SameArray.{IsSameArray}
 use Rattle.nest_array.specs.WindowParts.{WindowParts, window_parts}
 use Rattle.ipc_flatbuf.specs.Batches.{spec_all_within}
@@ -43,7 +43,7 @@ normalized_keys a = a
 -- dictionary are not written.
 abbrev pub normalized_flat : Layout → Layout
 normalized_flat (binary large t os bs va) = binary large t (rebased os) (covered os bs) (normalized_validity va)
-normalized_flat (text large t os bs va) = text large t (rebased os) (covered os bs) (normalized_validity va)
+normalized_flat (utf8 large t os bs va) = utf8 large t (rebased os) (covered os bs) (normalized_validity va)
 normalized_flat (dictionary t ks c) = dictionary t (normalized_keys ks) c
 normalized_flat a = with_validity a (normalized_validity (validity_of a))
 
@@ -55,13 +55,13 @@ sparse_begin start o n = if n == 0 then 0 else start + o
 -- union, the same slots of each child; of a dense union, whole children.
 abbrev mutual
   pub normalized_slice : Layout → ℕ → ℕ → Layout
-  normalized_slice (fixed_size_list t c va) o n = fixed_size_list t (normalized_slice c (o * size_of t) (n * size_of t)) (normalized_validity (cut_validity va o n))
-  normalized_slice (list_of large t os c va) o n = list_of large t (rebased (cut os o (n + 1))) (normalized_slice c (begin os o) (begin os (o + n) - begin os o)) (normalized_validity (cut_validity va o n))
-  normalized_slice (map_of t os c va) o n = map_of t (rebased (cut os o (n + 1))) (normalized_slice c (begin os o) (begin os (o + n) - begin os o)) (normalized_validity (cut_validity va o n))
-  normalized_slice (struct t cs va) o n = struct t (normalized_each cs o n) (normalized_validity (cut_validity va o n))
-  normalized_slice (union t ks cs None start) o n = union t (cut ks o n) (normalized_each cs (sparse_begin start o n) n) None 0
-  normalized_slice (union t ks cs (Some os) start) o n = union t (cut ks o n) (normalized_all cs) (Some (cut os o n)) 0
-  normalized_slice a o n = normalized_flat (cut_layout a o n)
+  normalized_slice (fixed_size_list t c va) o n = fixed_size_list t (normalized_slice c (o * size_of t) (n * size_of t)) (normalized_validity (sliced_validity va o n))
+  normalized_slice (list_of large t os c va) o n = list_of large t (rebased (sublist os o (n + 1))) (normalized_slice c (begin os o) (begin os (o + n) - begin os o)) (normalized_validity (sliced_validity va o n))
+  normalized_slice (map_of t os c va) o n = map_of t (rebased (sublist os o (n + 1))) (normalized_slice c (begin os o) (begin os (o + n) - begin os o)) (normalized_validity (sliced_validity va o n))
+  normalized_slice (struct t cs va) o n = struct t (normalized_each cs o n) (normalized_validity (sliced_validity va o n))
+  normalized_slice (union t ks cs None start) o n = union t (sublist ks o n) (normalized_each cs (sparse_begin start o n) n) None 0
+  normalized_slice (union t ks cs (Some os) start) o n = union t (sublist ks o n) (normalized_all cs) (Some (sublist os o n)) 0
+  normalized_slice a o n = normalized_flat (slice_layout a o n)
 
   pub normalized_each : Layouts → ℕ → ℕ → Layouts
   normalized_each no_layouts o n = no_layouts
@@ -135,7 +135,7 @@ own_buffers (boolean t bits va) = validity_bytes va ∷ bitmap_bytes bits ∷ []
 own_buffers (primitive k t values va) = validity_bytes va ∷ bytes_by (format_of k) values ∷ []
 own_buffers (fixed_size_binary t bs va) = validity_bytes va ∷ bs ∷ []
 own_buffers (binary large t os bs va) = validity_bytes va ∷ offset_bytes large os ∷ bs ∷ []
-own_buffers (text large t os bs va) = validity_bytes va ∷ offset_bytes large os ∷ bs ∷ []
+own_buffers (utf8 large t os bs va) = validity_bytes va ∷ offset_bytes large os ∷ bs ∷ []
 own_buffers (fixed_size_list t c va) = validity_bytes va ∷ []
 own_buffers (list_of large t os c va) = validity_bytes va ∷ offset_bytes large os ∷ []
 own_buffers (map_of t os c va) = validity_bytes va ∷ offset_bytes false os ∷ []
@@ -199,7 +199,7 @@ is_flat (boolean t bits va) = true
 is_flat (primitive k t values va) = is_some (format_of k)
 is_flat (fixed_size_binary t bs va) = true
 is_flat (binary large t os bs va) = true
-is_flat (text large t os bs va) = true
+is_flat (utf8 large t os bs va) = true
 is_flat (dictionary t ks c) = true
 is_flat a = false
 

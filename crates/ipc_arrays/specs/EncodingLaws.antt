@@ -10,12 +10,12 @@ use Rattle.ipc_flatbuf.specs.FlatbufferLaws.{From}
 use Rattle.ipc_flatbuf.specs.declared.batch.parts.FieldNode.{FieldNode}
 use Rattle.ipc_flatbuf.specs.declared.batch.parts.BufferSpec.{BufferSpec}
 use Rattle.nest_memory.specs.Bits.{bits_from}
-use Rattle.nest_memory.specs.Cut.{cut}
+use Rattle.nest_memory.specs.Sublist.{sublist}
 use Rattle.nest_memory.specs.Native.{unsigned}
 use Rattle.nest_memory.specs.Rising.{last_of}
 use Rattle.nest_memory.specs.TypeTree as types
 use Rattle.nest_memory.specs.TypeTree.{TypeTree, size_of, key_type, value_type}
-use Rattle.nest_memory.specs.Physical.{physical_type, primitive_tree, binary_of_width, text_of_width}
+use Rattle.nest_memory.specs.Physical.{physical_type, primitive_tree, binary_of_width, utf8_of_width}
 use Rattle.nest_memory.specs.declared.datatypes.IntegerType.{IntegerType}
 use Rattle.nest_memory.specs.declared.datatypes.IntegerType.TheVariants as integers
 use Rattle.nest_memory.specs.declared.datatypes.physical_type.PhysicalType.{PhysicalType}
@@ -25,12 +25,12 @@ use Rattle.nest_memory.specs.declared.datatypes.physical_type.PrimitiveType.TheV
 use Rattle.nest_model.specs.Accessors.{validity_of, key_at}
 use Rattle.nest_model.specs.Array.{TopFits, AreKeys, AreOffsets}
 use Rattle.nest_model.specs.Fits.{ValidityFits, IsLogically, EachValidNames, covered}
-use Rattle.nest_model.specs.Cut.{cut_layout, cut_offsets}
-use Rattle.nest_model.specs.Layout.{Layout, null, boolean, primitive, binary, text, fixed_size_binary, fixed_size_list, list as list_of, map as map_of, struct, union, dictionary, layout_type}
+use Rattle.nest_model.specs.Slice.{slice_layout, slice_offsets}
+use Rattle.nest_model.specs.Layout.{Layout, null, boolean, primitive, binary, utf8, fixed_size_binary, fixed_size_list, list as list_of, map as map_of, struct, union, dictionary, layout_type}
 use Rattle.nest_model.specs.Meaning.{len, slot}
 use Rattle.nest_model.specs.Nullness.{null_count, is_null_at}
 use Rattle.nest_model.specs.NullnessLaws.{null_count-bits, null_count-none}
-use Rattle.nest_model.specs.Part.{Validity, valid_at, count_rows, place as named_place}
+use Rattle.nest_model.specs.Part.{Validity, valid_at, count_rows, to_index as named_place}
 use Rattle.nest_model.specs.Slot as slots
 use Rattle.nest_model.specs.Slot.{Slot}
 use Rattle.ipc_arrays.specs.Decoding.{Rest, first_counts, decoded_node, decoded_buffer, decoded_validity_buffer, decoded_bits, decoded_validity, decoded_bytes, decoded_data, are_utf8, checked_length, decoded_boolean, decoded_primitive, decoded_fixed_size_binary, decoded_variable_size_head, decoded_binary_parts, decoded_binary, decoded_utf8, decoded_values, decoded_keys_as, are_keys_in_range, first_values, decoded_dictionary_values, decoded_dictionary, decoded_fixed_width, decoded_flat, decoded_offsets, decoded_array}
@@ -68,7 +68,7 @@ ValuesRoundTrip (boolean t bits validity) = Unit {0}
 ValuesRoundTrip (primitive k t values validity) = RoundTripsInFormat (format_of k) values
 ValuesRoundTrip (fixed_size_binary t bs validity) = Unit {0}
 ValuesRoundTrip (binary large t os bs validity) = OffsetsRoundTrip large os
-ValuesRoundTrip (text large t os bs validity) = OffsetsRoundTrip large os
+ValuesRoundTrip (utf8 large t os bs validity) = OffsetsRoundTrip large os
 ValuesRoundTrip (dictionary t ks c) = KeysRoundTrip ks
 ValuesRoundTrip a = ⊥
 
@@ -87,11 +87,11 @@ UnionPartsRoundTrip ks (Some os) = NumbersRoundTrip type_format ks × NumbersRou
 -- the values of the n slots from index o on round-trip, without those of children
 abbrev pub OwnBuffersRoundTrip : Layout → ℕ → ℕ → Type 0
 OwnBuffersRoundTrip (fixed_size_list t c va) o n = Unit {0}
-OwnBuffersRoundTrip (list_of large t os c va) o n = OffsetsRoundTrip large (cut os o (n + 1))
-OwnBuffersRoundTrip (map_of t os c va) o n = OffsetsRoundTrip false (cut os o (n + 1))
+OwnBuffersRoundTrip (list_of large t os c va) o n = OffsetsRoundTrip large (sublist os o (n + 1))
+OwnBuffersRoundTrip (map_of t os c va) o n = OffsetsRoundTrip false (sublist os o (n + 1))
 OwnBuffersRoundTrip (struct t cs va) o n = Unit {0}
-OwnBuffersRoundTrip (union t ks cs os start) o n = UnionPartsRoundTrip (cut ks o n) (cut_offsets os o n)
-OwnBuffersRoundTrip a o n = ValuesRoundTrip (cut_layout a o n)
+OwnBuffersRoundTrip (union t ks cs os start) o n = UnionPartsRoundTrip (sublist ks o n) (slice_offsets os o n)
+OwnBuffersRoundTrip a o n = ValuesRoundTrip (slice_layout a o n)
 
 -- ---- validities
 
@@ -282,8 +282,8 @@ unfolding decoded_binary
 binary_again large t os bs va whole place tail ns more fits round_trips h = rw (strings_again large os bs va whole place tail ns more fits.0 fits.1.0 round_trips fits.1.1.0 h) refl
 
 text_again : (large : Bool) (t : TypeTree) (os bs : List ℕ) (va : Validity) (whole : List ℕ) (place : ℕ) (tail : List ℕ) (ns : Later) (more : List BufferSpec)
-    → TopFits (text large t os bs va) → OffsetsRoundTrip large os → From whole place (body_of (string_buffers large os bs va) ++ tail)
-    → decoded_utf8 large t (counts (count_rows os) va) whole (rest_with ns (buffer_specs place (string_buffers large os bs va) ++ more)) ≡ Ok (normalized_flat (text large t os bs va), rest_with ns more)
+    → TopFits (utf8 large t os bs va) → OffsetsRoundTrip large os → From whole place (body_of (string_buffers large os bs va) ++ tail)
+    → decoded_utf8 large t (counts (count_rows os) va) whole (rest_with ns (buffer_specs place (string_buffers large os bs va) ++ more)) ≡ Ok (normalized_flat (utf8 large t os bs va), rest_with ns more)
 unfolding decoded_utf8
 text_again large t os bs va whole place tail ns more fits round_trips h =
     let texts : are_utf8 (rebased os) (covered os bs) ≡ true = texts_again os bs fits.0 fits.1.1.0 in
@@ -329,7 +329,7 @@ binary_kind : (large : Bool) (t : TypeTree) (c : NodeCounts) (whole : List ℕ) 
 binary_kind true t c whole rest e = kind_in t physical.LargeBinary c whole rest e refl
 binary_kind false t c whole rest e = kind_in t physical.Binary c whole rest e refl
 
-text_kind : (large : Bool) (t : TypeTree) (c : NodeCounts) (whole : List ℕ) (rest : Rest) → physical_type t ≡ text_of_width large → decoded_array t t c whole rest ≡ decoded_utf8 large t c whole rest
+text_kind : (large : Bool) (t : TypeTree) (c : NodeCounts) (whole : List ℕ) (rest : Rest) → physical_type t ≡ utf8_of_width large → decoded_array t t c whole rest ≡ decoded_utf8 large t c whole rest
 text_kind true t c whole rest e = kind_in t physical.LargeUtf8 c whole rest e refl
 text_kind false t c whole rest e = kind_in t physical.Utf8 c whole rest e refl
 
@@ -411,7 +411,7 @@ flat_again (fixed_size_binary t bs va) whole place tail ns more ok h =
     kind_in t physical.FixedSizeBinary _ whole _ ok.fits.1.0 refl
     ∙ fixed_size_binary_again t bs va (len a) whole place tail ns more ok.fits.1.1.0 all ok.fits.1.1.1.1.0 h
 flat_again (binary large t os bs va) whole place tail ns more ok h = binary_kind large t _ whole _ ok.fits.1.1.1.0 ∙ binary_again large t os bs va whole place tail ns more ok.fits ok.numbers h
-flat_again (text large t os bs va) whole place tail ns more ok h = text_kind large t _ whole _ ok.fits.1.1.1.1.0 ∙ text_again large t os bs va whole place tail ns more ok.fits ok.numbers h
+flat_again (utf8 large t os bs va) whole place tail ns more ok h = text_kind large t _ whole _ ok.fits.1.1.1.1.0 ∙ text_again large t os bs va whole place tail ns more ok.fits ok.numbers h
 flat_again (dictionary t ks c) whole place tail ns more ok h = dictionary_again t ks c whole place tail ns more ok h
 flat_again a whole place tail ns more ok h = absurd ok.numbers
 
@@ -430,11 +430,11 @@ key_same t ks c i are lt = absurd are
 
 -- the array that is read has the same slots
 pub flat_same : (a : Layout) (i : ℕ) → IsWritable a → i < len a → slot (normalized_flat a) i ≡ slot a i
-flat_same (boolean t bits va) i ok h = sym (ap (λ (b : Bool). if b then slots.truth (get_or bits i false) else slots.null) (valid_again va i))
+flat_same (boolean t bits va) i ok h = sym (ap (λ (b : Bool). if b then slots.boolean (get_or bits i false) else slots.null) (valid_again va i))
 flat_same (primitive k t values va) i ok h = sym (ap (λ (b : Bool). if b then slots.number (get_or values i []) else slots.null) (valid_again va i))
-flat_same (fixed_size_binary t bs va) i ok h = sym (ap (λ (b : Bool). if b then slots.bytes (cut bs (i * size_of t) (size_of t)) else slots.null) (valid_again va i))
+flat_same (fixed_size_binary t bs va) i ok h = sym (ap (λ (b : Bool). if b then slots.bytes (sublist bs (i * size_of t) (size_of t)) else slots.null) (valid_again va i))
 flat_same (binary large t os bs va) i ok h = sym (λ w. if valid_again va i w then slots.bytes (string_again os bs i ok.fits.0 h w) else slots.null)
-flat_same (text large t os bs va) i ok h = sym (λ w. if valid_again va i w then slots.text (string_again os bs i ok.fits.0 h w) else slots.null)
+flat_same (utf8 large t os bs va) i ok h = sym (λ w. if valid_again va i w then slots.utf8 (string_again os bs i ok.fits.0 h w) else slots.null)
 flat_same (null t n) i ok h = refl
 flat_same (dictionary t ks c) i ok h = key_same t ks c i ok.fits.0 h
 flat_same a i ok h = absurd ok.numbers

@@ -9,7 +9,7 @@ use Rattle.nest_memory.specs.TypeTree as types
 use Rattle.nest_memory.specs.TypeTree.{TypeTree}
 use Rattle.nest_memory.specs.declared.datatypes.IntervalUnit.TheVariants.{DayTime, MonthDayNano as Months}
 use Rattle.nest_memory.specs.declared.datatypes.physical_type.PrimitiveType.TheVariants.{Int32, Int128, Int256, DaysMs, MonthDayNano}
-use Rattle.nest_model.specs.Layout.{Layout, null, boolean, primitive, binary, text, fixed_size_binary}
+use Rattle.nest_model.specs.Layout.{Layout, null, boolean, primitive, binary, utf8, fixed_size_binary}
 use Rattle.ipc_flatbuf.specs.declared.batch.parts.BufferSpec.{BufferSpec}
 use Rattle.ipc_arrays.specs.FixedWidth.{decoded_natives, values_bytes}
 use Rattle.ipc_arrays.specs.Bitmaps.{byte_value, bitmap_bytes}
@@ -164,7 +164,7 @@ large_utf8_column = record {
   rows = 1;
   body = zeros 8 (2 ∷ zeros 7 (104 ∷ 105 ∷ zeros 6 []));
   rest = record { nodes = record { length = pos 1; null_count = pos 0 } ∷ []; buffers = at 0 0 ∷ at 0 16 ∷ at 16 2 ∷ []; dictionaries = [] };
-  column = text true types.large_utf8 (0 ∷ 2 ∷ []) (104 ∷ 105 ∷ []) None;
+  column = utf8 true types.large_utf8 (0 ∷ 2 ∷ []) (104 ∷ 105 ∷ []) None;
 }
 
 pub null_column_decode : DecodesAsStated null_column

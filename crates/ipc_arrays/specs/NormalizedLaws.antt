@@ -5,18 +5,18 @@ use Rattle.std.specs.List.{list_all, flat_map, sum_by}
 use Rattle.std.proofs.lemmas.List.{append-nil}
 use Rattle.std.proofs.lemmas.List.Concat.{flat_map-cons}
 use Rattle.std.proofs.lemmas.List.Sums.{sum_by-cons}
-use Rattle.nest_memory.specs.Cut.{cut}
+use Rattle.nest_memory.specs.Sublist.{sublist}
 use Rattle.nest_memory.specs.TypeTree.{TypeTree, size_of}
 use Rattle.nest_model.specs.Accessors.{validity_of}
 use Rattle.nest_model.specs.Array.{AreKeys, TopFits}
-use Rattle.nest_model.specs.Cut.{cut_layout}
-use Rattle.nest_model.specs.CutLaws.{len-cut}
+use Rattle.nest_model.specs.Slice.{slice_layout}
+use Rattle.nest_model.specs.SliceLaws.{len-cut}
 use Rattle.nest_model.specs.Fits.{ValidityFits}
-use Rattle.nest_model.specs.Layout.{Layout, Layouts, null, boolean, primitive, binary, text, fixed_size_binary, fixed_size_list, list as list_of, map as map_of, struct, union, dictionary, no_layouts, more_layouts, layout_type, weight, weight_all}
+use Rattle.nest_model.specs.Layout.{Layout, Layouts, null, boolean, primitive, binary, utf8, fixed_size_binary, fixed_size_list, list as list_of, map as map_of, struct, union, dictionary, no_layouts, more_layouts, layout_type, weight, weight_all}
 use Rattle.nest_model.specs.Meaning.{len, first_len}
 use Rattle.nest_model.specs.Nullness.{null_count, is_null_at}
 use Rattle.nest_model.specs.NullnessLaws.{null_count-null}
-use Rattle.nest_model.specs.Part.{Validity, begin, cut_validity, valid_at, count_rows}
+use Rattle.nest_model.specs.Part.{Validity, begin, sliced_validity, valid_at, count_rows}
 use Rattle.nest_model.specs.Runs.{length-cut, rows-cut, product-fits, product-over}
 use Rattle.nest_array.specs.Seen.{layout_of, layouts_of}
 use Rattle.nest_array.specs.WindowParts.{WindowParts, window_parts}
@@ -35,7 +35,7 @@ keys_len ks = refl
 
 flat_len : (a : Layout) → len (normalized_flat a) ≡ len a
 flat_len (binary large t os bs va) = rows_again os
-flat_len (text large t os bs va) = rows_again os
+flat_len (utf8 large t os bs va) = rows_again os
 flat_len (null t n) = refl
 flat_len (boolean t bs va) = refl
 flat_len (primitive k t vs va) = refl
@@ -47,26 +47,26 @@ flat_len (struct t cs va) = refl
 flat_len (union t ks cs os start) = refl
 flat_len (dictionary t ks c) = keys_len ks
 
-cut_len : (a : Layout) (o n : ℕ) → o + n ≤ len a → len (normalized_flat (cut_layout a o n)) ≡ n
-cut_len a o n le = flat_len (cut_layout a o n) ∙ len-cut a o n le
+slice_len : (a : Layout) (o n : ℕ) → o + n ≤ len a → len (normalized_flat (slice_layout a o n)) ≡ n
+slice_len a o n le = flat_len (slice_layout a o n) ∙ len-cut a o n le
 
 mutual
   pub normalized_len : (a : Layout) (o n : ℕ) → o + n ≤ len a → len (normalized_slice a o n) ≡ n
   normalized_len (fixed_size_list t c va) o n le =
       ap (λ (m : ℕ). m / size_of t) (normalized_len c (o * size_of t) (n * size_of t) (product-fits o n (len c) (size_of t) le))
       ∙ product-over o n (len c) (size_of t) le
-  normalized_len (list_of large t os c va) o n le = rows_again (cut os o (n + 1)) ∙ rows-cut os o n le
-  normalized_len (map_of t os c va) o n le = rows_again (cut os o (n + 1)) ∙ rows-cut os o n le
+  normalized_len (list_of large t os c va) o n le = rows_again (sublist os o (n + 1)) ∙ rows-cut os o n le
+  normalized_len (map_of t os c va) o n le = rows_again (sublist os o (n + 1)) ∙ rows-cut os o n le
   normalized_len (struct t cs va) o n le = first_normalized cs o n le
   normalized_len (union t ks cs None start) o n le = length-cut ks o n le
   normalized_len (union t ks cs (Some os) start) o n le = length-cut ks o n le
-  normalized_len (null t m) o n le = cut_len (null t m) o n le
-  normalized_len (boolean t bs va) o n le = cut_len (boolean t bs va) o n le
-  normalized_len (primitive k t vs va) o n le = cut_len (primitive k t vs va) o n le
-  normalized_len (binary large t os bs va) o n le = cut_len (binary large t os bs va) o n le
-  normalized_len (text large t os bs va) o n le = cut_len (text large t os bs va) o n le
-  normalized_len (fixed_size_binary t bs va) o n le = cut_len (fixed_size_binary t bs va) o n le
-  normalized_len (dictionary t ks c) o n le = cut_len (dictionary t ks c) o n le
+  normalized_len (null t m) o n le = slice_len (null t m) o n le
+  normalized_len (boolean t bs va) o n le = slice_len (boolean t bs va) o n le
+  normalized_len (primitive k t vs va) o n le = slice_len (primitive k t vs va) o n le
+  normalized_len (binary large t os bs va) o n le = slice_len (binary large t os bs va) o n le
+  normalized_len (utf8 large t os bs va) o n le = slice_len (utf8 large t os bs va) o n le
+  normalized_len (fixed_size_binary t bs va) o n le = slice_len (fixed_size_binary t bs va) o n le
+  normalized_len (dictionary t ks c) o n le = slice_len (dictionary t ks c) o n le
 
   first_normalized : (cs : Layouts) (o n : ℕ) → o + n ≤ first_len cs → first_len (normalized_each cs o n) ≡ n
   first_normalized no_layouts o n le = omega arith
@@ -83,7 +83,7 @@ normalized_type (null t m) o n = refl
 normalized_type (boolean t bs va) o n = refl
 normalized_type (primitive k t vs va) o n = refl
 normalized_type (binary large t os bs va) o n = refl
-normalized_type (text large t os bs va) o n = refl
+normalized_type (utf8 large t os bs va) o n = refl
 normalized_type (fixed_size_binary t bs va) o n = refl
 normalized_type (dictionary t ks c) o n = refl
 
@@ -92,11 +92,11 @@ normalized_type (dictionary t ks c) o n = refl
 -- the null count of a window
 abbrev pub nulls_in : Layout → ℕ → ℕ → ℕ
 nulls_in (null t m) o n = n
-nulls_in a o n = null_bits (cut_validity (validity_of a) o n)
+nulls_in a o n = null_bits (sliced_validity (validity_of a) o n)
 
-pub cut_fits : (va : Validity) (m o n : ℕ) → ValidityFits va m → o + n ≤ m → ValidityFits (cut_validity va o n) n
-cut_fits None m o n fits le = tt
-cut_fits (Some bits) m o n fits le = length-cut bits o n (omega (arith, fits))
+pub slice_fits : (va : Validity) (m o n : ℕ) → ValidityFits va m → o + n ≤ m → ValidityFits (sliced_validity va o n) n
+slice_fits None m o n fits le = tt
+slice_fits (Some bits) m o n fits le = length-cut bits o n (omega (arith, fits))
 
 without_fits : (bits : List Bool) (n : ℕ) (b : Bool) → length bits ≡ n → (eqb (count_by not bits) 0) ≡ b → ValidityFits (normalized_validity (Some bits)) n
 without_fits bits n true fits e = rw e tt
@@ -124,7 +124,7 @@ validity_fits (null t n) h = tt
 validity_fits (boolean t bs va) h = h.1.0
 validity_fits (primitive k t vs va) h = h.1.0
 validity_fits (binary l t os bs va) h = h.1.1.0
-validity_fits (text l t os bs va) h = h.1.1.1.0
+validity_fits (utf8 l t os bs va) h = h.1.1.1.0
 validity_fits (fixed_size_binary t bs va) h = h.1.1.1.1.0
 validity_fits (fixed_size_list t c va) h = h.1.1.1.1.1.0
 validity_fits (list_of l t os c va) h = h.1.1.0
@@ -133,15 +133,15 @@ validity_fits (struct t cs va) h = h.1.1.1.1.1.1.0
 validity_fits (union t ks cs os start) h = tt
 validity_fits (dictionary t ks c) h = keys_fit ks h.0
 
-nulls_by : (s : Layout) (va : Validity) (m o n : ℕ) → is_null_at s 0 ≡ not (valid_at (normalized_validity (cut_validity va o n)) 0) → validity_of s ≡ normalized_validity (cut_validity va o n) → ValidityFits va m → o + n ≤ m → len s ≡ n → null_count s ≡ null_bits (cut_validity va o n)
+nulls_by : (s : Layout) (va : Validity) (m o n : ℕ) → is_null_at s 0 ≡ not (valid_at (normalized_validity (sliced_validity va o n)) 0) → validity_of s ≡ normalized_validity (sliced_validity va o n) → ValidityFits va m → o + n ≤ m → len s ≡ n → null_count s ≡ null_bits (sliced_validity va o n)
 nulls_by s va m o n some is fits le long =
-    nulls_are s (normalized_validity (cut_validity va o n)) some is (rw long (normalized_fits (cut_validity va o n) n (cut_fits va m o n fits le)))
-    ∙ normalized_unset (cut_validity va o n)
+    nulls_are s (normalized_validity (sliced_validity va o n)) some is (rw long (normalized_fits (sliced_validity va o n) n (slice_fits va m o n fits le)))
+    ∙ normalized_unset (sliced_validity va o n)
 
-cut_few : (va : Validity) (m o n : ℕ) → ValidityFits va m → o + n ≤ m → null_bits (cut_validity va o n) ≤ n
-cut_few va m o n fits le = unset_few (cut_validity va o n) n (cut_fits va m o n fits le)
+cut_few : (va : Validity) (m o n : ℕ) → ValidityFits va m → o + n ≤ m → null_bits (sliced_validity va o n) ≤ n
+cut_few va m o n fits le = unset_few (sliced_validity va o n) n (slice_fits va m o n fits le)
 
-keys_nulls : (t : TypeTree) (ks c : Layout) (o n : ℕ) → AreKeys ks → o + n ≤ len ks → null_count (normalized_slice (dictionary t ks c) o n) ≡ null_bits (cut_validity (validity_of ks) o n)
+keys_nulls : (t : TypeTree) (ks c : Layout) (o n : ℕ) → AreKeys ks → o + n ≤ len ks → null_count (normalized_slice (dictionary t ks c) o n) ≡ null_bits (sliced_validity (validity_of ks) o n)
 keys_nulls t (primitive k u vs va) c o n are le =
     let s : Layout = normalized_slice (dictionary t (primitive k u vs va) c) o n in
     nulls_by s va (length vs) o n refl refl are.1.0 le (normalized_len (dictionary t (primitive k u vs va) c) o n le)
@@ -153,7 +153,7 @@ normalized_nulls (dictionary t ks c) o n fits format le = keys_nulls t ks c o n 
 normalized_nulls (boolean t bs va) o n fits format le = nulls_by (normalized_slice (boolean t bs va) o n) va (len (boolean t bs va)) o n refl refl (validity_fits (boolean t bs va) fits) le (normalized_len (boolean t bs va) o n le)
 normalized_nulls (primitive k t vs va) o n fits format le = nulls_by (normalized_slice (primitive k t vs va) o n) va (len (primitive k t vs va)) o n refl refl (validity_fits (primitive k t vs va) fits) le (normalized_len (primitive k t vs va) o n le)
 normalized_nulls (binary l t os bs va) o n fits format le = nulls_by (normalized_slice (binary l t os bs va) o n) va (len (binary l t os bs va)) o n refl refl (validity_fits (binary l t os bs va) fits) le (normalized_len (binary l t os bs va) o n le)
-normalized_nulls (text l t os bs va) o n fits format le = nulls_by (normalized_slice (text l t os bs va) o n) va (len (text l t os bs va)) o n refl refl (validity_fits (text l t os bs va) fits) le (normalized_len (text l t os bs va) o n le)
+normalized_nulls (utf8 l t os bs va) o n fits format le = nulls_by (normalized_slice (utf8 l t os bs va) o n) va (len (utf8 l t os bs va)) o n refl refl (validity_fits (utf8 l t os bs va) fits) le (normalized_len (utf8 l t os bs va) o n le)
 normalized_nulls (fixed_size_binary t bs va) o n fits format le = nulls_by (normalized_slice (fixed_size_binary t bs va) o n) va (len (fixed_size_binary t bs va)) o n refl refl (validity_fits (fixed_size_binary t bs va) fits) le (normalized_len (fixed_size_binary t bs va) o n le)
 normalized_nulls (fixed_size_list t c va) o n fits format le = nulls_by (normalized_slice (fixed_size_list t c va) o n) va (len (fixed_size_list t c va)) o n refl refl (validity_fits (fixed_size_list t c va) fits) le (normalized_len (fixed_size_list t c va) o n le)
 normalized_nulls (list_of l t os c va) o n fits format le = nulls_by (normalized_slice (list_of l t os c va) o n) va (count_rows os) o n refl refl (validity_fits (list_of l t os c va) fits) le (normalized_len (list_of l t os c va) o n le)
@@ -171,14 +171,14 @@ pub nulls_all : (a : Layout) (o n : ℕ) → is_null_layout a ≡ true → null_
 nulls_all (null t m) o n e = null_count-null (null t n) refl refl
 nulls_all a o n e = cc
 
-nulls_other : (a : Layout) (o n : ℕ) → is_null_layout a ≡ false → nulls_in a o n ≡ null_bits (cut_validity (validity_of a) o n)
+nulls_other : (a : Layout) (o n : ℕ) → is_null_layout a ≡ false → nulls_in a o n ≡ null_bits (sliced_validity (validity_of a) o n)
 nulls_other (null t m) o n e = cc
 nulls_other a o n e = refl
 
-pub nulls_unset : (a : Layout) (o n : ℕ) → TopFits a → is_supported a ≡ true → o + n ≤ len a → is_null_layout a ≡ false → null_count (normalized_slice a o n) ≡ null_bits (cut_validity (validity_of a) o n)
+pub nulls_unset : (a : Layout) (o n : ℕ) → TopFits a → is_supported a ≡ true → o + n ≤ len a → is_null_layout a ≡ false → null_count (normalized_slice a o n) ≡ null_bits (sliced_validity (validity_of a) o n)
 nulls_unset a o n fits format le e = normalized_nulls a o n fits format le ∙ nulls_other a o n e
 
-pub unset_within : (a : Layout) (o n : ℕ) → TopFits a → o + n ≤ len a → null_bits (cut_validity (validity_of a) o n) ≤ n
+pub unset_within : (a : Layout) (o n : ℕ) → TopFits a → o + n ≤ len a → null_bits (sliced_validity (validity_of a) o n) ≤ n
 unset_within a o n fits le = cut_few (validity_of a) (len a) o n (validity_fits a fits) le
 
 pub nulls_few : (a : Layout) (o n : ℕ) → TopFits a → o + n ≤ len a → nulls_in a o n ≤ n
@@ -186,7 +186,7 @@ nulls_few (null t m) o n fits le = omega arith
 nulls_few (boolean t bs va) o n fits le = cut_few va (length bs) o n fits.1.0 le
 nulls_few (primitive k t vs va) o n fits le = cut_few va (length vs) o n fits.1.0 le
 nulls_few (binary l t os bs va) o n fits le = cut_few va (count_rows os) o n fits.1.1.0 le
-nulls_few (text l t os bs va) o n fits le = cut_few va (count_rows os) o n fits.1.1.1.0 le
+nulls_few (utf8 l t os bs va) o n fits le = cut_few va (count_rows os) o n fits.1.1.1.0 le
 nulls_few (fixed_size_binary t bs va) o n fits le = cut_few va (len (fixed_size_binary t bs va)) o n fits.1.1.1.1.0 le
 nulls_few (fixed_size_list t c va) o n fits le = cut_few va (len (fixed_size_list t c va)) o n fits.1.1.1.1.1.0 le
 nulls_few (list_of l t os c va) o n fits le = cut_few va (count_rows os) o n fits.1.1.0 le
@@ -232,7 +232,7 @@ arrays_normalized (null t m) o n = ap (λ (x : List Layout). normalized_slice (n
 arrays_normalized (boolean t bs va) o n = ap (λ (x : List Layout). normalized_slice (boolean t bs va) o n ∷ x) (sym written_none)
 arrays_normalized (primitive k t vs va) o n = ap (λ (x : List Layout). normalized_slice (primitive k t vs va) o n ∷ x) (sym written_none)
 arrays_normalized (binary l t os bs va) o n = ap (λ (x : List Layout). normalized_slice (binary l t os bs va) o n ∷ x) (sym written_none)
-arrays_normalized (text l t os bs va) o n = ap (λ (x : List Layout). normalized_slice (text l t os bs va) o n ∷ x) (sym written_none)
+arrays_normalized (utf8 l t os bs va) o n = ap (λ (x : List Layout). normalized_slice (utf8 l t os bs va) o n ∷ x) (sym written_none)
 arrays_normalized (fixed_size_binary t bs va) o n = ap (λ (x : List Layout). normalized_slice (fixed_size_binary t bs va) o n ∷ x) (sym written_none)
 arrays_normalized (dictionary t ks c) o n = ap (λ (x : List Layout). normalized_slice (dictionary t ks c) o n ∷ x) (sym written_none)
 
@@ -256,22 +256,22 @@ pass_append p (x ∷ xs) ys = ap (λ (b : Bool). p x && b) (pass_append p xs ys)
     and_assoc false b c = refl
 
 -- a window without children is normalized as its slice
-pub flat_normalized : (a : Layout) (o n : ℕ) → is_flat a ≡ true → normalized_slice a o n ≡ normalized_flat (cut_layout a o n)
+pub flat_normalized : (a : Layout) (o n : ℕ) → is_flat a ≡ true → normalized_slice a o n ≡ normalized_flat (slice_layout a o n)
 flat_normalized (null t m) o n flat = refl
 flat_normalized (boolean t bs va) o n flat = refl
 flat_normalized (primitive k t vs va) o n flat = refl
 flat_normalized (binary l t os bs va) o n flat = refl
-flat_normalized (text l t os bs va) o n flat = refl
+flat_normalized (utf8 l t os bs va) o n flat = refl
 flat_normalized (fixed_size_binary t bs va) o n flat = refl
 flat_normalized (dictionary t ks c) o n flat = refl
 flat_normalized a o n flat = cc
 
-pub flat_cut : (a : Layout) (o n : ℕ) → is_flat a ≡ true → is_flat (cut_layout a o n) ≡ true
+pub flat_cut : (a : Layout) (o n : ℕ) → is_flat a ≡ true → is_flat (slice_layout a o n) ≡ true
 flat_cut (null t m) o n flat = refl
 flat_cut (boolean t bs va) o n flat = refl
 flat_cut (primitive k t vs va) o n flat = flat
 flat_cut (binary l t os bs va) o n flat = refl
-flat_cut (text l t os bs va) o n flat = refl
+flat_cut (utf8 l t os bs va) o n flat = refl
 flat_cut (fixed_size_binary t bs va) o n flat = refl
 flat_cut (dictionary t ks c) o n flat = refl
 flat_cut a o n flat = cc

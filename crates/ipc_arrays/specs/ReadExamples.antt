@@ -11,7 +11,7 @@ use Rattle.nest_memory.specs.TypeTree.{TypeTree, FieldTree, field, no_fields, mo
 use Rattle.nest_memory.specs.declared.datatypes.IntegerType.TheVariants as integers
 use Rattle.nest_memory.specs.declared.datatypes.UnionMode.TheVariants.{Dense, Sparse}
 use Rattle.nest_memory.specs.declared.datatypes.physical_type.PrimitiveType.TheVariants.{Int8, UInt16}
-use Rattle.nest_model.specs.Layout.{Layout, null, boolean, primitive, text, fixed_size_list, list as list_of, map as map_of, struct, union, dictionary, no_layouts, more_layouts}
+use Rattle.nest_model.specs.Layout.{Layout, null, boolean, primitive, utf8, fixed_size_list, list as list_of, map as map_of, struct, union, dictionary, no_layouts, more_layouts}
 use Rattle.ipc_arrays.specs.DictionaryKeys.{zero_at_nulls}
 use Rattle.ipc_arrays.specs.FixedWidth.{decoded_natives}
 use Rattle.ipc_arrays.specs.Decoding.{Rest, first_counts, buffer_slice, first_buffer, decoded_bits, decoded_validity, decoded_node, decoded_buffer, decoded_validity_buffer, decoded_values, decoded_primitive, decoded_boolean, checked_offsets, decoded_offsets, decoded_variable_size_head, decoded_types, decoded_union_parts, decoded_keys_as, first_values, decoded_dictionary_values, decoded_dictionary, decoded_column}
@@ -328,7 +328,7 @@ bare_dense_union_are = refl
 
 -- "hi", "j"
 abbrev pub words : Layout
-words = text false types.utf8 (0 ∷ 2 ∷ 3 ∷ []) (104 ∷ 105 ∷ 106 ∷ []) None
+words = utf8 false types.utf8 (0 ∷ 2 ∷ 3 ∷ []) (104 ∷ 105 ∷ 106 ∷ []) None
 
 -- "j", null, "hi": the key of the null slot is 9
 abbrev pub dictionary_column : EncodedColumn

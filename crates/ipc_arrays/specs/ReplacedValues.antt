@@ -13,7 +13,7 @@ use Rattle.nest_model.specs.Fits.{ValidityFits, EachType, EachLen, EachCovers, E
 use Rattle.nest_model.specs.Layout.{Layout, Layouts, fixed_size_list, list as list_of, map as map_of, struct, union, dictionary, no_layouts, more_layouts, layout_type, count_layouts}
 use Rattle.nest_model.specs.Meaning.{len, first_len, slot, each, picked, run, slots_of}
 use Rattle.nest_model.specs.Nullness.{is_null_at}
-use Rattle.nest_model.specs.Part.{begin, extent, count_rows, valid_at, field_named, place}
+use Rattle.nest_model.specs.Part.{begin, extent, count_rows, valid_at, field_named, to_index}
 use Rattle.nest_model.specs.Reads.{slots-length, slot-place}
 use Rattle.nest_model.specs.Runs.{product-sum, product-within, run-ext}
 use Rattle.nest_model.specs.Slot as slots
@@ -419,13 +419,13 @@ slot_alike (union t ks cs (Some os) start) b o n i fits le h all lt =
     let offset : ℤ = get_or os (o + i) (pos 0) in
     let there = fits.1.1.1.1.1.1.1.1.1.1.0 in
     ap (λ (x : Layout). slot x (o + i)) h.1
-    ∙ of_same (field_named (ids_of t) type) (λ f. picked f h.0 f (place offset)) (λ f. picked f cs f (place offset))
-    (λ f m. picked_there f cs h.0 f (place offset) h.2 all (place_named offset (child_len cs (Some f)) (subst (λ (k : Option ℕ). Names offset (child_len cs k)) m (there (o + i) (omega arith)))))
+    ∙ of_same (field_named (ids_of t) type) (λ f. picked f h.0 f (to_index offset)) (λ f. picked f cs f (to_index offset))
+    (λ f m. picked_there f cs h.0 f (to_index offset) h.2 all (place_named offset (child_len cs (Some f)) (subst (λ (k : Option ℕ). Names offset (child_len cs k)) m (there (o + i) (omega arith)))))
 slot_alike (dictionary t ks c) b o n i fits le h all lt =
     let key : ℤ = key_at ks (o + i) in
     ap (λ (x : Layout). slot x (o + i)) h.1
-    ∙ where_valid (valid_at (validity_of ks) (o + i)) (slot h.0 (place key)) (slot c (place key))
-    (λ valid. value_same c h.0 (place key) h.2 (place_named key (len c) (fits.1.1.1.1 (o + i) (omega arith) valid)))
+    ∙ where_valid (valid_at (validity_of ks) (o + i)) (slot h.0 (to_index key)) (slot c (to_index key))
+    (λ valid. value_same c h.0 (to_index key) h.2 (place_named key (len c) (fits.1.1.1.1 (o + i) (omega arith) valid)))
 slot_alike a b o n i fits le h all lt = ap (λ (x : Layout). slot x (o + i)) h
 
 -- ---- round trips

@@ -11,7 +11,7 @@ use Rattle.ipc_flatbuf.specs.declared.error.IpcReadError.{IpcReadError}
 use Rattle.ipc_flatbuf.specs.declared.error.IpcReadError.TheVariants.{TypeRange, UnsupportedType}
 use Rattle.ipc_flatbuf.specs.declared.batch.parts.FieldNode.{FieldNode}
 use Rattle.ipc_flatbuf.specs.declared.batch.parts.BufferSpec.{BufferSpec}
-use Rattle.nest_memory.specs.Cut.{cut}
+use Rattle.nest_memory.specs.Sublist.{sublist}
 use Rattle.nest_memory.specs.Physical.{physical_type, list_of_width}
 use Rattle.nest_memory.specs.Rising.{last_of}
 use Rattle.nest_memory.specs.TypeTree as types
@@ -22,13 +22,13 @@ use Rattle.nest_memory.specs.declared.datatypes.physical_type.PhysicalType.TheVa
 use Rattle.nest_model.specs.Accessors.{validity_of}
 use Rattle.nest_model.specs.Array.{AreOffsets, TopFits}
 use Rattle.nest_model.specs.Checks.{most_fields, type_count}
-use Rattle.nest_model.specs.Cut.{cut_layout}
-use Rattle.nest_model.specs.CutLaws.{len-cut, slot-cut, type-cut}
+use Rattle.nest_model.specs.Slice.{slice_layout}
+use Rattle.nest_model.specs.SliceLaws.{len-cut, slot-cut, type-cut}
 use Rattle.nest_model.specs.Fits.{ValidityFits, EachType, EachOffsetNames, IdsCount, IdsInRange, Names, MeansField, child_len}
 use Rattle.nest_model.specs.FitsLaws.{parts-cut, top-fits-cut}
-use Rattle.nest_model.specs.Layout.{Layout, Layouts, null, boolean, primitive, binary, text, fixed_size_binary, fixed_size_list, list as list_of, map as map_of, struct, union, dictionary, no_layouts, more_layouts, layout_type, count_layouts}
+use Rattle.nest_model.specs.Layout.{Layout, Layouts, null, boolean, primitive, binary, utf8, fixed_size_binary, fixed_size_list, list as list_of, map as map_of, struct, union, dictionary, no_layouts, more_layouts, layout_type, count_layouts}
 use Rattle.nest_model.specs.Meaning.{len, first_len, slot, each, picked, of_field, run}
-use Rattle.nest_model.specs.Part.{Validity, begin, extent, cut_validity, valid_at, count_rows, field_named, place}
+use Rattle.nest_model.specs.Part.{Validity, begin, extent, sliced_validity, valid_at, count_rows, field_named, to_index}
 use Rattle.nest_model.specs.Runs.{length-cut, get_or-cut, rows-cut, valid-cut, product-sum, product-within, run-ext}
 use Rattle.nest_model.specs.SameArray.{IsSameArray}
 use Rattle.nest_model.specs.SameArrayLaws.{same-from_places}
@@ -47,13 +47,13 @@ use Rattle.ipc_arrays.specs.declared.cursor.ExpectedLength.{ExpectedLength}
 use Rattle.ipc_arrays.specs.declared.cursor.ExpectedLength.TheVariants.{Rows, Exactly, AtLeast, Any}
 use Rattle.ipc_arrays.specs.Encoding.{normalized_validity, normalized_flat, normalized_slice, normalized, normalized_each, normalized_all, sparse_begin, rebased, normalized_validity_bytes, offset_bytes, numbers_bytes, own_buffers, own_dictionaries, dictionaries_of, flat_buffers, field_node_of, preorder, buffers_of, columns_body, each_window, whole_windows, windows_below, normalized_window, window_arrays, written_arrays, is_supported, is_flat, RoundTrip}
 use Rattle.ipc_arrays.specs.EncodingLaws.{null_bits, counts, Later, rest_with, before, begun, nulls_of, ValuesRoundTrip, IsWritable, OffsetsRoundTrip, NumbersRoundTrip, OwnBuffersRoundTrip, node_again, buffer_again, head_again, rows_again, rows_behind, no_buffers, flat_again, flat_same, valid_again, eqb-same, eqb-zero}
-use Rattle.ipc_arrays.specs.NormalizedLaws.{normalized_len, normalized_type, nulls_in, nulls_few, cut_fits, normalized_node, written_more, written_none, each_written, all_written, flat_normalized}
+use Rattle.ipc_arrays.specs.NormalizedLaws.{normalized_len, normalized_type, nulls_in, nulls_few, slice_fits, normalized_node, written_more, written_none, each_written, all_written, flat_normalized}
 
 -- A window round-trips: wherever it is in a body, it is read as an array with the same slots, and the bytes after it are not read.
 pub record WindowRoundTrips (w : WindowParts) : Type 0 where
-  pub read : (expected : ExpectedLength) (whole : List ℕ) (place : ℕ) (tail : List ℕ) (ns : Later) (more : List BufferSpec)
-      → checked_length expected w.count ≡ Ok tt → From whole place (body_of (buffers_of (preorder (normalized_window w))) ++ tail)
-      → decoded_column (layout_type w.array) expected whole (rest_with (before (preorder (normalized_window w)) ns) (buffer_specs place (buffers_of (preorder (normalized_window w))) ++ more))
+  pub read : (expected : ExpectedLength) (whole : List ℕ) (base : ℕ) (tail : List ℕ) (ns : Later) (more : List BufferSpec)
+      → checked_length expected w.count ≡ Ok tt → From whole base (body_of (buffers_of (preorder (normalized_window w))) ++ tail)
+      → decoded_column (layout_type w.array) expected whole (rest_with (before (preorder (normalized_window w)) ns) (buffer_specs base (buffers_of (preorder (normalized_window w))) ++ more))
       ≡ Ok (normalized_window w, rest_with ns more)
   pub slots : (i : ℕ) → i < w.count → slot (normalized_window w) i ≡ slot w.array (w.offset + i)
   pub long : len (normalized_window w) ≡ w.count
@@ -121,34 +121,34 @@ union_in t s c whole rest k = cc
 -- its own buffers and those of its descendants are read by its counts
 abbrev IsRead : Layout → ℕ → ℕ → List Layout → Type 0
 IsRead a o n below =
-    (whole : List ℕ) (place : ℕ) (tail : List ℕ) (ns : Later) (more : List BufferSpec) → From whole place (body_of (own_buffers (normalized_slice a o n) ++ buffers_of below) ++ tail)
-    → decoded_array (layout_type a) (layout_type a) (record { slots = n; nulls = nulls_in a o n }) whole (rest_with (begun (normalized_slice a o n) (before below ns)) (buffer_specs place (own_buffers (normalized_slice a o n) ++ buffers_of below) ++ more))
+    (whole : List ℕ) (base : ℕ) (tail : List ℕ) (ns : Later) (more : List BufferSpec) → From whole base (body_of (own_buffers (normalized_slice a o n) ++ buffers_of below) ++ tail)
+    → decoded_array (layout_type a) (layout_type a) (record { slots = n; nulls = nulls_in a o n }) whole (rest_with (begun (normalized_slice a o n) (before below ns)) (buffer_specs base (own_buffers (normalized_slice a o n) ++ buffers_of below) ++ more))
     ≡ Ok (normalized_slice a o n, rest_with ns more)
 
 -- so it is read with its field node
-column_again : (a : Layout) (o n : ℕ) (below : List Layout) (expected : ExpectedLength) (whole : List ℕ) (place : ℕ) (tail : List ℕ) (ns : Later) (more : List BufferSpec)
+column_again : (a : Layout) (o n : ℕ) (below : List Layout) (expected : ExpectedLength) (whole : List ℕ) (base : ℕ) (tail : List ℕ) (ns : Later) (more : List BufferSpec)
     → field_node_of (normalized_slice a o n) ≡ record { length = pos n; null_count = pos (nulls_in a o n) } → nulls_in a o n ≤ n → checked_length expected n ≡ Ok tt → IsRead a o n below
-    → From whole place (body_of (buffers_of (normalized_slice a o n ∷ below)) ++ tail)
-    → decoded_column (layout_type a) expected whole (rest_with (before (normalized_slice a o n ∷ below) ns) (buffer_specs place (buffers_of (normalized_slice a o n ∷ below)) ++ more)) ≡ Ok (normalized_slice a o n, rest_with ns more)
-column_again a o n below expected whole place tail ns more node few is read h =
+    → From whole base (body_of (buffers_of (normalized_slice a o n ∷ below)) ++ tail)
+    → decoded_column (layout_type a) expected whole (rest_with (before (normalized_slice a o n ∷ below) ns) (buffer_specs base (buffers_of (normalized_slice a o n ∷ below)) ++ more)) ≡ Ok (normalized_slice a o n, rest_with ns more)
+column_again a o n below expected whole base tail ns more node few is read h =
     let s : Layout = normalized_slice a o n in
     let split : buffers_of (s ∷ below) ≡ own_buffers s ++ buffers_of below = buffers_more s below in
-    let from : From whole place (body_of (own_buffers s ++ buffers_of below) ++ tail) = subst (λ (x : List (List ℕ)). From whole place (body_of x ++ tail)) split h in
-    let buffers : List BufferSpec = buffer_specs place (own_buffers s ++ buffers_of below) ++ more in
+    let from : From whole base (body_of (own_buffers s ++ buffers_of below) ++ tail) = subst (λ (x : List (List ℕ)). From whole base (body_of x ++ tail)) split h in
+    let buffers : List BufferSpec = buffer_specs base (own_buffers s ++ buffers_of below) ++ more in
     let later : Later = begun s (before below ns) in
     let first = node_again expected n (nulls_in a o n) later buffers few is in
     let start : before (s ∷ below) ns ≡ record { nodes = record { length = pos n; null_count = pos (nulls_in a o n) } ∷ later.nodes; dictionaries = later.dictionaries } =
     λ w. record { nodes = node w ∷ later.nodes; dictionaries = append_assoc (own_dictionaries s) (dictionaries_of below) ns.dictionaries w } in
-    (λ w. decoded_column (layout_type a) expected whole (rest_with (start w) (buffer_specs place (split w) ++ more)))
-    ∙ (rw first (read whole place tail ns more from))
+    (λ w. decoded_column (layout_type a) expected whole (rest_with (start w) (buffer_specs base (split w) ++ more)))
+    ∙ (rw first (read whole base tail ns more from))
 
 window_again : (a : Layout) (o n : ℕ) (below : List Layout) → TopFits a → is_supported a ≡ true → o + n ≤ len a → preorder (normalized_slice a o n) ≡ normalized_slice a o n ∷ below → IsRead a o n below
     → ((i : ℕ) → i < n → slot (normalized_slice a o n) i ≡ slot a (o + i)) → WindowRoundTrips (window_parts a o n)
 window_again a o n below fits format le arrays read same = record {
-  read = λ expected whole place tail ns more is h.
-      let from : From whole place (body_of (buffers_of (normalized_slice a o n ∷ below)) ++ tail) = subst (λ (x : List Layout). From whole place (body_of (buffers_of x) ++ tail)) arrays h in
-      (λ w. decoded_column (layout_type a) expected whole (rest_with (before (arrays w) ns) (buffer_specs place (buffers_of (arrays w)) ++ more)))
-      ∙ column_again a o n below expected whole place tail ns more (normalized_node a o n fits format le) (nulls_few a o n fits le) is read from;
+  read = λ expected whole base tail ns more is h.
+      let from : From whole base (body_of (buffers_of (normalized_slice a o n ∷ below)) ++ tail) = subst (λ (x : List Layout). From whole base (body_of (buffers_of x) ++ tail)) arrays h in
+      (λ w. decoded_column (layout_type a) expected whole (rest_with (before (arrays w) ns) (buffer_specs base (buffers_of (arrays w)) ++ more)))
+      ∙ column_again a o n below expected whole base tail ns more (normalized_node a o n fits format le) (nulls_few a o n fits le) is read from;
   slots = same;
   long = normalized_len a o n le;
 }
@@ -156,12 +156,12 @@ window_again a o n below fits format le arrays read same = record {
 -- ---- windows without children
 
 -- the validity of a slice
-validity_cut : (a : Layout) (o n : ℕ) → validity_of (cut_layout a o n) ≡ cut_validity (validity_of a) o n
+validity_cut : (a : Layout) (o n : ℕ) → validity_of (slice_layout a o n) ≡ sliced_validity (validity_of a) o n
 validity_cut (null t m) o n = refl
 validity_cut (boolean t bs va) o n = refl
 validity_cut (primitive k t vs va) o n = refl
 validity_cut (binary l t os bs va) o n = refl
-validity_cut (text l t os bs va) o n = refl
+validity_cut (utf8 l t os bs va) o n = refl
 validity_cut (fixed_size_binary t bs va) o n = refl
 validity_cut (fixed_size_list t c va) o n = refl
 validity_cut (list_of l t os c va) o n = refl
@@ -170,77 +170,77 @@ validity_cut (struct t cs va) o n = refl
 validity_cut (union t ks cs os start) o n = refl
 validity_cut (dictionary t ks c) o n = validity_cut ks o n
 
-flat_nulls : (a : Layout) (o n : ℕ) → is_flat a ≡ true → nulls_of (cut_layout a o n) ≡ nulls_in a o n
+flat_nulls : (a : Layout) (o n : ℕ) → is_flat a ≡ true → nulls_of (slice_layout a o n) ≡ nulls_in a o n
 flat_nulls (null t m) o n flat = refl
 flat_nulls (boolean t bs va) o n flat = refl
 flat_nulls (primitive k t vs va) o n flat = refl
 flat_nulls (binary l t os bs va) o n flat = refl
-flat_nulls (text l t os bs va) o n flat = refl
+flat_nulls (utf8 l t os bs va) o n flat = refl
 flat_nulls (fixed_size_binary t bs va) o n flat = refl
 flat_nulls (dictionary t ks c) o n flat = ap null_bits (validity_cut ks o n)
 flat_nulls a o n flat = cc
 
-flat_numbers : (a : Layout) (o n : ℕ) → is_flat a ≡ true → OwnBuffersRoundTrip a o n → ValuesRoundTrip (cut_layout a o n)
+flat_numbers : (a : Layout) (o n : ℕ) → is_flat a ≡ true → OwnBuffersRoundTrip a o n → ValuesRoundTrip (slice_layout a o n)
 flat_numbers (null t m) o n flat h = h
 flat_numbers (boolean t bs va) o n flat h = h
 flat_numbers (primitive k t vs va) o n flat h = h
 flat_numbers (binary l t os bs va) o n flat h = h
-flat_numbers (text l t os bs va) o n flat h = h
+flat_numbers (utf8 l t os bs va) o n flat h = h
 flat_numbers (fixed_size_binary t bs va) o n flat h = h
 flat_numbers (dictionary t ks c) o n flat h = h
 flat_numbers a o n flat h = cc
 
-flat_slot : (a : Layout) (o n i : ℕ) → is_flat a ≡ true → i < n → slot (cut_layout a o n) i ≡ slot a (o + i)
+flat_slot : (a : Layout) (o n i : ℕ) → is_flat a ≡ true → i < n → slot (slice_layout a o n) i ≡ slot a (o + i)
 flat_slot a o n i flat lt = slot-cut a o n i lt
 
-flat_read : (a : Layout) (o n : ℕ) → is_flat a ≡ true → o + n ≤ len a → IsWritable (cut_layout a o n) → IsRead a o n []
-flat_read a o n flat le ok whole place tail ns more h =
-    let b : Layout = cut_layout a o n in
+flat_read : (a : Layout) (o n : ℕ) → is_flat a ≡ true → o + n ≤ len a → IsWritable (slice_layout a o n) → IsRead a o n []
+flat_read a o n flat le ok whole base tail ns more h =
+    let b : Layout = slice_layout a o n in
     let normalized_so : normalized_slice a o n ≡ normalized_flat b = flat_normalized a o n flat in
     let alone : own_buffers (normalized_slice a o n) ++ buffers_of [] ≡ flat_buffers b = (λ w. own_buffers (normalized_so w) ++ buffers_none w) ∙ append-nil (flat_buffers b) in
-    let from : From whole place (body_of (flat_buffers b) ++ tail) = subst (λ (x : List (List ℕ)). From whole place (body_of x ++ tail)) alone h in
-    (λ w. decoded_array (sym (type-cut a o n) w) (sym (type-cut a o n) w) (record { slots = sym (len-cut a o n le) w; nulls = sym (flat_nulls a o n flat) w }) whole (rest_with (begun (normalized_so w) ns) (buffer_specs place (alone w) ++ more)))
-    ∙ flat_again b whole place tail ns more ok from
+    let from : From whole base (body_of (flat_buffers b) ++ tail) = subst (λ (x : List (List ℕ)). From whole base (body_of x ++ tail)) alone h in
+    (λ w. decoded_array (sym (type-cut a o n) w) (sym (type-cut a o n) w) (record { slots = sym (len-cut a o n le) w; nulls = sym (flat_nulls a o n flat) w }) whole (rest_with (begun (normalized_so w) ns) (buffer_specs base (alone w) ++ more)))
+    ∙ flat_again b whole base tail ns more ok from
     ∙ (λ w. Ok (sym normalized_so w, rest_with ns more))
 
 flat_window : (a : Layout) (o n : ℕ) → TopFits a → is_flat a ≡ true → is_supported a ≡ true → o + n ≤ len a → OwnBuffersRoundTrip a o n → preorder (normalized_slice a o n) ≡ normalized_slice a o n ∷ [] → WindowRoundTrips (window_parts a o n)
 flat_window a o n fits flat format le round_trips arrays =
-    let ok : IsWritable (cut_layout a o n) = record { fits = top-fits-cut a o n fits le; numbers = flat_numbers a o n flat round_trips } in
+    let ok : IsWritable (slice_layout a o n) = record { fits = top-fits-cut a o n fits le; numbers = flat_numbers a o n flat round_trips } in
     window_again a o n [] fits format le arrays (flat_read a o n flat le ok)
-    (λ i lt. ap (λ (s : Layout). slot s i) (flat_normalized a o n flat) ∙ flat_same (cut_layout a o n) i ok (omega (arith, len-cut a o n le)) ∙ flat_slot a o n i flat lt)
+    (λ i lt. ap (λ (s : Layout). slot s i) (flat_normalized a o n flat) ∙ flat_same (slice_layout a o n) i ok (omega (arith, len-cut a o n le)) ∙ flat_slot a o n i flat lt)
 
 -- ---- lists and maps
 
 -- the bounds of the items of a window
 pub record AreWithin (os : List ℕ) (o n : ℕ) : Type 0 where
   pub rise : (i j : ℕ) → i ≤ j → j ≤ n → begin os (o + i) ≤ begin os (o + j)
-  first : begin (rebased (cut os o (n + 1))) 0 ≡ 0
-  at : (i : ℕ) → i ≤ n → begin (rebased (cut os o (n + 1))) i ≡ begin os (o + i) - begin os o
-  last : last_of (rebased (cut os o (n + 1))) ≡ begin os (o + n) - begin os o
+  first : begin (rebased (sublist os o (n + 1))) 0 ≡ 0
+  at : (i : ℕ) → i ≤ n → begin (rebased (sublist os o (n + 1))) i ≡ begin os (o + i) - begin os o
+  last : last_of (rebased (sublist os o (n + 1))) ≡ begin os (o + n) - begin os o
   end : begin os (o + n) ≤ last_of os
 
 pub are_within : (os : List ℕ) (o n : ℕ) → AreOffsets os → o + n ≤ count_rows os → AreWithin os o n
 are_within os o n h le =
-    let part : List ℕ = cut os o (n + 1) in
+    let part : List ℕ = sublist os o (n + 1) in
     let some : 0 < length os = h.0 in
     let long : length part ≡ n + 1 = length-cut os o (n + 1) (omega (arith, some)) in
     let start : o + 0 ≡ o = omega arith in
-    let place : (i : ℕ) → i ≤ n → begin (rebased part) i ≡ begin os (o + i) - begin os o =
+    let base : (i : ℕ) → i ≤ n → begin (rebased part) i ≡ begin os (o + i) - begin os o =
     λ i at. rebased_at part i (omega (arith, long)) ∙ (λ w. get_or-cut os o (n + 1) i 0 (omega arith) w - (get_or-cut os o (n + 1) 0 0 (omega arith) ∙ ap (λ (k : ℕ). begin os k) start) w) in
     let end : length (rebased part) - 1 ≡ n = omega (arith, rebased_long part, long) in
     record {
       rise = λ i j a b. h.1 (o + i) (o + j) (omega arith) (omega (arith, some));
-      first = place 0 (omega arith) ∙ (let z : begin os (o + 0) - begin os o ≡ 0 = omega (arith, ap (λ (k : ℕ). begin os k) start) in z);
-      at = place;
-      last = ap (λ (k : ℕ). begin (rebased part) k) end ∙ place n (omega arith);
+      first = base 0 (omega arith) ∙ (let z : begin os (o + 0) - begin os o ≡ 0 = omega (arith, ap (λ (k : ℕ). begin os k) start) in z);
+      at = base;
+      last = ap (λ (k : ℕ). begin (rebased part) k) end ∙ base n (omega arith);
       end = h.1 (o + n) (length os - 1) (omega (arith, some)) (omega (arith, some));
     }
 
 -- the items of a list
 row_again : (os : List ℕ) (c sc : Layout) (o n i : ℕ) → AreWithin os o n → ((j : ℕ) → j < begin os (o + n) - begin os o → slot sc j ≡ slot c (begin os o + j)) → i < n
-    → run (slot sc) (begin (rebased (cut os o (n + 1))) i) (extent (rebased (cut os o (n + 1))) i) ≡ run (slot c) (begin os (o + i)) (extent os (o + i))
+    → run (slot sc) (begin (rebased (sublist os o (n + 1))) i) (extent (rebased (sublist os o (n + 1))) i) ≡ run (slot c) (begin os (o + i)) (extent os (o + i))
 row_again os c sc o n i h items lt =
-    let part : List ℕ = rebased (cut os o (n + 1)) in
+    let part : List ℕ = rebased (sublist os o (n + 1)) in
     let next : o + (i + 1) ≡ o + i + 1 = omega arith in
     let here : begin part i ≡ begin os (o + i) - begin os o = h.at i (omega arith) in
     let there : begin part (i + 1) ≡ begin os (o + i + 1) - begin os o = h.at (i + 1) (omega arith) ∙ ap (λ (k : ℕ). begin os k - begin os o) next in
@@ -256,34 +256,34 @@ row_again os c sc o n i h items lt =
     items (begin part i + j) (omega (arith, here, k, low, mid, high)) ∙ ap (slot c) e)
 
 list_slot : (os : List ℕ) (c sc : Layout) (va : Validity) (o n i : ℕ) → AreWithin os o n → ((j : ℕ) → j < begin os (o + n) - begin os o → slot sc j ≡ slot c (begin os o + j)) → i < n
-    → (if valid_at (normalized_validity (cut_validity va o n)) i then slots.list (seal (run (slot sc) (begin (rebased (cut os o (n + 1))) i) (extent (rebased (cut os o (n + 1))) i))) else slots.null)
+    → (if valid_at (normalized_validity (sliced_validity va o n)) i then slots.list (seal (run (slot sc) (begin (rebased (sublist os o (n + 1))) i) (extent (rebased (sublist os o (n + 1))) i))) else slots.null)
     ≡ (if valid_at va (o + i) then slots.list (seal (run (slot c) (begin os (o + i)) (extent os (o + i)))) else slots.null)
 list_slot os c sc va o n i h items lt =
-    let valid : valid_at (normalized_validity (cut_validity va o n)) i ≡ valid_at va (o + i) = sym (valid_again (cut_validity va o n) i) ∙ valid-cut va o n i lt in
+    let valid : valid_at (normalized_validity (sliced_validity va o n)) i ≡ valid_at va (o + i) = sym (valid_again (sliced_validity va o n) i) ∙ valid-cut va o n i lt in
     (λ w. if valid w then slots.list (seal (row_again os c sc o n i h items lt w)) else slots.null)
 
 abbrev paired : {H : Type 0} → H → Layout × Rest → Result (H × (Layout × Rest)) IpcReadError
 paired h y = Ok (h, y)
 
 -- the items follow the offsets
-items_again : (large : Bool) (t : TypeTree) (os : List ℕ) (c : Layout) (va : Validity) (o n : ℕ) (whole : List ℕ) (place : ℕ) (tail : List ℕ) (ns : Later) (more : List BufferSpec)
-    → AreOffsets os → o + n ≤ count_rows os → OffsetsRoundTrip large (cut os o (n + 1)) → ValidityFits va (count_rows os) → item_type t ≡ Some (layout_type c) → WindowRoundTrips (window_parts c (begin os o) (begin os (o + n) - begin os o))
-    → From whole place (body_of (normalized_validity_bytes (cut_validity va o n) ∷ offset_bytes large (rebased (cut os o (n + 1))) ∷ buffers_of (preorder (normalized_slice c (begin os o) (begin os (o + n) - begin os o)))) ++ tail)
-    → (decoded_variable_size_head large (counts n (cut_validity va o n)) whole (rest_with (before (preorder (normalized_slice c (begin os o) (begin os (o + n) - begin os o))) ns)
-    (buffer_specs place (normalized_validity_bytes (cut_validity va o n) ∷ offset_bytes large (rebased (cut os o (n + 1))) ∷ buffers_of (preorder (normalized_slice c (begin os o) (begin os (o + n) - begin os o)))) ++ more)) >>= λ head. of_item (item_type t) Any whole head.1 >>= λ items. paired head.0 items)
-    ≡ paired (record { offsets = rebased (cut os o (n + 1)); validity = normalized_validity (cut_validity va o n) }) (normalized_slice c (begin os o) (begin os (o + n) - begin os o), rest_with ns more)
-items_again large t os c va o n whole place tail ns more are le round_trips fits typed child h =
-    let v : Validity = cut_validity va o n in
-    let part : List ℕ = cut os o (n + 1) in
+items_again : (large : Bool) (t : TypeTree) (os : List ℕ) (c : Layout) (va : Validity) (o n : ℕ) (whole : List ℕ) (base : ℕ) (tail : List ℕ) (ns : Later) (more : List BufferSpec)
+    → AreOffsets os → o + n ≤ count_rows os → OffsetsRoundTrip large (sublist os o (n + 1)) → ValidityFits va (count_rows os) → item_type t ≡ Some (layout_type c) → WindowRoundTrips (window_parts c (begin os o) (begin os (o + n) - begin os o))
+    → From whole base (body_of (normalized_validity_bytes (sliced_validity va o n) ∷ offset_bytes large (rebased (sublist os o (n + 1))) ∷ buffers_of (preorder (normalized_slice c (begin os o) (begin os (o + n) - begin os o)))) ++ tail)
+    → (decoded_variable_size_head large (counts n (sliced_validity va o n)) whole (rest_with (before (preorder (normalized_slice c (begin os o) (begin os (o + n) - begin os o))) ns)
+    (buffer_specs base (normalized_validity_bytes (sliced_validity va o n) ∷ offset_bytes large (rebased (sublist os o (n + 1))) ∷ buffers_of (preorder (normalized_slice c (begin os o) (begin os (o + n) - begin os o)))) ++ more)) >>= λ head. of_item (item_type t) Any whole head.1 >>= λ items. paired head.0 items)
+    ≡ paired (record { offsets = rebased (sublist os o (n + 1)); validity = normalized_validity (sliced_validity va o n) }) (normalized_slice c (begin os o) (begin os (o + n) - begin os o), rest_with ns more)
+items_again large t os c va o n whole base tail ns more are le round_trips fits typed child h =
+    let v : Validity = sliced_validity va o n in
+    let part : List ℕ = sublist os o (n + 1) in
     let below : List Layout = preorder (normalized_slice c (begin os o) (begin os (o + n) - begin os o)) in
     let part_are : AreOffsets part = parts-cut (list_of large t os c va) o n are le in
-    let first = rows_again large part v n (buffers_of below) whole place tail (before below ns) more part_are (rows-cut os o n le) round_trips (cut_fits va (count_rows os) o n fits le) h in
-    let next : ℕ = place + length (padded (normalized_validity_bytes v)) + length (padded (offset_bytes large (rebased part))) in
-    let second = child.read Any whole next tail ns more refl (rows_behind large part v (buffers_of below) whole place tail h) in
+    let first = rows_again large part v n (buffers_of below) whole base tail (before below ns) more part_are (rows-cut os o n le) round_trips (slice_fits va (count_rows os) o n fits le) h in
+    let next : ℕ = base + length (padded (normalized_validity_bytes v)) + length (padded (offset_bytes large (rebased part))) in
+    let second = child.read Any whole next tail ns more refl (rows_behind large part v (buffers_of below) whole base tail h) in
     rw (first, typed, second) refl
 
 within_items : (os : List ℕ) (c : Layout) (o n : ℕ) → AreWithin os o n → WindowRoundTrips (window_parts c (begin os o) (begin os (o + n) - begin os o))
-    → leb (last_of (rebased (cut os o (n + 1)))) (len (normalized_slice c (begin os o) (begin os (o + n) - begin os o))) ≡ true
+    → leb (last_of (rebased (sublist os o (n + 1)))) (len (normalized_slice c (begin os o) (begin os (o + n) - begin os o))) ≡ true
 within_items os c o n h child = le-leb _ _ (omega (arith, h.last, child.long))
 
 abbrev through : {H : Type 0} → (H → Layout × Rest → Result (Layout × Rest) IpcReadError) → Result (Layout × Rest) IpcReadError → Result (H × (Layout × Rest)) IpcReadError → Result (Layout × Rest) IpcReadError
@@ -303,31 +303,31 @@ after : {H : Type 0} (r : Result (H × Rest) IpcReadError) (f : H × Rest → Re
 after (Ok x) f g head items e = joined (f x) x.0 g head items e
 after (Err x) f g head items e = cc
 
-list_window : (large : Bool) (t : TypeTree) (os : List ℕ) (c : Layout) (va : Validity) (o n : ℕ) → TopFits (list_of large t os c va) → o + n ≤ count_rows os → OffsetsRoundTrip large (cut os o (n + 1))
+list_window : (large : Bool) (t : TypeTree) (os : List ℕ) (c : Layout) (va : Validity) (o n : ℕ) → TopFits (list_of large t os c va) → o + n ≤ count_rows os → OffsetsRoundTrip large (sublist os o (n + 1))
     → WindowRoundTrips (window_parts c (begin os o) (begin os (o + n) - begin os o)) → WindowRoundTrips (window_parts (list_of large t os c va) o n)
 list_window large t os c va o n fits le round_trips child =
     let within = are_within os o n fits.0 le in
     let sc : Layout = normalized_slice c (begin os o) (begin os (o + n) - begin os o) in
     window_again (list_of large t os c va) o n (preorder sc) fits refl le refl
-    (λ whole place tail ns more h.
-    let items = items_again large t os c va o n whole place tail ns more fits.0 le round_trips fits.1.1.0 fits.1.1.1.1.0 child h in
+    (λ whole base tail ns more h.
+    let items = items_again large t os c va o n whole base tail ns more fits.0 le round_trips fits.1.1.0 fits.1.1.1.1.0 child h in
     list_in large t t _ whole _ fits.1.1.1.0
-    ∙ after (decoded_variable_size_head large (counts n (cut_validity va o n)) whole _) (λ head. of_item (item_type t) Any whole head.1) (λ head items. list_over large t head items) _ _ items
+    ∙ after (decoded_variable_size_head large (counts n (sliced_validity va o n)) whole _) (λ head. of_item (item_type t) Any whole head.1) (λ head items. list_over large t head items) _ _ items
     ∙ rw (within_items os c o n within child) refl)
     (λ i lt. list_slot os c sc va o n i within child.slots lt)
 
-map_window : (t : TypeTree) (os : List ℕ) (c : Layout) (va : Validity) (o n : ℕ) → TopFits (map_of t os c va) → o + n ≤ count_rows os → OffsetsRoundTrip false (cut os o (n + 1))
+map_window : (t : TypeTree) (os : List ℕ) (c : Layout) (va : Validity) (o n : ℕ) → TopFits (map_of t os c va) → o + n ≤ count_rows os → OffsetsRoundTrip false (sublist os o (n + 1))
     → WindowRoundTrips (window_parts c (begin os o) (begin os (o + n) - begin os o)) → WindowRoundTrips (window_parts (map_of t os c va) o n)
 map_window t os c va o n fits le round_trips child =
     let within = are_within os o n fits.0 le in
     let sc : Layout = normalized_slice c (begin os o) (begin os (o + n) - begin os o) in
     let pairs : has_pairs t ≡ true = fits.1.1.1.0 in
     window_again (map_of t os c va) o n (preorder sc) fits refl le refl
-    (λ whole place tail ns more h.
-    let items = items_again false t os c va o n whole place tail ns more fits.0 le round_trips fits.1.1.1.1.1.0 fits.1.1.1.1.0 child h in
+    (λ whole base tail ns more h.
+    let items = items_again false t os c va o n whole base tail ns more fits.0 le round_trips fits.1.1.1.1.1.0 fits.1.1.1.1.0 child h in
     map_in t t _ whole _ fits.1.1.0
     ∙ passes (has_pairs t) TypeRange _ pairs
-    ∙ (after (decoded_variable_size_head false (counts n (cut_validity va o n)) whole _) (λ head. of_item (item_type t) Any whole head.1) (λ head items. map_over t head items) _ _ items)
+    ∙ (after (decoded_variable_size_head false (counts n (sliced_validity va o n)) whole _) (λ head. of_item (item_type t) Any whole head.1) (λ head items. map_over t head items) _ _ items)
     ∙ rw (within_items os c o n within child) refl)
     (λ i lt. list_slot os c sc va o n i within child.slots lt)
 
@@ -335,16 +335,16 @@ map_window t os c va o n fits le round_trips child =
 
 sized_window : (t : TypeTree) (c : Layout) (va : Validity) (o n : ℕ) → TopFits (fixed_size_list t c va) → o + n ≤ len c / size_of t → WindowRoundTrips (window_parts c (o * size_of t) (n * size_of t)) → WindowRoundTrips (window_parts (fixed_size_list t c va) o n)
 sized_window t c va o n fits le child =
-    let v : Validity = cut_validity va o n in
+    let v : Validity = sliced_validity va o n in
     let size : ℕ = size_of t in
     let below : List Layout = preorder (normalized_slice c (o * size) (n * size)) in
     let some : ltb 0 size ≡ true = lt-ltb _ _ fits.1.1.0 in
     let same : eqb (n * size) (n * size) ≡ true = eqb-same (n * size) in
     window_again (fixed_size_list t c va) o n below fits refl le refl
-    (λ whole place tail ns more h.
-    let first = head_again n v whole place (buffers_of below) tail (before below ns) more (cut_fits va (len c / size) o n fits.1.1.1.1.1.0 le) h in
-    let next : ℕ = place + length (padded (normalized_validity_bytes v)) in
-    let second = child.read (Exactly (n * size)) whole next tail ns more (rw same refl) (next_behind whole place (normalized_validity_bytes v) (buffers_of below) tail h) in
+    (λ whole base tail ns more h.
+    let first = head_again n v whole base (buffers_of below) tail (before below ns) more (slice_fits va (len c / size) o n fits.1.1.1.1.1.0 le) h in
+    let next : ℕ = base + length (padded (normalized_validity_bytes v)) in
+    let second = child.read (Exactly (n * size)) whole next tail ns more (rw same refl) (next_behind whole base (normalized_validity_bytes v) (buffers_of below) tail h) in
     sized_in t t _ whole _ fits.1.0 ∙ rw (some, first, fits.1.1.1.0, second) refl)
     (λ i lt.
     let valid : valid_at (normalized_validity v) i ≡ valid_at va (o + i) = sym (valid_again v i) ∙ valid-cut va o n i lt in
@@ -405,12 +405,12 @@ nodes_split front rest ns = ap (λ (x : List FieldNode). x ++ ns) (map-append fi
 before_split : (front rest : List Layout) (ns : Later) → before (front ++ rest) ns ≡ before front (before rest ns)
 before_split front rest ns = λ w. record { nodes = nodes_split front rest ns.nodes w; dictionaries = dictionaries_split front rest ns.dictionaries w }
 
-buffer_specs_split : (front rest : List Layout) (place : ℕ) (more : List BufferSpec)
-    → buffer_specs place (buffers_of (front ++ rest)) ++ more ≡ buffer_specs place (buffers_of front) ++ (buffer_specs (place + length (body_of (buffers_of front))) (buffers_of rest) ++ more)
-buffer_specs_split front rest place more =
-    ap (λ (x : List (List ℕ)). buffer_specs place x ++ more) (buffers_append front rest)
-    ∙ ap (λ (x : List BufferSpec). x ++ more) (buffer_specs_append place (buffers_of front) (buffers_of rest))
-    ∙ append_assoc (buffer_specs place (buffers_of front)) (buffer_specs (place + length (body_of (buffers_of front))) (buffers_of rest)) more
+buffer_specs_split : (front rest : List Layout) (base : ℕ) (more : List BufferSpec)
+    → buffer_specs base (buffers_of (front ++ rest)) ++ more ≡ buffer_specs base (buffers_of front) ++ (buffer_specs (base + length (body_of (buffers_of front))) (buffers_of rest) ++ more)
+buffer_specs_split front rest base more =
+    ap (λ (x : List (List ℕ)). buffer_specs base x ++ more) (buffers_append front rest)
+    ∙ ap (λ (x : List BufferSpec). x ++ more) (buffer_specs_append base (buffers_of front) (buffers_of rest))
+    ∙ append_assoc (buffer_specs base (buffers_of front)) (buffer_specs (base + length (body_of (buffers_of front))) (buffers_of rest)) more
 
 body_split : (front rest : List Layout) (tail : List ℕ) → body_of (buffers_of (front ++ rest)) ++ tail ≡ body_of (buffers_of front) ++ (body_of (buffers_of rest) ++ tail)
 body_split front rest tail =
@@ -418,30 +418,30 @@ body_split front rest tail =
     ∙ ap (λ (x : List ℕ). x ++ tail) (body_append (buffers_of front) (buffers_of rest))
     ∙ append_assoc (body_of (buffers_of front)) (body_of (buffers_of rest)) tail
 
-fields_again : (fs : FieldTrees) (expected : ExpectedLength) (ws : List WindowParts) (whole : List ℕ) (place : ℕ) (tail : List ℕ) (ns : Later) (more : List BufferSpec) → AreOf fs expected ws → AllByRecursion WindowRoundTrips ws
-    → From whole place (body_of (buffers_of (window_arrays ws)) ++ tail)
-    → decoded_children fs expected whole (rest_with (before (window_arrays ws) ns) (buffer_specs place (buffers_of (window_arrays ws)) ++ more)) ≡ Ok (normalized_windows ws, rest_with ns more)
-fields_again no_fields expected [] whole place tail ns more of_ again h =
-    (λ w. Ok (no_layouts, rest_with (before (written_none w) ns) (buffer_specs place (buffers_of (written_none w)) ++ more)))
-    ∙ (λ w. Ok (no_layouts, rest_with ns (buffer_specs place (buffers_none w) ++ more)))
-    ∙ (λ w. Ok (no_layouts, rest_with ns (no_buffers place w ++ more)))
-fields_again no_fields expected (w ∷ ws) whole place tail ns more of_ again h = absurd of_
-fields_again (more_fields f fs) expected [] whole place tail ns more of_ again h = absurd of_
-fields_again (more_fields f fs) expected (w ∷ ws) whole place tail ns more of_ again h =
+fields_again : (fs : FieldTrees) (expected : ExpectedLength) (ws : List WindowParts) (whole : List ℕ) (base : ℕ) (tail : List ℕ) (ns : Later) (more : List BufferSpec) → AreOf fs expected ws → AllByRecursion WindowRoundTrips ws
+    → From whole base (body_of (buffers_of (window_arrays ws)) ++ tail)
+    → decoded_children fs expected whole (rest_with (before (window_arrays ws) ns) (buffer_specs base (buffers_of (window_arrays ws)) ++ more)) ≡ Ok (normalized_windows ws, rest_with ns more)
+fields_again no_fields expected [] whole base tail ns more of_ again h =
+    (λ w. Ok (no_layouts, rest_with (before (written_none w) ns) (buffer_specs base (buffers_of (written_none w)) ++ more)))
+    ∙ (λ w. Ok (no_layouts, rest_with ns (buffer_specs base (buffers_none w) ++ more)))
+    ∙ (λ w. Ok (no_layouts, rest_with ns (no_buffers base w ++ more)))
+fields_again no_fields expected (w ∷ ws) whole base tail ns more of_ again h = absurd of_
+fields_again (more_fields f fs) expected [] whole base tail ns more of_ again h = absurd of_
+fields_again (more_fields f fs) expected (w ∷ ws) whole base tail ns more of_ again h =
     let here : List Layout = preorder (normalized_window w) in
     let others : List Layout = window_arrays ws in
-    let next : ℕ = place + length (body_of (buffers_of here)) in
+    let next : ℕ = base + length (body_of (buffers_of here)) in
     let all : window_arrays (w ∷ ws) ≡ here ++ others = written_more w ws in
     let nodes : before (window_arrays (w ∷ ws)) ns ≡ before here (before others ns) = ap (λ (x : List Layout). before x ns) all ∙ before_split here others ns in
-    let buffers : buffer_specs place (buffers_of (window_arrays (w ∷ ws))) ++ more ≡ buffer_specs place (buffers_of here) ++ (buffer_specs next (buffers_of others) ++ more) =
-    ap (λ (x : List Layout). buffer_specs place (buffers_of x) ++ more) all ∙ buffer_specs_split here others place more in
+    let buffers : buffer_specs base (buffers_of (window_arrays (w ∷ ws))) ++ more ≡ buffer_specs base (buffers_of here) ++ (buffer_specs next (buffers_of others) ++ more) =
+    ap (λ (x : List Layout). buffer_specs base (buffers_of x) ++ more) all ∙ buffer_specs_split here others base more in
     let body : body_of (buffers_of (window_arrays (w ∷ ws))) ++ tail ≡ body_of (buffers_of here) ++ (body_of (buffers_of others) ++ tail) =
     ap (λ (x : List Layout). body_of (buffers_of x) ++ tail) all ∙ body_split here others tail in
-    let from : From whole place (body_of (buffers_of here) ++ (body_of (buffers_of others) ++ tail)) = record { is = h.is ∙ body; within = h.within } in
-    let first : decoded_child f expected whole (rest_with (before here (before others ns)) (buffer_specs place (buffers_of here) ++ (buffer_specs next (buffers_of others) ++ more))) ≡ Ok (normalized_window w, rest_with (before others ns) (buffer_specs next (buffers_of others) ++ more)) =
+    let from : From whole base (body_of (buffers_of here) ++ (body_of (buffers_of others) ++ tail)) = record { is = h.is ∙ body; within = h.within } in
+    let first : decoded_child f expected whole (rest_with (before here (before others ns)) (buffer_specs base (buffers_of here) ++ (buffer_specs next (buffers_of others) ++ more))) ≡ Ok (normalized_window w, rest_with (before others ns) (buffer_specs next (buffers_of others) ++ more)) =
     one_in f (layout_type w.array) expected whole _ of_.0.0
-    ∙ again.0.read expected whole place (body_of (buffers_of others) ++ tail) (before others ns) (buffer_specs next (buffers_of others) ++ more) of_.0.1 from in
-    let second = fields_again fs expected ws whole next tail ns more of_.1 again.1 (From_next whole place (body_of (buffers_of here)) (body_of (buffers_of others) ++ tail) from) in
+    ∙ again.0.read expected whole base (body_of (buffers_of others) ++ tail) (before others ns) (buffer_specs next (buffers_of others) ++ more) of_.0.1 from in
+    let second = fields_again fs expected ws whole next tail ns more of_.1 again.1 (From_next whole base (body_of (buffers_of here)) (body_of (buffers_of others) ++ tail) from) in
     (λ k. decoded_children (more_fields f fs) expected whole (rest_with (nodes k) (buffers k)))
     ∙ rw (first, second) refl
 
@@ -453,17 +453,17 @@ each_again (more_layouts c cs) o n i again lt = λ w. slots.more_slots (again.0.
 
 record_window : (t : TypeTree) (cs : Layouts) (va : Validity) (o n : ℕ) → TopFits (struct t cs va) → o + n ≤ first_len cs → AllByRecursion WindowRoundTrips (each_window cs o n) → WindowRoundTrips (window_parts (struct t cs va) o n)
 record_window t cs va o n fits le children =
-    let v : Validity = cut_validity va o n in
+    let v : Validity = sliced_validity va o n in
     let ws : List WindowParts = each_window cs o n in
     let below : List Layout = window_arrays ws in
     let some : ltb 0 (count_fields (fields_of t)) ≡ true = lt-ltb _ _ fits.1.1.0 in
     let same : eqb n n ≡ true = eqb-same n in
     let expected : checked_length (Exactly n) n ≡ Ok tt = rw same refl in
     window_again (struct t cs va) o n below fits refl le (ap (λ (x : List Layout). normalized_slice (struct t cs va) o n ∷ x) (each_written cs o n))
-    (λ whole place tail ns more h.
-    let first = head_again n v whole place (buffers_of below) tail (before below ns) more (cut_fits va (first_len cs) o n fits.1.1.1.1.1.1.0 le) h in
-    let next : ℕ = place + length (padded (normalized_validity_bytes v)) in
-    let second = fields_again (fields_of t) (Exactly n) ws whole next tail ns more (each_of (fields_of t) (Exactly n) cs o n fits.1.1.1.1.0 expected) children (next_behind whole place (normalized_validity_bytes v) (buffers_of below) tail h) in
+    (λ whole base tail ns more h.
+    let first = head_again n v whole base (buffers_of below) tail (before below ns) more (slice_fits va (first_len cs) o n fits.1.1.1.1.1.1.0 le) h in
+    let next : ℕ = base + length (padded (normalized_validity_bytes v)) in
+    let second = fields_again (fields_of t) (Exactly n) ws whole next tail ns more (each_of (fields_of t) (Exactly n) cs o n fits.1.1.1.1.0 expected) children (next_behind whole base (normalized_validity_bytes v) (buffers_of below) tail h) in
     record_in t t _ whole _ fits.1.0 ∙ rw (some, first, second) (ap (λ (x : Layouts). Ok (struct t x (normalized_validity v), rest_with ns more)) (each_all cs o n)))
     (λ i lt.
     let valid : valid_at (normalized_validity v) i ≡ valid_at va (o + i) = sym (valid_again v i) ∙ valid-cut va o n i lt in
@@ -506,7 +506,7 @@ union_fits t ks cs os start fits =
       meant = λ i d lt. ap (is_field_below (field_named (ids_of t) (get_or ks i d))) (sym count) ∙ means_so (field_named (ids_of t) (get_or ks i d)) (count_layouts cs) (g.1.1.0 i d lt);
     }
 
-cut_all : {A : Type 0} (P : A → Type 0) (xs : List A) (o n : ℕ) → o + n ≤ length xs → All P xs → All P (cut xs o n)
+cut_all : {A : Type 0} (P : A → Type 0) (xs : List A) (o n : ℕ) → o + n ≤ length xs → All P xs → All P (sublist xs o n)
 cut_all P xs o n le h = λ i d lt. let e = length-cut xs o n le in subst P (sym (get_or-cut xs o n i d (omega arith))) (h (o + i) d (omega arith))
 
 only_again : (zs : List ℤ) → map only (map (λ z. z ∷ []) zs) ≡ zs
@@ -552,23 +552,23 @@ sparse_slot t ks cs start o n i again lt =
     ∙ of_same (field_named (ids_of t) (get_or ks (o + i) (pos 0))) (λ f. picked f (normalized_each cs b n) f (0 + i)) (λ f. picked f cs f (start + (o + i)))
     (λ f e. picked_each f cs b n f (0 + i) again (omega arith) ∙ ap (picked f cs f) at)
 
-sparse_read : (t : TypeTree) (ks : List ℤ) (cs : Layouts) (start o n : ℕ) → TopFits (union t ks cs None start) → o + n ≤ length ks → NumbersRoundTrip type_format (cut ks o n) → AllByRecursion WindowRoundTrips (each_window cs (sparse_begin start o n) n)
+sparse_read : (t : TypeTree) (ks : List ℤ) (cs : Layouts) (start o n : ℕ) → TopFits (union t ks cs None start) → o + n ≤ length ks → NumbersRoundTrip type_format (sublist ks o n) → AllByRecursion WindowRoundTrips (each_window cs (sparse_begin start o n) n)
     → IsRead (union t ks cs None start) o n (window_arrays (each_window cs (sparse_begin start o n) n))
 unfolding decoded_union_parts
-sparse_read t ks cs start o n fits le round_trips children whole place tail ns more h =
+sparse_read t ks cs start o n fits le round_trips children whole base tail ns more h =
     let u = union_fits t ks cs None start fits in
-    let part : List ℤ = cut ks o n in
+    let part : List ℤ = sublist ks o n in
     let bytes : List ℕ = numbers_bytes type_format part in
     let ws : List WindowParts = each_window cs (sparse_begin start o n) n in
     let below : List Layout = window_arrays ws in
     let sparse : is_dense t ≡ false = fits.1.1.1.1.1.1.0 in
     let same : leb n n ≡ true = le-leb _ _ (omega arith) in
     let expected : checked_length (AtLeast n) n ≡ Ok tt = rw same refl in
-    let first = buffer_again whole place bytes (buffers_of below) tail (before below ns) more h in
+    let first = buffer_again whole base bytes (buffers_of below) tail (before below ns) more h in
     let meant : are_known_types (ids_of t) (count_fields (fields_of t)) part ≡ true = all_so (λ z. is_field_below (field_named (ids_of t) z) (count_fields (fields_of t))) part (cut_all (λ z. is_field_below (field_named (ids_of t) z) (count_fields (fields_of t)) ≡ true) ks o n le u.meant) in
     let read = types_again (ids_of t) (count_fields (fields_of t)) n part (length-cut ks o n le) round_trips meant in
-    let next : ℕ = place + length (padded bytes) in
-    let second = fields_again (fields_of t) (AtLeast n) ws whole next tail ns more (each_of (fields_of t) (AtLeast n) cs (sparse_begin start o n) n u.typed expected) children (next_behind whole place bytes (buffers_of below) tail h) in
+    let next : ℕ = base + length (padded bytes) in
+    let second = fields_again (fields_of t) (AtLeast n) ws whole next tail ns more (each_of (fields_of t) (AtLeast n) cs (sparse_begin start o n) n u.typed expected) children (next_behind whole base bytes (buffers_of below) tail h) in
     union_in t t _ whole _ u.kind
     ∙ rw (sparse, u.formed, first, read, second) (ap (λ (x : Layouts). Ok (union t part x None 0, rest_with ns more)) (each_all cs (sparse_begin start o n) n))
 
@@ -585,7 +585,7 @@ picked_whole f no_layouts k p again lt = refl
 picked_whole f (more_layouts c cs) zero p again lt = λ w. slots.pick f (normalized_type c 0 (len c) w) ((again.0.slots p lt ∙ (let z : 0 + p ≡ p = omega arith in ap (slot c) z)) w)
 picked_whole f (more_layouts c cs) (suc k) p again lt = picked_whole f cs k p again.1 lt
 
-pub place_named : (z : ℤ) (n : ℕ) → Names z n → place z < n
+pub place_named : (z : ℤ) (n : ℕ) → Names z n → to_index z < n
 place_named (pos k) n h = h
 place_named (negsuc k) n h = absurd h
 
@@ -593,8 +593,8 @@ dense_slot : (t : TypeTree) (ks : List ℤ) (cs : Layouts) (os : List ℤ) (star
     → slot (normalized_slice (union t ks cs (Some os) start) o n) i ≡ slot (union t ks cs (Some os) start) (o + i)
 dense_slot t ks cs os start o n i le there again lt =
     let z : ℤ = get_or ks (o + i) (pos 0) in
-    let p : ℕ = place (get_or os (o + i) (pos 0)) in
-    (λ w. of_field (field_named (ids_of t) (get_or-cut ks o n i (pos 0) lt w)) (λ f. picked f (normalized_all cs) f (place (get_or-cut os o n i (pos 0) lt w))))
+    let p : ℕ = to_index (get_or os (o + i) (pos 0)) in
+    (λ w. of_field (field_named (ids_of t) (get_or-cut ks o n i (pos 0) lt w)) (λ f. picked f (normalized_all cs) f (to_index (get_or-cut os o n i (pos 0) lt w))))
     ∙ of_same (field_named (ids_of t) z) (λ f. picked f (normalized_all cs) f p) (λ f. picked f cs f p)
     (λ f e. picked_whole f cs f p again (place_named (get_or os (o + i) (pos 0)) (child_len cs (Some f)) (subst (λ (m : Option ℕ). Names (get_or os (o + i) (pos 0)) (child_len cs m)) e (there (o + i) (omega arith)))))
 
@@ -603,31 +603,31 @@ slots_named ids cs [] os e h = refl
 slots_named ids cs (z ∷ ks) [] e h = absurd (omega arith)
 slots_named ids cs (z ∷ ks) (p ∷ os) e h = rw (names_so p (child_len cs (field_named ids z)) (h 0 (omega arith))) (slots_named ids cs ks os (omega arith) (λ i lt. h (suc i) (omega arith)))
 
-cut_named : (ids : Option (List ℤ)) (cs : Layouts) (ks os : List ℤ) (o n : ℕ) → o + n ≤ length ks → EachOffsetNames ids ks os cs → EachOffsetNames ids (cut ks o n) (cut os o n) (normalized_all cs)
+cut_named : (ids : Option (List ℤ)) (cs : Layouts) (ks os : List ℤ) (o n : ℕ) → o + n ≤ length ks → EachOffsetNames ids ks os cs → EachOffsetNames ids (sublist ks o n) (sublist os o n) (normalized_all cs)
 cut_named ids cs ks os o n le h = λ i lt.
     let at : i < n = omega (arith, length-cut ks o n le) in
-    subst (λ (m : ℕ). Names (get_or (cut os o n) i (pos 0)) m) (sym (child_long cs (field_named ids (get_or (cut ks o n) i (pos 0)))))
-    (subst (λ (z : ℤ). Names (get_or (cut os o n) i (pos 0)) (child_len cs (field_named ids z))) (sym (get_or-cut ks o n i (pos 0) at))
+    subst (λ (m : ℕ). Names (get_or (sublist os o n) i (pos 0)) m) (sym (child_long cs (field_named ids (get_or (sublist ks o n) i (pos 0)))))
+    (subst (λ (z : ℤ). Names (get_or (sublist os o n) i (pos 0)) (child_len cs (field_named ids z))) (sym (get_or-cut ks o n i (pos 0) at))
     (subst (λ (z : ℤ). Names z (child_len cs (field_named ids (get_or ks (o + i) (pos 0))))) (sym (get_or-cut os o n i (pos 0) at)) (h (o + i) (omega arith))))
 
-dense_read : (t : TypeTree) (ks : List ℤ) (cs : Layouts) (os : List ℤ) (start o n : ℕ) → TopFits (union t ks cs (Some os) start) → o + n ≤ length ks → NumbersRoundTrip type_format (cut ks o n) → NumbersRoundTrip (offset_format false) (cut os o n)
+dense_read : (t : TypeTree) (ks : List ℤ) (cs : Layouts) (os : List ℤ) (start o n : ℕ) → TopFits (union t ks cs (Some os) start) → o + n ≤ length ks → NumbersRoundTrip type_format (sublist ks o n) → NumbersRoundTrip (offset_format false) (sublist os o n)
     → AllByRecursion WindowRoundTrips (whole_windows cs) → IsRead (union t ks cs (Some os) start) o n (window_arrays (whole_windows cs))
 unfolding decoded_union_parts
-dense_read t ks cs os start o n fits le round_trips offsets_round_trip children whole place tail ns more h =
+dense_read t ks cs os start o n fits le round_trips offsets_round_trip children whole base tail ns more h =
     let u = union_fits t ks cs (Some os) start fits in
-    let part : List ℤ = cut ks o n in
-    let places : List ℤ = cut os o n in
+    let part : List ℤ = sublist ks o n in
+    let places : List ℤ = sublist os o n in
     let bytes : List ℕ = numbers_bytes type_format part in
     let offsets : List ℕ = numbers_bytes (offset_format false) places in
     let ws : List WindowParts = whole_windows cs in
     let below : List Layout = window_arrays ws in
     let dense : is_dense t ≡ true = fits.1.1.1.1.1.1.0 in
     let many : length os ≡ length ks = fits.1.1.1.1.1.0 in
-    let first = buffer_again whole place bytes (offsets ∷ buffers_of below) tail (before below ns) more h in
+    let first = buffer_again whole base bytes (offsets ∷ buffers_of below) tail (before below ns) more h in
     let meant : are_known_types (ids_of t) (count_fields (fields_of t)) part ≡ true = all_so (λ z. is_field_below (field_named (ids_of t) z) (count_fields (fields_of t))) part (cut_all (λ z. is_field_below (field_named (ids_of t) z) (count_fields (fields_of t)) ≡ true) ks o n le u.meant) in
     let read = types_again (ids_of t) (count_fields (fields_of t)) n part (length-cut ks o n le) round_trips meant in
-    let next : ℕ = place + length (padded bytes) in
-    let from = next_behind whole place bytes (offsets ∷ buffers_of below) tail h in
+    let next : ℕ = base + length (padded bytes) in
+    let from = next_behind whole base bytes (offsets ∷ buffers_of below) tail h in
     let second = buffer_again whole next offsets (buffers_of below) tail (before below ns) more from in
     let places_long : length places ≡ n = length-cut os o n (omega arith) in
     let places_read = numbers_again (offset_format false) places n (offset_sized false) places_long offsets_round_trip in
@@ -654,7 +654,7 @@ again (null t m) o n fits format le round_trips children = flat_window (null t m
 again (boolean t bs va) o n fits format le round_trips children = flat_window (boolean t bs va) o n fits refl refl le round_trips refl
 again (primitive k t vs va) o n fits format le round_trips children = flat_window (primitive k t vs va) o n fits format format le round_trips refl
 again (binary large t os bs va) o n fits format le round_trips children = flat_window (binary large t os bs va) o n fits refl refl le round_trips refl
-again (text large t os bs va) o n fits format le round_trips children = flat_window (text large t os bs va) o n fits refl refl le round_trips refl
+again (utf8 large t os bs va) o n fits format le round_trips children = flat_window (utf8 large t os bs va) o n fits refl refl le round_trips refl
 again (fixed_size_binary t bs va) o n fits format le round_trips children = flat_window (fixed_size_binary t bs va) o n fits refl refl le round_trips refl
 again (dictionary t ks c) o n fits format le round_trips children = flat_window (dictionary t ks c) o n fits refl refl le round_trips refl
 
@@ -663,28 +663,28 @@ again (dictionary t ks c) o n fits format le round_trips children = flat_window 
 abbrev pub ColumnRoundTrips : Layout → Type 0
 ColumnRoundTrips a = WindowRoundTrips (window_parts a 0 (len a))
 
-columns_again : (columns : List Layout) (rows : ℕ) (whole : List ℕ) (place : ℕ) (tail : List ℕ) (ns : Later) (more : List BufferSpec) → AllByRecursion ColumnRoundTrips columns → AllByRecursion (λ a. len a ≡ rows) columns → From whole place (columns_body columns ++ tail)
-    → decoded_each (map layout_type columns) rows whole (rest_with (before (written_arrays columns) ns) (buffer_specs place (buffers_of (written_arrays columns)) ++ more)) ≡ Ok (map normalized columns, rest_with ns more)
+columns_again : (columns : List Layout) (rows : ℕ) (whole : List ℕ) (base : ℕ) (tail : List ℕ) (ns : Later) (more : List BufferSpec) → AllByRecursion ColumnRoundTrips columns → AllByRecursion (λ a. len a ≡ rows) columns → From whole base (columns_body columns ++ tail)
+    → decoded_each (map layout_type columns) rows whole (rest_with (before (written_arrays columns) ns) (buffer_specs base (buffers_of (written_arrays columns)) ++ more)) ≡ Ok (map normalized columns, rest_with ns more)
 unfolding decoded_each
-columns_again [] rows whole place tail ns more ok long h =
-    let none : buffer_specs place (buffers_of (written_arrays [])) ≡ [] = unfold written_arrays buffers_of buffer_specs in refl in
+columns_again [] rows whole base tail ns more ok long h =
+    let none : buffer_specs base (buffers_of (written_arrays [])) ≡ [] = unfold written_arrays buffers_of buffer_specs in refl in
     let nodes : written_arrays [] ≡ [] = unfold written_arrays in refl in
     rw (none, nodes) refl
-columns_again (a ∷ columns) rows whole place tail ns more ok long h =
+columns_again (a ∷ columns) rows whole base tail ns more ok long h =
     let here : List Layout = preorder (normalized a) in
     let others : List Layout = written_arrays columns in
-    let next : ℕ = place + length (body_of (buffers_of here)) in
+    let next : ℕ = base + length (body_of (buffers_of here)) in
     let all : written_arrays (a ∷ columns) ≡ here ++ others = unfold written_arrays in flat_map-cons (λ (x : Layout). preorder (normalized x)) a columns in
     let nodes : before (written_arrays (a ∷ columns)) ns ≡ before here (before others ns) = ap (λ (x : List Layout). before x ns) all ∙ before_split here others ns in
-    let buffers : buffer_specs place (buffers_of (written_arrays (a ∷ columns))) ++ more ≡ buffer_specs place (buffers_of here) ++ (buffer_specs next (buffers_of others) ++ more) =
-    ap (λ (x : List Layout). buffer_specs place (buffers_of x) ++ more) all ∙ buffer_specs_split here others place more in
+    let buffers : buffer_specs base (buffers_of (written_arrays (a ∷ columns))) ++ more ≡ buffer_specs base (buffers_of here) ++ (buffer_specs next (buffers_of others) ++ more) =
+    ap (λ (x : List Layout). buffer_specs base (buffers_of x) ++ more) all ∙ buffer_specs_split here others base more in
     let body : columns_body (a ∷ columns) ++ tail ≡ body_of (buffers_of here) ++ (body_of (buffers_of others) ++ tail) =
     ap (λ (x : List Layout). body_of (buffers_of x) ++ tail) all ∙ body_split here others tail in
-    let from : From whole place (body_of (buffers_of here) ++ (body_of (buffers_of others) ++ tail)) = record { is = h.is ∙ body; within = h.within } in
+    let from : From whole base (body_of (buffers_of here) ++ (body_of (buffers_of others) ++ tail)) = record { is = h.is ∙ body; within = h.within } in
     let same : eqb (len a) rows ≡ true = ap (eqb (len a)) (sym long.0) ∙ eqb-same (len a) in
     let expected : checked_length (Rows rows) (len a) ≡ Ok tt = rw same refl in
-    let first = ok.0.read (Rows rows) whole place (body_of (buffers_of others) ++ tail) (before others ns) (buffer_specs next (buffers_of others) ++ more) expected from in
-    let second = columns_again columns rows whole next tail ns more ok.1 long.1 (From_next whole place (body_of (buffers_of here)) (body_of (buffers_of others) ++ tail) from) in
+    let first = ok.0.read (Rows rows) whole base (body_of (buffers_of others) ++ tail) (before others ns) (buffer_specs next (buffers_of others) ++ more) expected from in
+    let second = columns_again columns rows whole next tail ns more ok.1 long.1 (From_next whole base (body_of (buffers_of here)) (body_of (buffers_of others) ++ tail) from) in
     (λ w. decoded_each (map layout_type (a ∷ columns)) rows whole (rest_with (nodes w) (buffers w)))
     ∙ rw (first, second) refl
 

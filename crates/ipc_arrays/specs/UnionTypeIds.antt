@@ -8,7 +8,7 @@ use Rattle.nest_memory.specs.declared.datatypes.physical_type.PhysicalType.TheVa
 use Rattle.nest_model.specs.Checks.{most_fields, type_count}
 use Rattle.nest_model.specs.Fits.{EachType, EachCovers, IdsCount, IdsInRange, EachMeansField, OffsetsCount, OffsetsByMode}
 use Rattle.nest_model.specs.Layout.{Layouts, count_layouts}
-use Rattle.nest_model.specs.Part.{last_place}
+use Rattle.nest_model.specs.Part.{last_position}
 
 -- the type ids of a union type, as the code holds them
 abbrev pub type_ids : Option (Vec ℤ) → Option (List ℤ)
@@ -17,7 +17,7 @@ type_ids ids = option_map (λ v. v.items) ids
 -- a mark for each type from 0 to 127: whether it is one of the ids
 pub record MarksTypeIds (marks : List Bool) (ids : List ℤ) : Type 0 where
   pub size : length marks ≡ type_count
-  pub each : (k : ℕ) → get_or marks k false ≡ is_some (last_place ids (pos k))
+  pub each : (k : ℕ) → get_or marks k false ≡ is_some (last_position ids (pos k))
 
 abbrev pub is_marked_type : List Bool → ℤ → Bool
 is_marked_type marks (pos k) = get_or marks k false

@@ -6,11 +6,11 @@ use Rattle.std.specs.Str.{IsUtf8, is_utf8}
 use Rattle.std.proofs.lemmas.Bool.{le-leb}
 use Rattle.std.proofs.lemmas.List.{length-map}
 use Rattle.std.proofs.lemmas.Str.{IsUtf8-from_is_utf8, is_utf8-from_IsUtf8}
-use Rattle.nest_memory.specs.Cut.{cut}
+use Rattle.nest_memory.specs.Sublist.{sublist}
 use Rattle.nest_memory.specs.Native.{unsigned}
-use Rattle.nest_memory.specs.Rising.{are_offsets, rises_from, last_of, to_nat, NeverFalls}
+use Rattle.nest_memory.specs.Rising.{are_offsets, rises_from, last_of, to_nat, IsNondecreasing}
 use Rattle.nest_model.specs.Array.{AreOffsets}
-use Rattle.nest_model.specs.Fits.{EachText, covered}
+use Rattle.nest_model.specs.Fits.{EachUtf8, covered}
 use Rattle.nest_model.specs.Part.{begin, extent, count_rows}
 use Rattle.nest_model.specs.Runs.{cut-cut, length-cut}
 use Rattle.ipc_arrays.specs.Decoding.{decoded_values, checked_offsets, decoded_offsets, are_utf8}
@@ -35,7 +35,7 @@ pub rows_again : (os : List ℕ) → count_rows (rebased os) ≡ count_rows os
 rows_again os = ap (λ n. n - 1) (rebased_long os)
 
 -- each value has the same bytes
-pub string_again : (os bs : List ℕ) (i : ℕ) → AreOffsets os → i < count_rows os → cut bs (begin os i) (extent os i) ≡ cut (covered os bs) (begin (rebased os) i) (extent (rebased os) i)
+pub string_again : (os bs : List ℕ) (i : ℕ) → AreOffsets os → i < count_rows os → sublist bs (begin os i) (extent os i) ≡ sublist (covered os bs) (begin (rebased os) i) (extent (rebased os) i)
 string_again os bs i h lt =
     let a = h.1 0 i (omega arith) (omega arith) in
     let b = h.1 i (i + 1) (omega arith) (omega arith) in
@@ -47,7 +47,7 @@ string_again os bs i h lt =
     sym
     ((λ w. take (long w) (drop (here w) (covered os bs)))
     ∙ cut-cut bs (begin os 0) (last_of os - begin os 0) (begin os i - begin os 0) (extent os i) (omega arith)
-    ∙ ap (λ o. cut bs o (extent os i)) at)
+    ∙ ap (λ o. sublist bs o (extent os i)) at)
 
 -- the last offset is the length of the data
 pub last_covered : (os bs : List ℕ) → AreOffsets os → last_of os ≤ length bs → last_of (rebased os) ≡ length (covered os bs)
@@ -68,18 +68,18 @@ offsets_back : (ns : List ℕ) → map to_nat (map pos ns) ≡ ns
 offsets_back [] = refl
 offsets_back (n ∷ ns) = ap (λ (zs : List ℕ). n ∷ zs) (offsets_back ns)
 
-rises : (low : ℕ) (ns : List ℕ) → ((i : ℕ) → i < length ns → low ≤ get_or ns i 0) → NeverFalls ns → rises_from low (map pos ns) ≡ true
+rises : (low : ℕ) (ns : List ℕ) → ((i : ℕ) → i < length ns → low ≤ get_or ns i 0) → IsNondecreasing ns → rises_from low (map pos ns) ≡ true
 rises low [] above never = refl
 rises low (n ∷ ns) above never =
     let first : nat_le low n ≡ true = le-leb _ _ (above 0 (omega arith)) in
     rw first (rises n ns (λ i lt. never 0 (suc i) (omega arith) (omega arith)) (λ i j le lt. never (suc i) (suc j) (omega arith) (omega arith)))
 
-are_rising : (ns : List ℕ) → 0 < length ns → NeverFalls ns → are_offsets (map pos ns) ≡ true
+are_rising : (ns : List ℕ) → 0 < length ns → IsNondecreasing ns → are_offsets (map pos ns) ≡ true
 unfolding are_offsets
 are_rising [] some never = absurd (omega arith)
 are_rising (n ∷ ns) some never = rises 0 (n ∷ ns) (λ i lt. omega arith) never
 
-rebased_rise : (os : List ℕ) → NeverFalls os → NeverFalls (rebased os)
+rebased_rise : (os : List ℕ) → IsNondecreasing os → IsNondecreasing (rebased os)
 rebased_rise os never i j le lt =
     let short : j < length os = omega (arith, rebased_long os) in
     omega (arith, rebased_at os i (omega arith), rebased_at os j short, never i j le short)
@@ -129,18 +129,18 @@ each_holds p o (suc n) all (suc i) lt = ap p (let e : o + suc i ≡ o + 1 + i = 
     other true b h = h
     other false b h = cc
 
-pub texts_hold : (os bs : List ℕ) → EachText os bs → are_utf8 os bs ≡ true
+pub texts_hold : (os bs : List ℕ) → EachUtf8 os bs → are_utf8 os bs ≡ true
 unfolding are_utf8
-texts_hold os bs each = all_hold (λ i. is_utf8 (cut bs (begin os i) (extent os i))) 0 (count_rows os) (λ i lt. is_utf8-from_IsUtf8 _ (subst (λ (j : ℕ). IsUtf8 (cut bs (begin os j) (extent os j))) (let e : i ≡ 0 + i = omega arith in e) (each i lt)))
+texts_hold os bs each = all_hold (λ i. is_utf8 (sublist bs (begin os i) (extent os i))) 0 (count_rows os) (λ i lt. is_utf8-from_IsUtf8 _ (subst (λ (j : ℕ). IsUtf8 (sublist bs (begin os j) (extent os j))) (let e : i ≡ 0 + i = omega arith in e) (each i lt)))
 
-pub texts_fail : (os bs : List ℕ) → (EachText os bs → ⊥) → are_utf8 os bs ≡ false
+pub texts_fail : (os bs : List ℕ) → (EachUtf8 os bs → ⊥) → are_utf8 os bs ≡ false
 unfolding are_utf8
 texts_fail os bs none = by (are_utf8 os bs) refl
   where
     by : (b : Bool) → are_utf8 os bs ≡ b → are_utf8 os bs ≡ false
     by false e = e
-    by true e = absurd (none (λ i lt. IsUtf8-from_is_utf8 _ (subst (λ (j : ℕ). is_utf8 (cut bs (begin os j) (extent os j)) ≡ true) (let e : 0 + i ≡ i = omega arith in e) (each_holds (λ i. is_utf8 (cut bs (begin os i) (extent os i))) 0 (count_rows os) e i lt))))
+    by true e = absurd (none (λ i lt. IsUtf8-from_is_utf8 _ (subst (λ (j : ℕ). is_utf8 (sublist bs (begin os j) (extent os j)) ≡ true) (let e : 0 + i ≡ i = omega arith in e) (each_holds (λ i. is_utf8 (sublist bs (begin os i) (extent os i))) 0 (count_rows os) e i lt))))
 
 -- each value is still UTF-8
-pub texts_again : (os bs : List ℕ) → AreOffsets os → EachText os bs → are_utf8 (rebased os) (covered os bs) ≡ true
+pub texts_again : (os bs : List ℕ) → AreOffsets os → EachUtf8 os bs → are_utf8 (rebased os) (covered os bs) ≡ true
 texts_again os bs are each = texts_hold (rebased os) (covered os bs) (λ i lt. let le : i < count_rows os = omega (arith, rows_again os) in subst IsUtf8 (string_again os bs i are le) (each i le))

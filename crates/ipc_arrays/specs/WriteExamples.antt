@@ -9,8 +9,8 @@ use Rattle.nest_memory.specs.declared.datatypes.UnionMode.TheVariants.{Dense, Sp
 use Rattle.nest_memory.specs.declared.datatypes.physical_type.PrimitiveType.TheVariants.{Int8, Int32}
 use Rattle.std.proofs.Common.{ap, sym, subst, ◌∙◌}
 use Rattle.nest_model.specs.Accessors.{child_of}
-use Rattle.nest_model.specs.Cut.{cut_layout}
-use Rattle.nest_model.specs.Layout.{Layout, Layouts, boolean, primitive, text, fixed_size_list, list as list_of, map as map_of, struct, union, dictionary, no_layouts, more_layouts, layout_type}
+use Rattle.nest_model.specs.Slice.{slice_layout}
+use Rattle.nest_model.specs.Layout.{Layout, Layouts, boolean, primitive, utf8, fixed_size_list, list as list_of, map as map_of, struct, union, dictionary, no_layouts, more_layouts, layout_type}
 use Rattle.nest_model.specs.Meaning.{len, slots_of}
 use Rattle.nest_model.specs.Slot as slots
 use Rattle.nest_model.specs.Part.{Validity}
@@ -148,7 +148,7 @@ keyed_type = types.dictionary Keys8 types.utf8 false
 
 -- "a" and "bc"
 abbrev words : Layout
-words = text false types.utf8 (0 ∷ 1 ∷ 3 ∷ []) (97 ∷ 98 ∷ 99 ∷ []) None
+words = utf8 false types.utf8 (0 ∷ 1 ∷ 3 ∷ []) (97 ∷ 98 ∷ 99 ∷ []) None
 
 abbrev keys_of : List (List ℤ) → Validity → Layout
 keys_of keys validity = dictionary keyed_type (primitive Int8 types.int8 keys validity) words
@@ -174,7 +174,7 @@ dictionary_words = record {
 abbrev pub sliced_words : Keyed
 sliced_words = record {
   written_as = record {
-    column = cut_layout four_words 2 2;
+    column = slice_layout four_words 2 2;
     nodes = node 2 0 ∷ [];
     buffers = at 0 0 ∷ at 0 2 ∷ [];
     body = 0 ∷ 1 ∷ zeros 6 [];
@@ -211,15 +211,15 @@ listed_words = record {
 
 -- the same words, over data with unused bytes
 abbrev moved_words : Layout
-moved_words = text false types.utf8 (2 ∷ 3 ∷ 5 ∷ []) (120 ∷ 120 ∷ 97 ∷ 98 ∷ 99 ∷ []) None
+moved_words = utf8 false types.utf8 (2 ∷ 3 ∷ 5 ∷ []) (120 ∷ 120 ∷ 97 ∷ 98 ∷ 99 ∷ []) None
 
 -- the words followed by another one
 abbrev more_words : Layout
-more_words = text false types.utf8 (0 ∷ 1 ∷ 3 ∷ 4 ∷ []) (97 ∷ 98 ∷ 99 ∷ 100 ∷ []) None
+more_words = utf8 false types.utf8 (0 ∷ 1 ∷ 3 ∷ 4 ∷ []) (97 ∷ 98 ∷ 99 ∷ 100 ∷ []) None
 
 -- the words in another order
 abbrev turned_words : Layout
-turned_words = text false types.utf8 (0 ∷ 2 ∷ 3 ∷ []) (98 ∷ 99 ∷ 97 ∷ []) None
+turned_words = utf8 false types.utf8 (0 ∷ 2 ∷ 3 ∷ []) (98 ∷ 99 ∷ 97 ∷ []) None
 
 abbrev over_words : Layout → Layout
 over_words values = list_of false (types.list (types.field [] keyed_type true [])) (1 ∷ 3 ∷ []) (dictionary keyed_type (primitive Int8 types.int8 ((pos 1 ∷ []) ∷ (pos 1 ∷ []) ∷ (pos 0 ∷ []) ∷ []) None) values) None
@@ -302,13 +302,13 @@ values_there a b h =
 turned_unlike : AreSameUpToValues (over_words words ∷ []) (over_words turned_words ∷ []) → ⊥
 turned_unlike h =
     let grown : IsExtendedBy words turned_words = values_there words turned_words h in
-    let same : (slots.text (98 ∷ 99 ∷ []) ∷ slots.text (97 ∷ []) ∷ []) ≡ (slots.text (97 ∷ []) ∷ slots.text (98 ∷ 99 ∷ []) ∷ grown.more) = grown.slots in
+    let same : (slots.utf8 (98 ∷ 99 ∷ []) ∷ slots.utf8 (97 ∷ []) ∷ []) ≡ (slots.utf8 (97 ∷ []) ∷ slots.utf8 (98 ∷ 99 ∷ []) ∷ grown.more) = grown.slots in
     cc
 
 fewer_unlike : AreSameUpToValues (over_words more_words ∷ []) (over_words words ∷ []) → ⊥
 fewer_unlike h =
     let grown : IsExtendedBy more_words words = values_there more_words words h in
-    let same : (slots.text (97 ∷ []) ∷ slots.text (98 ∷ 99 ∷ []) ∷ []) ≡ (slots.text (97 ∷ []) ∷ slots.text (98 ∷ 99 ∷ []) ∷ slots.text (100 ∷ []) ∷ grown.more) = grown.slots in
+    let same : (slots.utf8 (97 ∷ []) ∷ slots.utf8 (98 ∷ 99 ∷ []) ∷ []) ≡ (slots.utf8 (97 ∷ []) ∷ slots.utf8 (98 ∷ 99 ∷ []) ∷ slots.utf8 (100 ∷ []) ∷ grown.more) = grown.slots in
     cc
 
 alike_over : (a b : Layout) → IsExtendedBy a b → AreSameUpToValues (over_words a ∷ []) (over_words b ∷ [])
@@ -318,7 +318,7 @@ pub words_alike : ExtendedWordsMatch
 words_alike =
     record {
       moved = alike_over words moved_words (record { logical = refl; more = []; slots = refl });
-      more = alike_over words more_words (record { logical = refl; more = slots.text (100 ∷ []) ∷ []; slots = refl });
+      more = alike_over words more_words (record { logical = refl; more = slots.utf8 (100 ∷ []) ∷ []; slots = refl });
       fewer = fewer_unlike;
       turned = turned_unlike;
     }

@@ -2,7 +2,7 @@
 ghost use Rattle.std.specs.Prelude.{◌≡◌, ◌<◌, ◌≤◌, ◌*◌, ◌++◌, length, take, IfOk, OnOk, Ok};
 ghost use Rattle.ipc_flatbuf.specs.ReadResults.{ReturnsOrRunsOut};
 ghost use Rattle.nest_memory.specs.Bits.{bits_from};
-ghost use Rattle.nest_memory.specs.Cut.{cut};
+ghost use Rattle.nest_memory.specs.Sublist.{sublist};
 ghost use Rattle.ipc_arrays.specs.Decoding.{decoded_bits};
 ghost use Rattle.ipc_arrays.specs.Bitmaps.{byte_value, bitmap_bytes};
 ghost use Rattle.ipc_arrays.specs.BodyBuffers.{padded};
@@ -46,7 +46,7 @@ pub(crate) fn read_bits(alloc: Global, slots: usize, bytes: &[u8]) -> Result<Bit
 // Returns the byte that holds the bits from index `first` on.
 fn byte_of(bits: &Bitmap, first: usize) -> u8
     requires { first < length bits.now }
-    ensures { result ≡ byte_value (cut bits.now first 8) }
+    ensures { result ≡ byte_value (sublist bits.now first 8) }
 {
     let count = (bits.len() - first).min(8);
     let mut byte = 0;

@@ -35,7 +35,7 @@ use nest_flat::primitive::PrimitiveArray;
 use nest_memory::bitmap::immutable::Bitmap;
 use nest_memory::buffer::Buffer;
 use nest_memory::datatypes::{DataType, IntegerType};
-use nest_memory::error::{Error, Spec};
+use nest_memory::error::{Error, SpecError};
 use std::alloc::{AllocError, Global};
 
 // Returns the key of a slot, or 0 if the slot is null.
@@ -157,8 +157,8 @@ fn try_dictionary(
     keys.known();
     match DictionaryArray::try_new(alloc, data_type, keys, values) {
         Ok(array) => Ok(array),
-        Err(Error::OutOfSpec(Spec::ChildType)) => Err(IpcReadError::MissingDictionary),
-        Err(Error::OutOfSpec(Spec::KeyRange)) => Err(IpcReadError::KeyRange),
+        Err(Error::OutOfSpec(SpecError::ChildType)) => Err(IpcReadError::MissingDictionary),
+        Err(Error::OutOfSpec(SpecError::KeyRange)) => Err(IpcReadError::KeyRange),
         Err(_) => Err(IpcReadError::Memory),
     }
 }

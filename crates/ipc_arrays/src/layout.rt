@@ -3,7 +3,7 @@ ghost use Rattle.std.specs.Prelude.{◌≡◌, ◌<◌, ◌≤◌, ◌^◌, ◌�
 ghost use Rattle.std.specs.Int.{div_ceil};
 ghost use Rattle.std.specs.Option.{option_map};
 ghost use Rattle.ipc_flatbuf.specs.declared.error.IpcWriteError.TheVariants.{Memory, Size};
-ghost use Rattle.nest_model.specs.Cut.{cut_layout};
+ghost use Rattle.nest_model.specs.Slice.{slice_layout};
 ghost use Rattle.nest_model.specs.Nullness.{null_count};
 ghost use Rattle.nest_array.specs.Seen.{layout_of};
 ghost use Rattle.ipc_arrays.specs.NoDictionaries.{is_not_dictionary};
@@ -163,7 +163,7 @@ fn layout_flat_array(layout: &mut BodyLayout, column: &AnyArray) -> Result<(), I
 
 /// Returns the slots of a window as an array.
 pub(crate) fn slice_window(alloc: Global, window: &Window<'_>) -> Result<AnyArray, IpcWriteError>
-    ensures ok { IfOk result (λ a. layout_of a ≡ cut_layout window.now.array window.now.offset window.now.count) }
+    ensures ok { IfOk result (λ a. layout_of a ≡ slice_layout window.now.array window.now.offset window.now.count) }
     ensures err { IfErr result (λ error. error ≡ Memory) }
 {
     window.known();

@@ -14,7 +14,7 @@ ghost use Rattle.ipc_arrays.specs.Decoding.{rest_of, list_over};
 ghost use Rattle.ipc_arrays.specs.NestedDecoding.{list_decoding};
 ghost use Rattle.std.specs.Option.{option_map};
 ghost use Rattle.ipc_flatbuf.specs.declared.error.IpcWriteError.TheVariants.{Memory};
-ghost use Rattle.nest_memory.specs.Cut.{cut};
+ghost use Rattle.nest_memory.specs.Sublist.{sublist};
 ghost use Rattle.nest_memory.specs.Rising.{last_of};
 ghost use Rattle.nest_model.specs.Meaning.{len};
 ghost use Rattle.nest_array.specs.WindowParts.{window_parts};
@@ -212,7 +212,7 @@ fn slice_offsets<O: FixedWidthOffset>(
     count: usize,
 ) -> Result<OffsetsBuffer<O>, IpcWriteError>
     requires { offset + count ≤ count_rows offsets.now }
-    ensures ok { IfOk result (λ os. os ≡ cut offsets.now offset (count + 1)) }
+    ensures ok { IfOk result (λ os. os ≡ sublist offsets.now offset (count + 1)) }
     ensures err { IfErr result (λ error. error ≡ Memory) }
 {
     offsets.known();
@@ -231,8 +231,8 @@ pub(crate) fn write_list_buffers<O: FixedWidthOffset>(
     count: usize,
 ) -> Result<(), IpcWriteError>
     requires { offset + count ≤ count_rows offsets.now }
-    ensures ok { OnOk result (out.new.items ≡ out.old.items ++ body_of (list_buffers O.IS_LARGE (rebased (cut offsets.now offset (count + 1))) (option_map (λ b. b.now) validity.entry))) }
-    ensures round_trips { OnOk result (OffsetsRoundTrip O.IS_LARGE (cut offsets.now offset (count + 1))) }
+    ensures ok { OnOk result (out.new.items ≡ out.old.items ++ body_of (list_buffers O.IS_LARGE (rebased (sublist offsets.now offset (count + 1))) (option_map (λ b. b.now) validity.entry))) }
+    ensures round_trips { OnOk result (OffsetsRoundTrip O.IS_LARGE (sublist offsets.now offset (count + 1))) }
     ensures err { IfErr result (λ error. error ≡ Memory) }
 {
     let rows = slice_offsets(offsets, offset, count)?;

@@ -4,7 +4,7 @@ ghost use Rattle.std.specs.List.{AllByRecursion};
 ghost use Rattle.std.specs.Option.{option_map};
 ghost use Rattle.ipc_flatbuf.specs.ReadResults.{ReturnsOrRunsOut, Returns};
 ghost use Rattle.nest_memory.specs.Native.{unsigned};
-ghost use Rattle.nest_memory.specs.Physical.{physical_type, binary_of_width, text_of_width};
+ghost use Rattle.nest_memory.specs.Physical.{physical_type, binary_of_width, utf8_of_width};
 ghost use Rattle.nest_memory.specs.Rising.{last_of};
 ghost use Rattle.nest_memory.specs.TypeOf.{type_of};
 ghost use Rattle.nest_model.specs.Fits.{Fits, ValidityFits, covered};
@@ -29,7 +29,7 @@ use nest_flat::utf8::Utf8Array;
 use nest_memory::bitmap::immutable::Bitmap;
 use nest_memory::buffer::Buffer;
 use nest_memory::datatypes::DataType;
-use nest_memory::error::{Error, Spec};
+use nest_memory::error::{Error, SpecError};
 use nest_memory::offsets::OffsetsBuffer;
 use std::alloc::{AllocError, Global};
 
@@ -218,7 +218,7 @@ fn try_utf8<O: FixedWidthOffset>(
 ) -> Result<Utf8Array<O>, IpcReadError>
     requires within { last_of offsets ≤ length bytes }
     requires slots { ValidityFits validity (count_rows offsets) }
-    requires kind { physical_type (type_of data_type) ≡ text_of_width O.IS_LARGE }
+    requires kind { physical_type (type_of data_type) ≡ utf8_of_width O.IS_LARGE }
     ensures { Returns (λ a. a) result (checked_utf8 O.IS_LARGE (type_of data_type) (record { offsets = offsets; bytes = bytes; validity = validity })) }
 {
     match Utf8Array::try_new(data_type, offsets, bytes, validity) {
@@ -236,7 +236,7 @@ fn utf8_of<O: FixedWidthOffset>(
 ) -> Result<Utf8Array<O>, IpcReadError>
     requires within { last_of offsets ≤ length bytes }
     requires slots { ValidityFits validity (count_rows offsets) }
-    requires kind { physical_type (type_of data_type.now) ≡ text_of_width O.IS_LARGE }
+    requires kind { physical_type (type_of data_type.now) ≡ utf8_of_width O.IS_LARGE }
     ensures { ReturnsOrRunsOut (λ a. a) result (checked_utf8 O.IS_LARGE (type_of data_type.now) (record { offsets = offsets; bytes = bytes; validity = validity })) }
 {
     match data_type.clone(alloc) {
@@ -254,7 +254,7 @@ pub(crate) fn read_utf8<'a, O: FixedWidthOffset>(
     body: &'a [u8],
     cursor: BatchCursor<'a>,
 ) -> Result<(Utf8Array<O>, BatchCursor<'a>), IpcReadError>
-    requires { physical_type (type_of data_type.now) ≡ text_of_width O.IS_LARGE }
+    requires { physical_type (type_of data_type.now) ≡ utf8_of_width O.IS_LARGE }
     ensures { ReturnsOrRunsOut (λ x. (x.0, rest_of x.1)) result (decoded_utf8 O.IS_LARGE (type_of data_type.now) counts body.now (rest_of cursor.entry)) }
 {
     let strings = read_strings::<O>(alloc, counts, body, cursor)?;

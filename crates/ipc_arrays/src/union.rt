@@ -12,9 +12,9 @@ ghost use Rattle.ipc_arrays.specs.Decoding.{rest_of, is_index_below, are_type_id
 ghost use Rattle.ipc_arrays.specs.NestedDecoding.{union_decoding};
 ghost use Rattle.ipc_arrays.specs.UnionTypeIds.{type_ids, MarksTypeIds, is_marked_type, PassesUnionChecks};
 ghost use Rattle.ipc_flatbuf.specs.declared.error.IpcWriteError.TheVariants.{Memory};
-ghost use Rattle.nest_memory.specs.Cut.{cut};
+ghost use Rattle.nest_memory.specs.Sublist.{sublist};
 ghost use Rattle.nest_model.specs.Accessors.{start_of, types_of, union_offsets_of};
-ghost use Rattle.nest_model.specs.Cut.{cut_offsets};
+ghost use Rattle.nest_model.specs.Slice.{slice_offsets};
 ghost use Rattle.nest_model.specs.Meaning.{len};
 ghost use Rattle.ipc_arrays.specs.BodyBuffers.{body_of};
 ghost use Rattle.ipc_arrays.specs.Encoding.{windows_below, own_buffers, normalized_slice, sparse_begin, AppendsBuffers, IsLayoutError};
@@ -321,7 +321,7 @@ pub(crate) fn layout_union_buffers(
 
 fn part<T: Copy>(values: &Buffer<T>, offset: usize, count: usize) -> &[T]
     requires { offset + count ≤ length values.now }
-    ensures { result.now ≡ cut values.now offset count }
+    ensures { result.now ≡ sublist values.now offset count }
 {
     &values.as_slice()[offset..offset + count]
 }
@@ -335,7 +335,7 @@ pub(crate) fn write_union_buffers(
 ) -> Result<(), AllocError>
     requires { offset + count ≤ len array.now }
     ensures ok { OnOk result (out.new.items ≡ out.old.items ++ body_of (own_buffers (normalized_slice array.now offset count))) }
-    ensures round_trips { OnOk result (UnionPartsRoundTrip (cut (types_of array.now) offset count) (cut_offsets (union_offsets_of array.now) offset count)) }
+    ensures round_trips { OnOk result (UnionPartsRoundTrip (sublist (types_of array.now) offset count) (slice_offsets (union_offsets_of array.now) offset count)) }
 {
     array.known();
     write_values(out, part(array.types(), offset, count))?;

@@ -3,10 +3,10 @@ ghost use Rattle.std.specs.Prelude.{◌≡◌, ◌≤◌, ◌+◌, ◌++◌, len
 ghost use Rattle.std.specs.Option.{option_map};
 ghost use Rattle.ipc_flatbuf.specs.ReadResults.{ReturnsOrRunsOut};
 ghost use Rattle.ipc_flatbuf.specs.declared.error.IpcWriteError.TheVariants.{Memory};
-ghost use Rattle.nest_memory.specs.Cut.{cut};
+ghost use Rattle.nest_memory.specs.Sublist.{sublist};
 ghost use Rattle.nest_model.specs.Accessors.{validity_of};
 ghost use Rattle.nest_model.specs.Fits.{ValidityFits};
-ghost use Rattle.nest_model.specs.Part.{cut_validity};
+ghost use Rattle.nest_model.specs.Part.{sliced_validity};
 ghost use Rattle.ipc_arrays.specs.Decoding.{rest_of, decoded_validity, decoded_validity_buffer, validity_if_nulls};
 ghost use Rattle.ipc_arrays.specs.BodyBuffers.{padded};
 ghost use Rattle.ipc_arrays.specs.Encoding.{normalized_validity_bytes};
@@ -65,7 +65,7 @@ pub(crate) fn read_validity_buffer<'a>(
 
 fn slice_bits(bits: &Bitmap, offset: usize, count: usize) -> Result<Option<Bitmap>, IpcWriteError>
     requires { offset + count ≤ length bits.now }
-    ensures ok { IfOk result (λ v. v ≡ Some (cut bits.now offset count)) }
+    ensures ok { IfOk result (λ v. v ≡ Some (sublist bits.now offset count)) }
     ensures err { IfErr result (λ error. error ≡ Memory) }
 {
     match bits.clone() {
@@ -76,7 +76,7 @@ fn slice_bits(bits: &Bitmap, offset: usize, count: usize) -> Result<Option<Bitma
 
 /// Returns the validity of the slots of a window.
 pub(crate) fn slice_validity(window: &Window<'_>) -> Result<Option<Bitmap>, IpcWriteError>
-    ensures ok { IfOk result (λ v. v ≡ cut_validity (validity_of window.now.array) window.now.offset window.now.count) }
+    ensures ok { IfOk result (λ v. v ≡ sliced_validity (validity_of window.now.array) window.now.offset window.now.count) }
     ensures err { IfErr result (λ error. error ≡ Memory) }
 {
     window.known();

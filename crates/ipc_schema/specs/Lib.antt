@@ -9,6 +9,7 @@ pub mod DictionaryModels
 pub mod FieldVectors
 pub mod Unions
 pub mod Schemas
+pub mod SchemaEq
 pub mod ProjectedSchemas
 pub mod SkippedFields
 pub mod Projections

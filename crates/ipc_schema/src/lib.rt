@@ -8,6 +8,7 @@ mod columns;
 mod dictionaries;
 mod dictionary_ids;
 mod dictionary_writing;
+mod equality;
 pub mod laws;
 mod leaf_types;
 mod metadata;

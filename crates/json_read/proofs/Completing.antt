@@ -5,17 +5,17 @@ use Rattle.std.proofs.lemmas.Bool.Decides.{eqb_tells}
 use Rattle.json_read.proofs.Feeding.{eqb-same}
 use Rattle.nest_any.specs.Each.{each}
 use Rattle.json_read.specs.StructMembers.{AddedIf, NullsAdded}
-use Rattle.json_read.specs.RowAdded.{RowAdded}
+use Rattle.json_read.specs.SlotAdded.{SlotAdded}
 use Rattle.nest_model.specs.BuilderAppend.{Accepted}
 use Rattle.nest_model.specs.BuilderAppendLaws.{type-accepted}
 use Rattle.nest_model.specs.BuilderItem as items
-use Rattle.nest_model.specs.BuilderTold.{AreEachWhole}
+use Rattle.nest_model.specs.BuilderAddRow.{AreEachComplete}
 use Rattle.nest_model.specs.BuilderTree.{BuilderTree, BuilderTrees, no_builders, more_builders, builder_len}
-use Rattle.nest_model.specs.BuilderWhole.{IsWhole}
+use Rattle.nest_model.specs.BuilderComplete.{IsComplete}
 use Rattle.nest_model.specs.Slot as slots
 
-pub added-null : (c d : BuilderTree) → Accepted items.null c d → RowAdded slots.null c d
-added-null c d h = record { last = h.last; whole = h.whole; same_type = type-accepted items.null c d h }
+pub added-null : (c d : BuilderTree) → Accepted items.null c d → SlotAdded slots.null c d
+added-null c d h = record { last = h.last; complete = h.complete; same_type = type-accepted items.null c d h }
 
 module _ {A : Type 0} (f : A → BuilderTree) where
   pub completed-all : (n : ℕ) (xs ys : List A) → length ys ≡ length xs → ((k : ℕ) (d : A) → k < length xs → AddedIf (builder_len (f (get_or xs k d)) == n) slots.null (f (get_or xs k d)) (f (get_or ys k d)))
@@ -50,7 +50,7 @@ module _ {A : Type 0} (f : A → BuilderTree) where
   still-done n (x ∷ xs) (z ∷ ys) (suc i) e l h before q (suc k) d b =
       still-done n xs ys i e (omega (arith, l)) (omega (arith, h)) (λ j c w. before (suc j) c (omega (arith, w))) q k d (omega (arith, b))
 
-  pub whole-at : (xs : List A) (i : ℕ) (d : A) → i < length xs → AreEachWhole (each f xs) → IsWhole (f (get_or xs i d))
+  pub whole-at : (xs : List A) (i : ℕ) (d : A) → i < length xs → AreEachComplete (each f xs) → IsComplete (f (get_or xs i d))
   whole-at [] i d h w = absurd (omega (arith, h))
   whole-at (x ∷ xs) zero d h w = w.0
   whole-at (x ∷ xs) (suc i) d h w = whole-at xs i d (omega (arith, h)) w.1
@@ -65,7 +65,7 @@ module _ {A : Type 0} (f : A → BuilderTree) where
   pub other-here : (n len : ℕ) (x y : A) → len ≡ builder_len (f x) → (len ≡ n → ⊥) → y ≡ x → AddedIf (builder_len (f x) == n) slots.null (f x) (f y)
   other-here n len x y e h s = rw (eqb-other (builder_len (f x)) n (λ q. h (e ∙ q))) (ap f s)
 
-  pub same-here : (n len : ℕ) (x y : A) → len ≡ builder_len (f x) → len ≡ n → RowAdded slots.null (f x) (f y) → AddedIf (builder_len (f x) == n) slots.null (f x) (f y)
+  pub same-here : (n len : ℕ) (x y : A) → len ≡ builder_len (f x) → len ≡ n → SlotAdded slots.null (f x) (f y) → AddedIf (builder_len (f x) == n) slots.null (f x) (f y)
   same-here n len x y e h t = rw (eqb-same (builder_len (f x)) n (sym e ∙ h)) t
 
 pub left-more : {A : Type 0} (xs ys : List A) (i : ℕ) (y : A) → ((k : ℕ) (d : A) → i ≤ k → get_or ys k d ≡ get_or xs k d) → (k : ℕ) (d : A) → i + 1 ≤ k → get_or (set ys i y) k d ≡ get_or xs k d

@@ -1,7 +1,7 @@
 -- Builders without rows, by the kind of their type.
 use Rattle.std.specs.Prelude.{nat_eq, if◌then◌else◌}
 use Rattle.std.proofs.Common.{rules, ◌≡◌, ◌≢◌, ◌∙◌, ℕ, suc, ◌*◌, ◌<◌, inl, inr, Bool, true, false, not, ◌||◌, [], ◌∷◌, length, Option, Some, None, refl, ap, sym, subst, arith}
-use Rattle.nest_memory.specs.Physical.{physical_type, binary_of_width, text_of_width}
+use Rattle.nest_memory.specs.Physical.{physical_type, binary_of_width, utf8_of_width}
 use Rattle.nest_memory.specs.TypeTree as types
 use Rattle.nest_memory.specs.TypeTree.{Letters, TypeTree, FieldTree, field, FieldTrees, no_fields, more_fields, field_type, count_fields, fields_of, item_type, key_type, logical_type, size_of, value_type}
 use Rattle.nest_memory.specs.declared.datatypes.IntegerType.{IntegerType}
@@ -9,10 +9,10 @@ use Rattle.nest_memory.specs.declared.datatypes.IntervalUnit.TheVariants.{YearMo
 use Rattle.nest_memory.specs.declared.datatypes.physical_type.PhysicalType.{PhysicalType}
 use Rattle.nest_memory.specs.declared.datatypes.physical_type.PhysicalType.TheVariants as physical
 use Rattle.nest_memory.specs.declared.datatypes.physical_type.PrimitiveType.{PrimitiveType}
-use Rattle.nest_model.specs.BuilderTold.{AreEachWhole, HaveRows}
+use Rattle.nest_model.specs.BuilderAddRow.{AreEachComplete, HaveRows}
 use Rattle.nest_model.specs.BuilderTree as builders
 use Rattle.nest_model.specs.BuilderTree.{BuilderTree, BuilderTrees, no_builders, more_builders, builder_len, builder_type, builder_types}
-use Rattle.nest_model.specs.BuilderWhole.{AreWhole}
+use Rattle.nest_model.specs.BuilderComplete.{AreComplete}
 use Rattle.nest_model.specs.Checks.{Pass}
 use Rattle.nest_model.specs.Fits.{IsLogically}
 use Rattle.nest_model.specs.Layout.{Layout, layout_type, field_types}
@@ -20,7 +20,7 @@ use Rattle.nest_model.specs.Meaning.{slots_of}
 use Rattle.json_read.specs.DistinctNames.{FieldHasDistinctFieldNames, FieldsHaveDistinctFieldNames, HasDistinctFieldNames}
 use Rattle.json_write.specs.TypedSlots.{HaveDistinctNames, LacksField}
 use Rattle.json_write.specs.JsonText.{field_name}
-use Rattle.nest_build.specs.Rows.{bits_told}
+use Rattle.nest_build.specs.Rows.{encoded_bits}
 use Rattle.std.proofs.lemmas.Slice.Eq.{bytes_eq-Decides}
 use Rattle.std.specs.Str.{bytes_eq}
 use Rattle.json_read.specs.EmptyBuilders.{AreEmptyOf, HoldsEmpty, IsEmptyOf, is_float}
@@ -42,9 +42,9 @@ first-then (Some e) b h = cc
 -- ---- without children
 
 pub flat-empty : (t : TypeTree) (a : Layout) → layout_type a ≡ t → slots_of a ≡ [] → IsEmptyOf t (builders.flat (layout_type a) (slots_of a))
-flat-empty t a same none = record { whole = tt; no_slot = none; no_row = ap length none; same_type = same }
+flat-empty t a same none = record { complete = tt; no_slot = none; no_row = ap length none; same_type = same }
 
-pub text-is : (large : Bool) (t : TypeTree) → physical_type t ≡ text_of_width large → unsupported_type t ≡ None → t ≡ (if large then types.large_utf8 else types.utf8)
+pub text-is : (large : Bool) (t : TypeTree) → physical_type t ≡ utf8_of_width large → unsupported_type t ≡ None → t ≡ (if large then types.large_utf8 else types.utf8)
 text-is false types.utf8 h f = refl
 text-is true types.large_utf8 h f = refl
 text-is false (types.extension x t m) h f = cc
@@ -132,9 +132,9 @@ item-there t (inr (inl h)) = cc
 item-there t (inr (inr h)) = cc
 
 lists-whole : (p : PhysicalType) (t u : TypeTree) (c : BuilderTree) → item_type t ≡ Some u → IsEmptyOf u c → IsEmptyOf t (empty_lists p t c)
-lists-whole physical.LargeList t u c e is = record { whole = (is.whole, e ∙ ap Some (sym is.same_type), is.no_row, tt); no_slot = refl; no_row = refl; same_type = refl }
-lists-whole physical.FixedSizeList t u c e is = record { whole = (is.whole, e ∙ ap Some (sym is.same_type), is.no_row ∙ (let z : 0 ≡ 0 * size_of t = omega arith in z)); no_slot = refl; no_row = refl; same_type = refl }
-lists-whole p t u c e is = record { whole = (is.whole, e ∙ ap Some (sym is.same_type), is.no_row, tt); no_slot = refl; no_row = refl; same_type = refl }
+lists-whole physical.LargeList t u c e is = record { complete = (is.complete, e ∙ ap Some (sym is.same_type), is.no_row, tt); no_slot = refl; no_row = refl; same_type = refl }
+lists-whole physical.FixedSizeList t u c e is = record { complete = (is.complete, e ∙ ap Some (sym is.same_type), is.no_row ∙ (let z : 0 ≡ 0 * size_of t = omega arith in z)); no_slot = refl; no_row = refl; same_type = refl }
+lists-whole p t u c e is = record { complete = (is.complete, e ∙ ap Some (sym is.same_type), is.no_row, tt); no_slot = refl; no_row = refl; same_type = refl }
 
 pub lists-hold : (t u : TypeTree) → IsOfLists (physical_type t) → unsupported_type t ≡ None → item_type t ≡ Some u → HoldsEmpty t u
 lists-hold t u h f e c is =
@@ -169,7 +169,7 @@ keys-hold k t u h f e c is =
     let flat : AreFlat (value_type t) = subst AreFlat (sym e) (value-read t u e f).0 in
     rw key (
       (flat, (is.no_row, (logical, tt))),
-      record { whole = (is.whole, logical, is.no_row); no_slot = refl; no_row = refl; same_type = refl },
+      record { complete = (is.complete, logical, is.no_row); no_slot = refl; no_row = refl; same_type = refl },
     )
 
 -- ---- records
@@ -181,14 +181,14 @@ fields-read (types.struct fs) h f =
 fields-read (types.extension x t m) h f = fields-read t h (unless-then _ _ _ f).1
 fields-read t h f = cc
 
-all-whole : (fs : FieldTrees) (bs : BuilderTrees) → AreEmptyOf fs bs → AreEachWhole bs × AreWhole bs 0 × HaveRows bs 0 × (builder_types bs ≡ field_types fs) × (count_builders bs ≡ count_fields fs)
+all-whole : (fs : FieldTrees) (bs : BuilderTrees) → AreEmptyOf fs bs → AreEachComplete bs × AreComplete bs 0 × HaveRows bs 0 × (builder_types bs ≡ field_types fs) × (count_builders bs ≡ count_fields fs)
 all-whole no_fields no_builders h = (tt, tt, tt, refl, refl)
 all-whole no_fields (more_builders b bs) h = absurd h
 all-whole (more_fields f fs) no_builders h = absurd h
 all-whole (more_fields f fs) (more_builders b bs) h =
     let rest = all-whole fs bs h.1 in (
-      (h.0.whole, rest.0),
-      (h.0.whole, h.0.no_row, rest.1),
+      (h.0.complete, rest.0),
+      (h.0.complete, h.0.no_row, rest.1),
       (h.0.no_row, rest.2),
       (λ i. h.0.same_type i ∷ rest.3 i),
       ap suc rest.4,
@@ -199,16 +199,16 @@ first-none fs no_builders are = refl
 first-none no_fields (more_builders b bs) are = absurd are
 first-none (more_fields f fs) (more_builders b bs) are = are.0.no_row
 
-pub records-fit : (t : TypeTree) (bs : BuilderTrees) → physical_type t ≡ physical.Struct → unsupported_type t ≡ None → AreEmptyOf (fields_of t) bs → AreEachWhole bs × Pass (struct_checks t bs None)
+pub records-fit : (t : TypeTree) (bs : BuilderTrees) → physical_type t ≡ physical.Struct → unsupported_type t ≡ None → AreEmptyOf (fields_of t) bs → AreEachComplete bs × Pass (struct_checks t bs None)
 records-fit t bs h f are =
     let all = all-whole (fields_of t) bs are in
     let rows = first-none (fields_of t) bs are in
     (all.0, (h, ((fields-read t h f).0, (all.4, (all.3, (subst (HaveRows bs) (sym rows) all.2, (tt, tt)))))))
 
-pub records-empty : (t : TypeTree) (bs : BuilderTrees) → physical_type t ≡ physical.Struct → AreEmptyOf (fields_of t) bs → IsEmptyOf t (builders.struct t (bits_told (first_rows bs) None) bs)
+pub records-empty : (t : TypeTree) (bs : BuilderTrees) → physical_type t ≡ physical.Struct → AreEmptyOf (fields_of t) bs → IsEmptyOf t (builders.struct t (encoded_bits (first_rows bs) None) bs)
 records-empty t bs h are =
     let all = all-whole (fields_of t) bs are in
-    subst (λ n. IsEmptyOf t (builders.struct t (bits_told n None) bs)) (sym (first-none (fields_of t) bs are)) (record { whole = (all.1, all.3); no_slot = refl; no_row = refl; same_type = refl })
+    subst (λ n. IsEmptyOf t (builders.struct t (encoded_bits n None) bs)) (sym (first-none (fields_of t) bs are)) (record { complete = (all.1, all.3); no_slot = refl; no_row = refl; same_type = refl })
 
 -- ---- names
 

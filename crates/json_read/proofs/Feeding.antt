@@ -10,15 +10,15 @@ use Rattle.nest_any.specs.Lent.{builder_at, set_builder}
 use Rattle.json_read.specs.StructMembers.{has_member, AddedIf, MembersAddedTo, AllFieldsAdded, NullsAdded, field_name_at_index, child_named, child_error}
 use Rattle.json_read.specs.FlatValues.{first_error, error_unless}
 use Rattle.json_read.specs.JsonSlots.{value_error, slot_named, field_slots, is_named, type_named, name_error, members_error}
-use Rattle.json_read.specs.RowAdded.{RowAdded}
+use Rattle.json_read.specs.SlotAdded.{SlotAdded}
 use Rattle.json_read.specs.declared.value_error.ValueError.{ValueError}
 use Rattle.json_read.specs.declared.value_error.ValueError.TheVariants.{UnknownField, DuplicateField}
 use Rattle.nest_memory.specs.TypeTree.{Letters, FieldTree, FieldTrees, no_fields, more_fields, field_type, TypeTree}
 use Rattle.nest_model.specs.BuilderLevels.{own_slots, own_slots_each, record_at, rows_of_records}
 use Rattle.nest_model.specs.BuilderLevelLaws.{own-length, len-grown}
 use Rattle.nest_model.specs.BuilderTree.{BuilderTree, BuilderTrees, struct, no_builders, more_builders, builder_len, builder_type, builder_types}
-use Rattle.nest_model.specs.BuilderTold.{AreEachWhole, Told}
-use Rattle.nest_model.specs.BuilderWhole.{IsWhole, AreWhole}
+use Rattle.nest_model.specs.BuilderAddRow.{AreEachComplete, RowAdded}
+use Rattle.nest_model.specs.BuilderComplete.{IsComplete, AreComplete}
 use Rattle.nest_model.specs.Layout.{field_types}
 use Rattle.nest_model.specs.Slot as slots
 use Rattle.nest_model.specs.Slot.{Slot, Slots}
@@ -57,7 +57,7 @@ eqb-more m n h = elim (eqb_tells m n) [
   | inr q ↦ q.0
 ]
 
-pub added-len : (s : Slot) (c d : BuilderTree) → RowAdded s c d → builder_len d ≡ builder_len c + 1
+pub added-len : (s : Slot) (c d : BuilderTree) → SlotAdded s c d → builder_len d ≡ builder_len c + 1
 added-len s c d h = len-grown (s ∷ []) c d h.last
 
 -- ---- what a slot more changes
@@ -111,12 +111,12 @@ head-apart n k fs i h e q = not-named n fs i h (e ∙ ap Some (sym q))
 
 -- the head's child added the slot
 fed-head : (b : Bool) (k : Letters) (z : Slot) (n : Letters) (ps : List (Letters × Slot)) (rows : ℕ) (c d e : BuilderTree) → has_member n ps ≡ b → bytes_eq k n ≡ true → AddedIf b (slot_named n ps) c d → builder_len c ≡ rows → builder_len d ≡ rows
-    → RowAdded z d e → AddedIf (has_member n (ps ++ (k, z) ∷ [])) (slot_named n (ps ++ (k, z) ∷ [])) c e
+    → SlotAdded z d e → AddedIf (has_member n (ps ++ (k, z) ∷ [])) (slot_named n (ps ++ (k, z) ∷ [])) c e
 fed-head true k z n ps rows c d e h q w l m tk = absurd (omega (arith, added-len (slot_named n ps) c d w, l, m))
-fed-head false k z n ps rows c d e h q w l m tk = rw (has-new n k z ps q, slot-new n k z ps q h) (subst (λ x. RowAdded z x e) w tk)
+fed-head false k z n ps rows c d e h q w l m tk = rw (has-new n k z ps q, slot-new n k z ps q h) (subst (λ x. SlotAdded z x e) w tk)
 
-pub fed-put : (fs : FieldTrees) (ps : List (Letters × Slot)) (cs ds : BuilderTrees) (i : ℕ) (k : Letters) (z : Slot) (n : ℕ) (d e : BuilderTree) → HaveDistinctNames fs → AreWhole cs n → MembersAddedTo fs ps cs ds
-    → field_name_at_index fs i ≡ Some k → builder_at ds i ≡ Some d → builder_len d ≡ n → RowAdded z d e → MembersAddedTo fs (ps ++ (k, z) ∷ []) cs (set_builder ds i e)
+pub fed-put : (fs : FieldTrees) (ps : List (Letters × Slot)) (cs ds : BuilderTrees) (i : ℕ) (k : Letters) (z : Slot) (n : ℕ) (d e : BuilderTree) → HaveDistinctNames fs → AreComplete cs n → MembersAddedTo fs ps cs ds
+    → field_name_at_index fs i ≡ Some k → builder_at ds i ≡ Some d → builder_len d ≡ n → SlotAdded z d e → MembersAddedTo fs (ps ++ (k, z) ∷ []) cs (set_builder ds i e)
 fed-put no_fields ps cs ds i k z n d e a w h p q l t = absurd cc
 fed-put (more_fields f fs) ps no_builders ds i k z n d e a w h p q l t = absurd h
 fed-put (more_fields f fs) ps (more_builders c cs) no_builders i k z n d e a w h p q l t = absurd h
@@ -124,7 +124,7 @@ fed-put (more_fields f fs) ps (more_builders c cs) (more_builders x ds) zero k z
     let named : field_name f ≡ k = cc in
     let stood : x ≡ d = cc in
     let len = ap builder_len stood ∙ l in
-    let added = subst (λ y. RowAdded z y e) (sym stood) t in (
+    let added = subst (λ y. SlotAdded z y e) (sym stood) t in (
       fed-head (has_member (field_name f) ps) k z (field_name f) ps n c x e refl (eq-same k (field_name f) (sym named)) h.0 w.1 len added,
       fed-others k z fs ps cs ds (subst (λ y. LacksField y fs) named a.0) h.1,
     )
@@ -141,15 +141,15 @@ fed-none no_fields (more_builders c cs) e = absurd cc
 fed-none (more_fields f fs) no_builders e = absurd cc
 fed-none (more_fields f fs) (more_builders c cs) e = (refl, fed-none fs cs (let r : builder_types cs ≡ field_types fs = cc in r))
 
-whole-by : (b : Bool) (s : Slot) (c d : BuilderTree) → AddedIf b s c d → IsWhole c → IsWhole d
-whole-by true s c d h w = h.whole
-whole-by false s c d h w = subst IsWhole (sym h) w
+whole-by : (b : Bool) (s : Slot) (c d : BuilderTree) → AddedIf b s c d → IsComplete c → IsComplete d
+whole-by true s c d h w = h.complete
+whole-by false s c d h w = subst IsComplete (sym h) w
 
 type-by : (b : Bool) (s : Slot) (c d : BuilderTree) → AddedIf b s c d → builder_type d ≡ builder_type c
 type-by true s c d h = h.same_type
 type-by false s c d h = ap builder_type h
 
-pub fed-whole : (fs : FieldTrees) (ps : List (Letters × Slot)) (cs ds : BuilderTrees) (n : ℕ) → MembersAddedTo fs ps cs ds → AreWhole cs n → AreEachWhole ds
+pub fed-whole : (fs : FieldTrees) (ps : List (Letters × Slot)) (cs ds : BuilderTrees) (n : ℕ) → MembersAddedTo fs ps cs ds → AreComplete cs n → AreEachComplete ds
 fed-whole no_fields ps no_builders no_builders n h w = tt
 fed-whole no_fields ps no_builders (more_builders d ds) n h w = absurd h
 fed-whole no_fields ps (more_builders c cs) ds n h w = absurd h
@@ -181,7 +181,7 @@ error-head true j t s rows c d w l u = rw (eqb-more (builder_len d) rows (omega 
 error-head false j t s rows c d w l u = rw (eqb-same (builder_len d) rows (ap builder_len w ∙ l), ap builder_type w, u) refl
 
 -- they are the same by the children
-error-child : (fs : FieldTrees) (ps : List (Letters × Slot)) (cs ds : BuilderTrees) (k : Letters) (j : Json) (n : ℕ) → builder_types cs ≡ field_types fs → AreWhole cs n → MembersAddedTo fs ps cs ds
+error-child : (fs : FieldTrees) (ps : List (Letters × Slot)) (cs ds : BuilderTrees) (k : Letters) (j : Json) (n : ℕ) → builder_types cs ≡ field_types fs → AreComplete cs n → MembersAddedTo fs ps cs ds
     → child_error (child_named k fs ds) n j ≡ member_fault (is_named k fs) (has_member k ps) (type_named k fs) j
 unfolding member_fault
 error-child no_fields ps cs ds k j n ty w h = refl
@@ -199,7 +199,7 @@ error-child (more_fields f fs) ps (more_builders c cs) (more_builders d ds) k j 
     by false q rest = rest
 
 -- the members' reasons from one on: those of it, then the others'
-pub members-error : (fs : FieldTrees) (ps : List (Letters × Slot)) (cs ds : BuilderTrees) (k : Letters) (j : Json) (ms : Members) (n : ℕ) → builder_types cs ≡ field_types fs → AreWhole cs n → MembersAddedTo fs ps cs ds
+pub members-error : (fs : FieldTrees) (ps : List (Letters × Slot)) (cs ds : BuilderTrees) (k : Letters) (j : Json) (ms : Members) (n : ℕ) → builder_types cs ≡ field_types fs → AreComplete cs n → MembersAddedTo fs ps cs ds
     → members_error fs (map (λ p. p.0) ps) (member k j ms) ≡ first_error (child_error (child_named k fs ds) n j) (members_error fs (map (λ p. p.0) ps ++ k ∷ []) ms)
 unfolding member_fault
 members-error fs ps cs ds k j ms n ty w h =
@@ -242,15 +242,15 @@ type-at k (more_fields f fs) (more_builders d cs) (suc i) c ty a e q =
 
 -- ---- the record
 
-filled-one : (b : Bool) (n : Letters) (ps : List (Letters × Slot)) (rows : ℕ) (c d e : BuilderTree) → has_member n ps ≡ b → AddedIf b (slot_named n ps) c d → builder_len c ≡ rows → AddedIf (builder_len d == rows) slots.null d e → RowAdded (slot_named n ps) c e
+filled-one : (b : Bool) (n : Letters) (ps : List (Letters × Slot)) (rows : ℕ) (c d e : BuilderTree) → has_member n ps ≡ b → AddedIf b (slot_named n ps) c d → builder_len c ≡ rows → AddedIf (builder_len d == rows) slots.null d e → SlotAdded (slot_named n ps) c e
 filled-one true n ps rows c d e h w l f =
     let still : e ≡ d = subst (λ b. AddedIf b slots.null d e) (eqb-more (builder_len d) rows (omega (arith, added-len (slot_named n ps) c d w, l))) f in
-    subst (RowAdded (slot_named n ps) c) (sym still) w
+    subst (SlotAdded (slot_named n ps) c) (sym still) w
 filled-one false n ps rows c d e h w l f =
     let null = subst (λ b. AddedIf b slots.null d e) (eqb-same (builder_len d) rows (ap builder_len w ∙ l)) f in
-    subst (λ s. RowAdded s c e) (sym (slot-none n ps h)) (subst (λ x. RowAdded slots.null x e) w null)
+    subst (λ s. SlotAdded s c e) (sym (slot-none n ps h)) (subst (λ x. SlotAdded slots.null x e) w null)
 
-pub filled : (fs : FieldTrees) (ps : List (Letters × Slot)) (cs ds es : BuilderTrees) (n : ℕ) → MembersAddedTo fs ps cs ds → AreWhole cs n → NullsAdded n ds es → AllFieldsAdded fs ps cs es
+pub filled : (fs : FieldTrees) (ps : List (Letters × Slot)) (cs ds es : BuilderTrees) (n : ℕ) → MembersAddedTo fs ps cs ds → AreComplete cs n → NullsAdded n ds es → AllFieldsAdded fs ps cs es
 filled no_fields ps no_builders no_builders no_builders n h w f = tt
 filled no_fields ps no_builders no_builders (more_builders e es) n h w f = absurd f
 filled no_fields ps no_builders (more_builders d ds) es n h w f = absurd h
@@ -267,15 +267,15 @@ get-last [] s d (suc n) e = absurd (omega (arith, e))
 get-last (x ∷ xs) s d zero e = absurd (omega (arith, e))
 get-last (x ∷ xs) s d (suc n) e = get-last xs s d n (omega (arith, e))
 
-pub filled-whole : (fs : FieldTrees) (ps : List (Letters × Slot)) (cs es : BuilderTrees) → AllFieldsAdded fs ps cs es → AreEachWhole es
+pub filled-whole : (fs : FieldTrees) (ps : List (Letters × Slot)) (cs es : BuilderTrees) → AllFieldsAdded fs ps cs es → AreEachComplete es
 filled-whole no_fields ps no_builders no_builders h = tt
 filled-whole no_fields ps no_builders (more_builders e es) h = absurd h
 filled-whole no_fields ps (more_builders c cs) es h = absurd h
 filled-whole (more_fields f fs) ps no_builders es h = absurd h
 filled-whole (more_fields f fs) ps (more_builders c cs) no_builders h = absurd h
-filled-whole (more_fields f fs) ps (more_builders c cs) (more_builders e es) h = (h.0.whole, filled-whole fs ps cs es h.1)
+filled-whole (more_fields f fs) ps (more_builders c cs) (more_builders e es) h = (h.0.complete, filled-whole fs ps cs es h.1)
 
-filled-last : (fs : FieldTrees) (ps : List (Letters × Slot)) (cs es : BuilderTrees) (n : ℕ) → AllFieldsAdded fs ps cs es → AreWhole cs n → record_at n (own_slots_each es) ≡ field_slots fs ps
+filled-last : (fs : FieldTrees) (ps : List (Letters × Slot)) (cs es : BuilderTrees) (n : ℕ) → AllFieldsAdded fs ps cs es → AreComplete cs n → record_at n (own_slots_each es) ≡ field_slots fs ps
 filled-last no_fields ps no_builders no_builders n h w = refl
 filled-last no_fields ps no_builders (more_builders e es) n h w = absurd h
 filled-last no_fields ps (more_builders c cs) es n h w = absurd h
@@ -284,7 +284,7 @@ filled-last (more_fields f fs) ps (more_builders c cs) no_builders n h w = absur
 filled-last (more_fields f fs) ps (more_builders c cs) (more_builders e es) n h w =
     rw (h.0.last, get-last (own_slots c) (slot_named (field_name f) ps) slots.null n (omega (arith, own-length c, w.1)), filled-last fs ps cs es n h.1 w.2) refl
 
-filled-record : (fs : FieldTrees) (ps : List (Letters × Slot)) (cs es : BuilderTrees) (n i : ℕ) → i < n → AllFieldsAdded fs ps cs es → AreWhole cs n → record_at i (own_slots_each es) ≡ record_at i (own_slots_each cs)
+filled-record : (fs : FieldTrees) (ps : List (Letters × Slot)) (cs es : BuilderTrees) (n i : ℕ) → i < n → AllFieldsAdded fs ps cs es → AreComplete cs n → record_at i (own_slots_each es) ≡ record_at i (own_slots_each cs)
 filled-record no_fields ps no_builders no_builders n i l h w = refl
 filled-record no_fields ps no_builders (more_builders e es) n i l h w = absurd h
 filled-record no_fields ps (more_builders c cs) es n i l h w = absurd h
@@ -293,16 +293,16 @@ filled-record (more_fields f fs) ps (more_builders c cs) no_builders n i l h w =
 filled-record (more_fields f fs) ps (more_builders c cs) (more_builders e es) n i l h w =
     rw (h.0.last, get_or_append_left (own_slots c) (slot_named (field_name f) ps ∷ []) slots.null i (omega (arith, own-length c, w.1)), filled-record fs ps cs es n i l h.1 w.2) refl
 
-filled-records : (fs : FieldTrees) (ps : List (Letters × Slot)) (cs es : BuilderTrees) (n i : ℕ) (bits : List Bool) → i + length bits ≤ n → AllFieldsAdded fs ps cs es → AreWhole cs n → rows_of_records i bits (own_slots_each es) ≡ rows_of_records i bits (own_slots_each cs)
+filled-records : (fs : FieldTrees) (ps : List (Letters × Slot)) (cs es : BuilderTrees) (n i : ℕ) (bits : List Bool) → i + length bits ≤ n → AllFieldsAdded fs ps cs es → AreComplete cs n → rows_of_records i bits (own_slots_each es) ≡ rows_of_records i bits (own_slots_each cs)
 filled-records fs ps cs es n i [] l h w = refl
 filled-records fs ps cs es n i (b ∷ bs) l h w = rw (filled-record fs ps cs es n i (omega arith) h w, filled-records fs ps cs es n (suc i) bs (omega arith) h w) refl
 
 -- a told record over them
-pub record-added : (t : TypeTree) (bits : List Bool) (fs : FieldTrees) (ps : List (Letters × Slot)) (cs es : BuilderTrees) (new : BuilderTree) → AllFieldsAdded fs ps cs es → AreWhole cs (length bits) → Told true (struct t bits es) new
-    → RowAdded (slots.record_of (field_slots fs ps)) (struct t bits cs) new
+pub record-added : (t : TypeTree) (bits : List Bool) (fs : FieldTrees) (ps : List (Letters × Slot)) (cs es : BuilderTrees) (new : BuilderTree) → AllFieldsAdded fs ps cs es → AreComplete cs (length bits) → RowAdded true (struct t bits es) new
+    → SlotAdded (slots.record_of (field_slots fs ps)) (struct t bits cs) new
 record-added t bits fs ps cs es new h w k =
     record {
       last = rw (← filled-last fs ps cs es (length bits) h w, ← filled-records fs ps cs es (length bits) 0 bits (omega arith) h w) k.last;
-      whole = k.whole;
+      complete = k.complete;
       same_type = ap builder_type k.exact;
     }

@@ -6,15 +6,15 @@ use Rattle.json.specs.Json.{Json}
 use Rattle.nest_array.specs.SeenScalar.{shown_type}
 use Rattle.json_read.specs.FlatValues.{flat_error}
 use Rattle.json_read.specs.JsonSlots.{flat_value_error, values_physical_type}
-use Rattle.json_read.specs.RowAdded.{RowAdded}
+use Rattle.json_read.specs.SlotAdded.{SlotAdded}
 use Rattle.nest_memory.specs.TypeTree.{TypeTree, size_of}
 use Rattle.nest_model.specs.BuilderAppend.{Accepted}
 use Rattle.nest_model.specs.BuilderAppendLaws.{type-accepted}
 use Rattle.nest_model.specs.BuilderItem.{Item, slot_of_item}
 use Rattle.nest_model.specs.BuilderTree.{BuilderTree}
 
-pub took_one : (x : Item) (a b : BuilderTree) → Accepted x a b → RowAdded (slot_of_item x) a b
-took_one x a b h = record { last = h.last; whole = h.whole; same_type = type-accepted x a b h }
+pub took_one : (x : Item) (a b : BuilderTree) → Accepted x a b → SlotAdded (slot_of_item x) a b
+took_one x a b h = record { last = h.last; complete = h.complete; same_type = type-accepted x a b h }
 
 pub null_is : (j : Json) → is_null j ≡ true → j ≡ json.null
 null_is json.null h = refl

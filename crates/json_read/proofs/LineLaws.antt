@@ -14,7 +14,7 @@ use Rattle.json_read.specs.declared.error.PushLineError.TheVariants as push_line
 use Rattle.json_read.specs.declared.error.LineError.{LineError}
 use Rattle.json_read.specs.JsonSlots.{value_error, slot_of, string_slot, array_slot}
 use Rattle.json_read.specs.LineRows.{Row, rows_from}
-use Rattle.json_read.specs.RowAdded.{IsPushError, RowAdded}
+use Rattle.json_read.specs.SlotAdded.{IsPushError, SlotAdded}
 use Rattle.json_read.specs.declared.error.LineError.TheVariants as line_errors
 use Rattle.json_read.specs.declared.error.LineError.TheVariants.{InvalidJson}
 use Rattle.json_read.specs.declared.value_error.ValueError.{ValueError}
@@ -36,7 +36,7 @@ unless-utf8 : (line : List ℕ) (b : Bool) → is_utf8 line ≡ b → (IsUtf8 li
 unless-utf8 line true e none = cond-true (is_utf8 line) _ _ e ∙ none (IsUtf8-from_is_utf8 line e)
 unless-utf8 line false e none = cond-false (is_utf8 line) _ _ e
 
-pub added-row : (t : TypeTree) (line : List ℕ) (j : Json) (old new : BuilderTree) → IsUtf8 line × (document line ≡ Some j) → row_error t j ≡ None → RowAdded (slot_of t j) old new → LineAdded (line_row t line) old new
+pub added-row : (t : TypeTree) (line : List ℕ) (j : Json) (old new : BuilderTree) → IsUtf8 line × (document line ≡ Some j) → row_error t j ≡ None → SlotAdded (slot_of t j) old new → LineAdded (line_row t line) old new
 added-row t line j old new is valid added =
     subst (λ o. LineAdded (value_row t o) old new) (sym (json-there line j is.0 is.1)) (subst (λ f. LineAdded (slot_unless_error f (slot_of t j)) old new) (sym valid) added)
 
@@ -46,19 +46,19 @@ row-refused t line j e is error = ap (value_row t) (json-there line j is.0 is.1)
 pub row-none : (t : TypeTree) (line : List ℕ) → (IsUtf8 line → document line ≡ None) → line_row t line ≡ Err InvalidJson
 row-none t line none = ap (value_row t) (unless-utf8 line (is_utf8 line) refl none)
 
-pub told-row : (t : TypeTree) (line : List ℕ) (j : Json) (e : PushError) → IsUtf8 line × (document line ≡ Some j) → IsPushError e (row_error t j) → IsLineError (spec_push_line_error e) (line_row t line)
-told-row t line j (push_error.Value e) is error = row-refused t line j e is error
-told-row t line j push_error.Overflow is error = tt
-told-row t line j push_error.Memory is error = tt
+pub with_row-row : (t : TypeTree) (line : List ℕ) (j : Json) (e : PushError) → IsUtf8 line × (document line ≡ Some j) → IsPushError e (row_error t j) → IsLineError (spec_push_line_error e) (line_row t line)
+with_row-row t line j (push_error.Value e) is error = row-refused t line j e is error
+with_row-row t line j push_error.Overflow is error = tt
+with_row-row t line j push_error.Memory is error = tt
 
-pub told-text : (t : TypeTree) (lines : List (List ℕ)) (line : List ℕ) (n : ℕ) (e : PushLineError) → IsLineError e (line_row t line) → ((r : LineError) → line_row t line ≡ Err r → line_rows t lines ≡ Err (n, r)) → IsJsonReadError (spec_json_read_error n e) t lines
-told-text t lines line n (push_line_errors.Line r) error stop = stop r error
-told-text t lines line n push_line_errors.Overflow error stop = tt
-told-text t lines line n push_line_errors.Memory error stop = tt
+pub with_row-text : (t : TypeTree) (lines : List (List ℕ)) (line : List ℕ) (n : ℕ) (e : PushLineError) → IsLineError e (line_row t line) → ((r : LineError) → line_row t line ≡ Err r → line_rows t lines ≡ Err (n, r)) → IsJsonReadError (spec_json_read_error n e) t lines
+with_row-text t lines line n (push_line_errors.Line r) error stop = stop r error
+with_row-text t lines line n push_line_errors.Overflow error stop = tt
+with_row-text t lines line n push_line_errors.Memory error stop = tt
 
 -- a limit of as many lines as there are bytes is none
 pub all-used : (text : List ℕ) (used count : ℕ) → AreFirstLines text (length text) used count → used ≡ length text
-all-used text used count is = elim (cases_lt count (length text)) [ inl lt ↦ is.whole lt | inr ge ↦ omega (arith, few-lines (take used text), length-take used text, is.counted, is.within) ]
+all-used text used count is = elim (cases_lt count (length text)) [ inl lt ↦ is.complete lt | inr ge ↦ omega (arith, few-lines (take used text), length-take used text, is.counted, is.within) ]
 
 pub all-lines : (text : List ℕ) → take (length text) (lines_of text) ≡ lines_of text
 all-lines text = take_all (length text) (lines_of text) (few-lines text)
@@ -66,7 +66,7 @@ all-lines text = take_all (length text) (lines_of text) (few-lines text)
 pub all-text : (text : List ℕ) (used : ℕ) → used ≡ length text → take used text ≡ text
 all-text text used e = take_all used text (omega (arith, e))
 
-pub row-taken : (r : Row) (old new : BuilderTree) → LineAdded r old new → (s : Slot) × ((r ≡ Ok s) × RowAdded s old new)
+pub row-taken : (r : Row) (old new : BuilderTree) → LineAdded r old new → (s : Slot) × ((r ≡ Ok s) × SlotAdded s old new)
 row-taken (Ok s) old new h = (s, (refl, h))
 row-taken (Err e) old new h = absurd h
 

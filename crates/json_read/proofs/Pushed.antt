@@ -14,7 +14,7 @@ use Rattle.json_read.specs.DistinctNames.{HasDistinctFieldNames}
 use Rattle.json_read.specs.StructMembers.{MembersAddedTo, MembersAdded, MemberAdded, NullsAdded, child_error, child_named, over_children}
 use Rattle.json_read.specs.FlatValues.{first_error, item_numbers, flat_error}
 use Rattle.json_read.specs.JsonSlots.{array_error, count_of, value_error, flat_value_error, field_slots, items_error, item_slots, values_physical_type, member_slots, members_error, object_error, length_error, slot_of, type_named}
-use Rattle.json_read.specs.RowAdded.{RowAdded, IsPushError, IsList}
+use Rattle.json_read.specs.SlotAdded.{SlotAdded, IsPushError, IsList}
 use Rattle.json_read.specs.declared.value_error.ValueError.{ValueError}
 use Rattle.json_read.specs.declared.value_error.ValueError.TheVariants.{DuplicateField, WrongLength}
 use Rattle.json_read.specs.declared.value_error.PushError.{PushError}
@@ -26,9 +26,9 @@ use Rattle.nest_memory.specs.Physical.{physical_type}
 use Rattle.nest_memory.specs.TypeTree.{Letters, TypeTree, FieldTrees, no_fields, more_fields, count_fields, fields_of, fixed_size, size_of}
 use Rattle.nest_memory.specs.declared.datatypes.physical_type.PhysicalType.{PhysicalType}
 use Rattle.nest_memory.specs.declared.datatypes.physical_type.PhysicalType.TheVariants as physical
-use Rattle.nest_model.specs.BuilderTold.{AreEachWhole, HasWholeChildren, Told}
+use Rattle.nest_model.specs.BuilderAddRow.{AreEachComplete, HasCompleteChildren, RowAdded}
 use Rattle.nest_model.specs.BuilderTree.{BuilderTree, BuilderTrees, flat, list, fixed_size_list, dictionary, struct, no_builders, more_builders, builder_len, builder_type, builder_types}
-use Rattle.nest_model.specs.BuilderWhole.{IsWhole}
+use Rattle.nest_model.specs.BuilderComplete.{IsComplete}
 use Rattle.nest_model.specs.Layout.{field_types}
 use Rattle.nest_model.specs.Slot as slots
 use Rattle.nest_model.specs.Slot.{Slot, seal}
@@ -106,9 +106,9 @@ tree-at [] i d h = absurd (omega (arith, h))
 tree-at (x ∷ xs) zero d h = refl
 tree-at (x ∷ xs) (suc i) d h = tree-at xs i d (omega (arith, h))
 
-pub whole-child : (cs : BuilderTrees) (i : ℕ) (c : BuilderTree) → AreEachWhole cs → Some c ≡ builder_at cs i → IsWhole c
+pub whole-child : (cs : BuilderTrees) (i : ℕ) (c : BuilderTree) → AreEachComplete cs → Some c ≡ builder_at cs i → IsComplete c
 whole-child no_builders i c w e = absurd cc
-whole-child (more_builders d cs) zero c w e = let p : c ≡ d = cc in subst IsWhole (sym p) w.0
+whole-child (more_builders d cs) zero c w e = let p : c ≡ d = cc in subst IsComplete (sym p) w.0
 whole-child (more_builders d cs) (suc i) c w e = whole-child cs i c w.1 e
 
 pub child-repeated : (c : Option BuilderTree) (d : BuilderTree) (n : ℕ) (j : Json) → c ≡ Some d → (builder_len d ≡ n → ⊥) → child_error c n j ≡ Some DuplicateField
@@ -131,14 +131,14 @@ child-reason c d n j e h = ap (λ x. child_error x n j) e ∙ go (eqb_tells (bui
 abbrev pub IsRecords : BuilderTree → Type 0
 IsRecords b = b ≡ struct (builder_type b) (struct_bits b) (struct_children b)
 
-pub children-whole : (b : BuilderTree) → IsRecords b → HasWholeChildren b → AreEachWhole (struct_children b)
+pub children-whole : (b : BuilderTree) → IsRecords b → HasCompleteChildren b → AreEachComplete (struct_children b)
 children-whole (flat t xs) k h = absurd cc
 children-whole (list large t rows c) k h = absurd cc
 children-whole (fixed_size_list t bits c) k h = absurd cc
 children-whole (dictionary i t keys c) k h = absurd cc
 children-whole (struct t bits cs) k h = h
 
-pub records-typed : (b : BuilderTree) → IsRecords b → IsWhole b → builder_types (struct_children b) ≡ field_types (fields_of (builder_type b))
+pub records-typed : (b : BuilderTree) → IsRecords b → IsComplete b → builder_types (struct_children b) ≡ field_types (fields_of (builder_type b))
 records-typed (flat t xs) k h = absurd cc
 records-typed (list large t rows c) k h = absurd cc
 records-typed (fixed_size_list t bits c) k h = absurd cc
@@ -157,19 +157,19 @@ pub record Coming (old now : BuilderTree) (ps : List (Letters × Slot)) : Type 0
   pub kind : IsRecords old
   pub records : physical_type (builder_type old) ≡ physical.Struct
   pub distinct : HasDistinctFieldNames (builder_type old)
-  pub whole : IsWhole old
+  pub complete : IsComplete old
   pub fed : MembersAddedTo (fields_of (builder_type old)) ps (struct_children old) (struct_children now)
   pub set : now ≡ over_children old (struct_children now)
 
-pub coming-ready : (old now : BuilderTree) (ps : List (Letters × Slot)) → Coming old now ps → HasWholeChildren now × (builder_types (struct_children now) ≡ field_types (fields_of (builder_type now))) × HasDistinctFieldNames (builder_type now)
+pub coming-ready : (old now : BuilderTree) (ps : List (Letters × Slot)) → Coming old now ps → HasCompleteChildren now × (builder_types (struct_children now) ≡ field_types (fields_of (builder_type now))) × HasDistinctFieldNames (builder_type now)
 coming-ready (flat t xs) now ps h = absurd (let k = h.kind in cc)
 coming-ready (list large t rows c) now ps h = absurd (let k = h.kind in cc)
 coming-ready (fixed_size_list t bits c) now ps h = absurd (let k = h.kind in cc)
 coming-ready (dictionary i t keys c) now ps h = absurd (let k = h.kind in cc)
 coming-ready (struct t bits cs) now ps h =
     let ds = struct_children now in
-    let w = h.whole in (
-      subst HasWholeChildren (sym h.set) (fed-whole (fields_of t) ps cs ds (length bits) h.fed w.0),
+    let w = h.complete in (
+      subst HasCompleteChildren (sym h.set) (fed-whole (fields_of t) ps cs ds (length bits) h.fed w.0),
       subst (λ b. builder_types ds ≡ field_types (fields_of (builder_type b))) (sym h.set) (fed-types (fields_of t) ps cs ds h.fed ∙ w.1),
       subst (λ b. HasDistinctFieldNames (builder_type b)) (sym h.set) h.distinct,
     )
@@ -189,8 +189,8 @@ coming-next (dictionary i t keys c) now new ps k j rest n h e f = absurd (let k 
 coming-next (struct t bits cs) now new ps k j rest n h e f =
     let ds = struct_children now in
     let g = subst (λ b. MemberAdded k j (length bits) b new) h.set (subst (λ m. MemberAdded k j m now new) e f) in
-    let s = fed-step t bits cs ds ps h.records h.distinct h.whole h.fed k j new g in
-    record { fed = s.0; set = s.1; faults = error-step t bits cs ds ps h.records h.distinct h.whole h.fed k j rest new g }
+    let s = fed-step t bits cs ds ps h.records h.distinct h.complete h.fed k j new g in
+    record { fed = s.0; set = s.1; faults = error-step t bits cs ds ps h.records h.distinct h.complete h.fed k j rest new g }
 
 pub coming-stop : (old now : BuilderTree) (ps : List (Letters × Slot)) (k : Letters) (j : Json) (rest : Members) (n : ℕ) (r : PushError) → Coming old now ps → n ≡ builder_len old
     → IsPushError r (child_error (child_named k (fields_of (builder_type now)) (struct_children now)) n j) → IsPushError r (members_error (fields_of (builder_type old)) (map (λ p. p.0) ps) (member k j rest))
@@ -201,28 +201,28 @@ coming-stop (dictionary i t keys c) now ps k j rest n r h e f = absurd (let k = 
 coming-stop (struct t bits cs) now ps k j rest n r h e f =
     let ds = struct_children now in
     let g = subst (λ b. IsPushError r (child_error (child_named k (fields_of (builder_type b)) ds) n j)) h.set f in
-    error-stop t bits cs ds ps h.records h.distinct h.whole h.fed k j rest r (subst (λ m. IsPushError r (child_error (child_named k (fields_of t) ds) m j)) e g)
+    error-stop t bits cs ds ps h.records h.distinct h.complete h.fed k j rest r (subst (λ m. IsPushError r (child_error (child_named k (fields_of t) ds) m j)) e g)
 
-pub coming-told : (old now : BuilderTree) (ps : List (Letters × Slot)) (es : BuilderTrees) (n : ℕ) → Coming old now ps → n ≡ builder_len old → NullsAdded n (struct_children now) es
-    → HasWholeChildren (with_children now es) × ((new : BuilderTree) → Told true (with_children now es) new → RowAdded (slots.record_of (field_slots (fields_of (builder_type old)) ps)) old new)
-coming-told (flat t xs) now ps es n h e f = absurd (let k = h.kind in cc)
-coming-told (list large t rows c) now ps es n h e f = absurd (let k = h.kind in cc)
-coming-told (fixed_size_list t bits c) now ps es n h e f = absurd (let k = h.kind in cc)
-coming-told (dictionary i t keys c) now ps es n h e f = absurd (let k = h.kind in cc)
-coming-told (struct t bits cs) now ps es n h e f =
+pub coming-with_row : (old now : BuilderTree) (ps : List (Letters × Slot)) (es : BuilderTrees) (n : ℕ) → Coming old now ps → n ≡ builder_len old → NullsAdded n (struct_children now) es
+    → HasCompleteChildren (with_children now es) × ((new : BuilderTree) → RowAdded true (with_children now es) new → SlotAdded (slots.record_of (field_slots (fields_of (builder_type old)) ps)) old new)
+coming-with_row (flat t xs) now ps es n h e f = absurd (let k = h.kind in cc)
+coming-with_row (list large t rows c) now ps es n h e f = absurd (let k = h.kind in cc)
+coming-with_row (fixed_size_list t bits c) now ps es n h e f = absurd (let k = h.kind in cc)
+coming-with_row (dictionary i t keys c) now ps es n h e f = absurd (let k = h.kind in cc)
+coming-with_row (struct t bits cs) now ps es n h e f =
     let ds = struct_children now in
     let g = subst (λ m. NullsAdded m ds es) e f in
     let over : with_children now es ≡ struct t bits es = ap (λ b. with_children b es) h.set ∙ ap (struct t bits) (completed-over (length bits) ds es g) in (
-      subst HasWholeChildren (sym over) (completed-whole t bits cs ds ps h.records h.distinct h.whole h.fed es g),
-      λ new told. completed-added t bits cs ds ps h.records h.distinct h.whole h.fed es new g (subst (λ b. Told true b new) over told),
+      subst HasCompleteChildren (sym over) (completed-whole t bits cs ds ps h.records h.distinct h.complete h.fed es g),
+      λ new with_row. completed-added t bits cs ds ps h.records h.distinct h.complete h.fed es new g (subst (λ b. RowAdded true b new) over with_row),
     )
 
-pub coming-children : (old now : BuilderTree) (ps : List (Letters × Slot)) → Coming old now ps → AreEachWhole (struct_children now)
+pub coming-children : (old now : BuilderTree) (ps : List (Letters × Slot)) → Coming old now ps → AreEachComplete (struct_children now)
 coming-children (flat t xs) now ps h = absurd (let k = h.kind in cc)
 coming-children (list large t rows c) now ps h = absurd (let k = h.kind in cc)
 coming-children (fixed_size_list t bits c) now ps h = absurd (let k = h.kind in cc)
 coming-children (dictionary i t keys c) now ps h = absurd (let k = h.kind in cc)
-coming-children (struct t bits cs) now ps h = let w = h.whole in fed-whole (fields_of t) ps cs (struct_children now) (length bits) h.fed w.0
+coming-children (struct t bits cs) now ps h = let w = h.complete in fed-whole (fields_of t) ps cs (struct_children now) (length bits) h.fed w.0
 
 pub some-len : (c d : BuilderTree) → Some c ≡ Some d → builder_len c ≡ builder_len d
 some-len c d e = let p : c ≡ d = cc in ap builder_len p

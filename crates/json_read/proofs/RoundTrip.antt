@@ -96,11 +96,11 @@ mutual
 
   pub slot-back : (t : TypeTree) (s : Slot) → HasDistinctFieldNames t → IsSlotOf t s → CanRoundTrip s → slot_of t (tree_of_slot t s) ≡ s
   slot-back t slots.null a h b = refl
-  slot-back t (slots.truth x) a h b = refl
+  slot-back t (slots.boolean x) a h b = refl
   slot-back t (slots.number []) a h b = rw h refl
   slot-back t (slots.number (z ∷ [])) a h b = ap (λ y. slots.number (y ∷ [])) (decimal z b.0)
   slot-back t (slots.number (z ∷ y ∷ zs)) a h b = rw h (ap slots.number (numbers-back z y zs b))
-  slot-back t (slots.text bs) a h b = rw h refl
+  slot-back t (slots.utf8 bs) a h b = rw h refl
   slot-back t (slots.bytes bs) a h b = rw (h, hex bs b) refl
   slot-back t (slots.list ss) a h b = rw (h.0, items-back (items_type t) ss (items-apart t a h.0) h.1 b) refl
   slot-back t (slots.record_of ss) a h b =

@@ -104,10 +104,10 @@ module _ (row : List ℕ → Row) (text line : List ℕ) (limit used count n : �
   stop-at : (a : After (drop used text) line) (e : LineError) → count < limit → row line ≡ Err e → rows_from row 0 (take limit (lines_of text)) ≡ Err (count, e)
   stop-at a e few bad =
       let fs = lines_of (take used text) in
-      let whole : lines_of text ≡ fs ++ line ∷ a.more = ap lines_of (sym (take-append-drop used text)) ∙ read.ends open_ (drop used text) ∙ ap (λ (ls : List (List ℕ)). fs ++ ls) a.split in
+      let complete : lines_of text ≡ fs ++ line ∷ a.more = ap lines_of (sym (take-append-drop used text)) ∙ read.ends open_ (drop used text) ∙ ap (λ (ls : List (List ℕ)). fs ++ ls) a.split in
       let past = take-past fs line a.more limit (omega (arith, read.counted)) in
       let at : 0 + length fs ≡ count = omega (arith, read.counted) in
-      ap (λ (ls : List (List ℕ)). rows_from row 0 (take limit ls)) whole
+      ap (λ (ls : List (List ℕ)). rows_from row 0 (take limit ls)) complete
       ∙ ap (rows_from row 0) past.1
       ∙ rows-stop row 0 fs line past.0 ss e read.rows bad
       ∙ ap (λ k. Err (k, e)) at
@@ -123,7 +123,7 @@ rest-apart text used ends = elim (cases_lt used (length text)) [
 ]
 
 pub read-end : (row : List ℕ → Row) (text : List ℕ) (limit used count : ℕ) (ss : List Slot) → Read row text limit used count ss → (count < limit → used ≡ length text) → AreFirstLines text limit used count
-read-end row text limit used count ss read done = record { within = read.within; rest = rest-apart text used read.ends; counted = read.counted; few = read.few; whole = done }
+read-end row text limit used count ss read done = record { within = read.within; rest = rest-apart text used read.ends; counted = read.counted; few = read.few; complete = done }
 
 -- ---- all lines
 

@@ -9,7 +9,7 @@ use Rattle.json_read.specs.DistinctNames.{HasDistinctFieldNames}
 use Rattle.json_read.specs.StructMembers.{MembersAddedTo, MemberAdded, NullsAdded, IsLimitError, child_error, child_named}
 use Rattle.json_read.specs.FlatValues.{first_error}
 use Rattle.json_read.specs.JsonSlots.{value_error, field_slots, slot_of, type_named, members_error}
-use Rattle.json_read.specs.RowAdded.{RowAdded, IsPushError}
+use Rattle.json_read.specs.SlotAdded.{SlotAdded, IsPushError}
 use Rattle.json_read.specs.declared.value_error.ValueError.{ValueError}
 use Rattle.json_read.specs.declared.value_error.ValueError.TheVariants.{DuplicateField}
 use Rattle.json_read.specs.declared.value_error.PushError.{PushError}
@@ -20,8 +20,8 @@ use Rattle.nest_memory.specs.Physical.{physical_type}
 use Rattle.nest_memory.specs.TypeTree.{Letters, TypeTree, fields_of}
 use Rattle.nest_memory.specs.declared.datatypes.physical_type.PhysicalType.TheVariants as physical
 use Rattle.nest_model.specs.BuilderTree.{BuilderTree, BuilderTrees, struct, no_builders, more_builders, builder_len, builder_type}
-use Rattle.nest_model.specs.BuilderTold.{HasWholeChildren, Told}
-use Rattle.nest_model.specs.BuilderWhole.{IsWhole}
+use Rattle.nest_model.specs.BuilderAddRow.{HasCompleteChildren, RowAdded}
+use Rattle.nest_model.specs.BuilderComplete.{IsComplete}
 use Rattle.nest_model.specs.Slot as slots
 use Rattle.nest_model.specs.Slot.{Slot}
 
@@ -45,16 +45,16 @@ limit-refuses push_error.Memory f h = tt
 child-valid : (c : Option BuilderTree) (d : BuilderTree) (n : ℕ) (j : Json) → c ≡ Some d → builder_len d ≡ n → value_error (builder_type d) j ≡ None → child_error c n j ≡ None
 child-valid c d n j e l f = ap (λ x. child_error x n j) e ∙ ap (λ b. if b then value_error (builder_type d) j else Some DuplicateField) (eqb-same (builder_len d) n l) ∙ f
 
-module _ (t : TypeTree) (bits : List Bool) (cs ds : BuilderTrees) (ps : List (Letters × Slot)) (is : physical_type t ≡ physical.Struct) (apart : HasDistinctFieldNames t) (whole : IsWhole (struct t bits cs)) (fed : MembersAddedTo (fields_of t) ps cs ds) where
+module _ (t : TypeTree) (bits : List Bool) (cs ds : BuilderTrees) (ps : List (Letters × Slot)) (is : physical_type t ≡ physical.Struct) (apart : HasDistinctFieldNames t) (complete : IsComplete (struct t bits cs)) (fed : MembersAddedTo (fields_of t) ps cs ds) where
   -- the member went to its child
   pub fed-step : (k : Letters) (j : Json) (new : BuilderTree) → MemberAdded k j (length bits) (struct t bits ds) new
       → (MembersAddedTo (fields_of t) (ps ++ (k, slot_of (type_named k (fields_of t)) j) ∷ []) cs (struct_children new)) × (new ≡ struct t bits (struct_children new))
   fed-step k j new h =
       let names = (struct-apart t is apart).0 in
-      let typed = fed-types (fields_of t) ps cs ds fed ∙ whole.1 in
+      let typed = fed-types (fields_of t) ps cs ds fed ∙ complete.1 in
       let same = type-at k (fields_of t) ds h.index h.before typed names h.named h.child in
-      let added = subst (λ u. RowAdded (slot_of u j) h.before h.after) (sym same) h.added in
-      let put = fed-put (fields_of t) ps cs ds h.index k (slot_of (type_named k (fields_of t)) j) (length bits) h.before h.after names whole.0 fed h.named h.child h.rows added in
+      let added = subst (λ u. SlotAdded (slot_of u j) h.before h.after) (sym same) h.added in
+      let put = fed-put (fields_of t) ps cs ds h.index k (slot_of (type_named k (fields_of t)) j) (length bits) h.before h.after names complete.0 fed h.named h.child h.rows added in
       (subst (λ b. MembersAddedTo (fields_of t) (ps ++ (k, slot_of (type_named k (fields_of t)) j) ∷ []) cs (struct_children b)) (sym h.set) put, h.set ∙ ap (λ b. struct t bits (struct_children b)) (sym h.set))
 
   -- no reason was in it
@@ -62,24 +62,24 @@ module _ (t : TypeTree) (bits : List Bool) (cs ds : BuilderTrees) (ps : List (Le
       → members_error (fields_of t) (map (λ p. p.0) ps) (member k j ms) ≡ members_error (fields_of t) (map (λ p. p.0) (ps ++ (k, slot_of (type_named k (fields_of t)) j) ∷ [])) ms
   error-step k j ms new h =
       let names = (struct-apart t is apart).0 in
-      let typed = fed-types (fields_of t) ps cs ds fed ∙ whole.1 in
+      let typed = fed-types (fields_of t) ps cs ds fed ∙ complete.1 in
       let found = named-at k (fields_of t) ds h.index typed names h.named ∙ h.child in
-      members-error (fields_of t) ps cs ds k j ms (length bits) whole.1 whole.0 fed
+      members-error (fields_of t) ps cs ds k j ms (length bits) complete.1 complete.0 fed
       ∙ ap (λ e. first_error e (members_error (fields_of t) (map (λ p. p.0) ps ++ k ∷ []) ms)) (child-valid (child_named k (fields_of t) ds) h.before (length bits) j found h.rows h.valid)
       ∙ ap (λ ns. members_error (fields_of t) ns ms) (sym (map_push (λ p. p.0) ps (k, slot_of (type_named k (fields_of t)) j)))
 
   -- a reason was
   pub error-stop : (k : Letters) (j : Json) (ms : Members) (e : PushError) → IsPushError e (child_error (child_named k (fields_of t) ds) (length bits) j) → IsPushError e (members_error (fields_of t) (map (λ p. p.0) ps) (member k j ms))
   error-stop k j ms e h =
-      subst (IsPushError e) (sym (members-error (fields_of t) ps cs ds k j ms (length bits) whole.1 whole.0 fed)) (refuses-first e (child_error (child_named k (fields_of t) ds) (length bits) j) (members_error (fields_of t) (map (λ p. p.0) ps ++ k ∷ []) ms) h)
+      subst (IsPushError e) (sym (members-error (fields_of t) ps cs ds k j ms (length bits) complete.1 complete.0 fed)) (refuses-first e (child_error (child_named k (fields_of t) ds) (length bits) j) (members_error (fields_of t) (map (λ p. p.0) ps ++ k ∷ []) ms) h)
 
   -- ---- the record
 
-  pub completed-whole : (es : BuilderTrees) → NullsAdded (length bits) ds es → HasWholeChildren (struct t bits es)
-  completed-whole es h = filled-whole (fields_of t) ps cs es (filled (fields_of t) ps cs ds es (length bits) fed whole.0 h)
+  pub completed-whole : (es : BuilderTrees) → NullsAdded (length bits) ds es → HasCompleteChildren (struct t bits es)
+  completed-whole es h = filled-whole (fields_of t) ps cs es (filled (fields_of t) ps cs ds es (length bits) fed complete.0 h)
 
-  pub completed-added : (es : BuilderTrees) (new : BuilderTree) → NullsAdded (length bits) ds es → Told true (struct t bits es) new → RowAdded (slots.record_of (field_slots (fields_of t) ps)) (struct t bits cs) new
-  completed-added es new h k = record-added t bits (fields_of t) ps cs es new (filled (fields_of t) ps cs ds es (length bits) fed whole.0 h) whole.0 k
+  pub completed-added : (es : BuilderTrees) (new : BuilderTree) → NullsAdded (length bits) ds es → RowAdded true (struct t bits es) new → SlotAdded (slots.record_of (field_slots (fields_of t) ps)) (struct t bits cs) new
+  completed-added es new h k = record-added t bits (fields_of t) ps cs es new (filled (fields_of t) ps cs ds es (length bits) fed complete.0 h) complete.0 k
 
 pub completed-over : (n : ℕ) (ds es : BuilderTrees) → NullsAdded n ds es → written_over ds es ≡ es
 completed-over n no_builders no_builders h = refl

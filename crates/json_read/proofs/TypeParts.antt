@@ -15,7 +15,7 @@ use Rattle.nest_memory.specs.TypeTree as types
 use Rattle.nest_memory.specs.TypeTree.{TypeTree, FieldTree, field, FieldTrees, no_fields, more_fields, item_type, fields_of, fixed_size, size_of}
 use Rattle.nest_memory.specs.declared.datatypes.physical_type.PhysicalType.TheVariants as physical
 use Rattle.nest_model.specs.BuilderTree.{BuilderTree, BuilderTrees, flat, list, fixed_size_list, dictionary, struct, no_builders, more_builders, builder_type, builder_types}
-use Rattle.nest_model.specs.BuilderWhole.{IsWhole}
+use Rattle.nest_model.specs.BuilderComplete.{IsComplete}
 use Rattle.nest_model.specs.Layout.{field_types}
 use Rattle.nest_model.specs.Slot as slots
 use Rattle.nest_model.specs.Slot.{Slots}
@@ -67,7 +67,7 @@ item-parts t u (inr (inl h)) e a = absurd cc
 item-parts t u (inr (inr h)) e a = absurd cc
 
 -- the items of a list's type are of its child's
-pub child-parts : (b : BuilderTree) → IsListBuilder b → IsWhole b → HasDistinctFieldNames (builder_type b) → (items_type (builder_type b) ≡ builder_type (list_child b)) × HasDistinctFieldNames (builder_type (list_child b)) × IsWhole (list_child b)
+pub child-parts : (b : BuilderTree) → IsListBuilder b → IsComplete b → HasDistinctFieldNames (builder_type b) → (items_type (builder_type b) ≡ builder_type (list_child b)) × HasDistinctFieldNames (builder_type (list_child b)) × IsComplete (list_child b)
 child-parts (flat t xs) k w a = absurd k
 child-parts (list large t rows c) k w a =
     let p = item-parts t (builder_type c) (of-lists (list large t rows c) k) w.1 a in

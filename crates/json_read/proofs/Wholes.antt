@@ -156,17 +156,17 @@ unsigned-of (c ∷ cs) n h e nz =
     let no_plus : (c == 43) ≡ false = grind (arith, nat_tests) in
     let value = digits_value 10 (c ∷ cs) in
     let P : Bool → Type 0 = λ v. cond v (cond (are_decimal_digits cs) (Some (neg_ℤ (pos (digits_value 10 cs)))) None) (cond (are_decimal_digits (c ∷ cs)) (Some (pos value)) None) ≡ Some (pos n) → IsNumeral 10 (c ∷ cs) × (value ≡ n) in
-    let told : IsNumeral 10 (c ∷ cs) × (value ≡ n) = (elim (c == 45) as P [
+    let with_row : IsNumeral 10 (c ∷ cs) × (value ≡ n) = (elim (c == 45) as P [
       | true ↦ λ k. absurd (nz (no-minus (digits_value 10 cs) n (some-of (are_decimal_digits cs) (neg_ℤ (pos (digits_value 10 cs))) (pos n) k).1))
       | false ↦ λ k. let q = some-of (are_decimal_digits (c ∷ cs)) (pos value) (pos n) k in (digits-are (c ∷ cs) q.0, cc)
     ]) e in
-    subst (λ (v : Bool). IsNumeral 10 (drop (cond v 1 0) (c ∷ cs)) × (digits_value 10 (drop (cond v 1 0) (c ∷ cs)) ≡ n)) (sym no_plus) told
+    subst (λ (v : Bool). IsNumeral 10 (drop (cond v 1 0) (c ∷ cs)) × (digits_value 10 (drop (cond v 1 0) (c ∷ cs)) ≡ n)) (sym no_plus) with_row
 
 outside-unsigned : (bits : ℕ) (s : List ℕ) (z : ℤ) → get_or s 0 0 ≢ 43 → ¬ (IsNumeral 10 (without_leading_plus s) × (digits_value 10 (without_leading_plus s) < 2 ^ bits)) → integer_of s ≢ Some (pos 0) → integer_of s ≡ Some z → is_in (unsigned bits) z ≡ true → ⊥
 outside-unsigned bits s (negsuc m) h p nz e i = absurd (cc)
 outside-unsigned bits s (pos n) h p nz e i =
-    let told = unsigned-of s n h e (λ k. nz (e ∙ ap Some k)) in
-    p (told.0, omega (arith, told.1, unsigned-in bits n i))
+    let with_row = unsigned-of s n h e (λ k. nz (e ∙ ap Some k)) in
+    p (with_row.0, omega (arith, with_row.1, unsigned-in bits n i))
 
 pub unsigned-ok : (bits : ℕ) (j : Json) (s : List ℕ) (n : ℕ) → (j ≡ number s) × (get_or s 0 0 ≢ 43) → (IsNumeral 10 (without_leading_plus s) × (digits_value 10 (without_leading_plus s) < 2 ^ bits)) × (n ≡ digits_value 10 (without_leading_plus s))
     → (number_error (unsigned bits) j ≡ None) × (number_in j ≡ pos n)

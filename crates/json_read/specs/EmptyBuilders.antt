@@ -5,13 +5,13 @@ use Rattle.nest_memory.specs.declared.datatypes.physical_type.PrimitiveType.{Pri
 use Rattle.nest_memory.specs.declared.datatypes.physical_type.PrimitiveType.TheVariants as primitive
 use Rattle.nest_model.specs.BuilderLevels.{own_slots}
 use Rattle.nest_model.specs.BuilderTree.{BuilderTree, BuilderTrees, no_builders, more_builders, builder_len, builder_type}
-use Rattle.nest_model.specs.BuilderWhole.{IsWhole}
+use Rattle.nest_model.specs.BuilderComplete.{IsComplete}
 use Rattle.nest_model.specs.Checks.{Pass}
 use Rattle.nest_any.specs.Refusals.{nested_checks, nested_over}
 
 -- an empty builder of that type, without values in its children
 pub record IsEmptyOf (t : TypeTree) (b : BuilderTree) : Type 0 where
-  pub whole : IsWhole b
+  pub complete : IsComplete b
   pub no_slot : own_slots b ≡ []
   pub no_row : builder_len b ≡ 0
   pub same_type : builder_type b ≡ t

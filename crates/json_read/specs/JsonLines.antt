@@ -5,7 +5,7 @@ use Rattle.json.specs.Find.{is_null}
 use Rattle.json.specs.Json.{Json, document}
 use Rattle.json_read.specs.JsonSlots.{value_error, slot_of}
 use Rattle.json_read.specs.LineRows.{Row, Rows, rows_from}
-use Rattle.json_read.specs.RowAdded.{RowAdded}
+use Rattle.json_read.specs.SlotAdded.{SlotAdded}
 use Rattle.json_read.specs.UnsupportedTypes.{unsupported_type}
 use Rattle.json_read.specs.declared.error.LineError.TheVariants as line_errors
 use Rattle.json_read.specs.declared.error.LineError.TheVariants.{InvalidJson}
@@ -80,7 +80,7 @@ spec_json_read_error line push_line_errors.Memory = read_errors.Memory
 
 -- the slot of a line was added to a builder
 abbrev pub LineAdded : Row → BuilderTree → BuilderTree → Type 0
-LineAdded (Ok s) old new = RowAdded s old new
+LineAdded (Ok s) old new = SlotAdded s old new
 LineAdded (Err e) old new = ⊥
 
 -- the error of a line, or a limit or a failed allocation

@@ -21,7 +21,7 @@ use Rattle.json_write.specs.TypedSlots.{SlotKind, slot_kind, numbers, binaries}
 -- a string is UTF-8, or for binary types the bytes that its digits encode
 abbrev pub string_slot : SlotKind → List ℕ → Slot
 string_slot binaries s = slots.bytes (bytes_of_hex s)
-string_slot _ s = slots.text s
+string_slot _ s = slots.utf8 s
 
 -- an array is a list slot of its items, or for native values the value of its numbers
 abbrev pub array_slot : SlotKind → List ℤ → Slots → Slot
@@ -51,7 +51,7 @@ field_slots (more_fields f fs) ps = more_slots (slot_named (field_name f) ps) (f
 abbrev mutual
   pub slot_of : TypeTree → Json → Slot
   slot_of t json.null = slots.null
-  slot_of t (json.boolean b) = slots.truth b
+  slot_of t (json.boolean b) = slots.boolean b
   slot_of t (json.number s) = slots.number (number_in (json.number s) ∷ [])
   slot_of t (json.string s) = string_slot (slot_kind t) s
   slot_of t (json.array js) = array_slot (slot_kind t) (item_numbers js) (item_slots (items_type t) js)

@@ -11,6 +11,6 @@ pub mod NativeNumbers
 pub mod RoundTrip
 pub mod LineRows
 pub mod LineSplit
-pub mod RowAdded
+pub mod SlotAdded
 pub mod UnsupportedTypes
 pub mod Integers

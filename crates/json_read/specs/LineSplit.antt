@@ -17,4 +17,4 @@ pub record AreFirstLines (text : List ℕ) (limit used count : ℕ) : Type 0 whe
   pub rest : lines_of text ≡ lines_of (take used text) ++ lines_of (drop used text)
   pub counted : length (lines_of (take used text)) ≡ count
   pub few : count ≤ limit
-  pub whole : count < limit → used ≡ length text
+  pub complete : count < limit → used ≡ length text

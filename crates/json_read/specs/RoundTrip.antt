@@ -12,9 +12,9 @@ AreBytes (b ∷ bs) = (b < 256) × AreBytes bs
 abbrev mutual
   pub CanRoundTrip : Slot → Type 0
   CanRoundTrip slots.null = Unit {0}
-  CanRoundTrip (slots.truth b) = Unit {0}
+  CanRoundTrip (slots.boolean b) = Unit {0}
   CanRoundTrip (slots.number zs) = NumbersFitIn128Bits zs
-  CanRoundTrip (slots.text bs) = Unit {0}
+  CanRoundTrip (slots.utf8 bs) = Unit {0}
   CanRoundTrip (slots.bytes bs) = AreBytes bs
   CanRoundTrip (slots.list ss) = CanAllRoundTrip ss
   CanRoundTrip (slots.record_of ss) = CanAllRoundTrip ss

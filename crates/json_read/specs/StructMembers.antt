@@ -4,7 +4,7 @@ use Rattle.json.specs.Json.{Json, Members}
 use Rattle.nest_any.specs.Lent.{builder_at, with_field}
 use Rattle.nest_any.specs.Refusals.{struct_children}
 use Rattle.json_read.specs.JsonSlots.{value_error, slot_of, slot_named, member_slots}
-use Rattle.json_read.specs.RowAdded.{RowAdded}
+use Rattle.json_read.specs.SlotAdded.{SlotAdded}
 use Rattle.json_read.specs.declared.value_error.ValueError.{ValueError}
 use Rattle.json_read.specs.declared.value_error.ValueError.TheVariants.{UnknownField, DuplicateField}
 use Rattle.json_read.specs.declared.value_error.PushError.{PushError}
@@ -22,7 +22,7 @@ has_member n (p ∷ ps) = bytes_eq p.0 n || has_member n ps
 
 -- the slot was added if the condition holds
 abbrev pub AddedIf : Bool → Slot → BuilderTree → BuilderTree → Type 0
-AddedIf true s c d = RowAdded s c d
+AddedIf true s c d = SlotAdded s c d
 AddedIf false s c d = d ≡ c
 
 -- a slot was added to each child whose field has a member
@@ -41,7 +41,7 @@ AllFieldsAdded no_fields ps no_builders (more_builders d ds) = ⊥
 AllFieldsAdded no_fields ps (more_builders c cs) ds = ⊥
 AllFieldsAdded (more_fields f fs) ps no_builders ds = ⊥
 AllFieldsAdded (more_fields f fs) ps (more_builders c cs) no_builders = ⊥
-AllFieldsAdded (more_fields f fs) ps (more_builders c cs) (more_builders d ds) = RowAdded (slot_named (field_name f) ps) c d × AllFieldsAdded fs ps cs ds
+AllFieldsAdded (more_fields f fs) ps (more_builders c cs) (more_builders d ds) = SlotAdded (slot_named (field_name f) ps) c d × AllFieldsAdded fs ps cs ds
 
 -- a null was added to each child of length n
 abbrev pub NullsAdded : ℕ → BuilderTrees → BuilderTrees → Type 0
@@ -67,6 +67,13 @@ field_name_at_index no_fields i = None
 field_name_at_index (more_fields f fs) zero = Some (field_name f)
 field_name_at_index (more_fields f fs) (suc i) = field_name_at_index fs i
 
+-- field i has this name, or it has another name or is no field
+abbrev pub HasName : FieldTrees → Letters → ℕ → Type 0
+HasName fs name i = field_name_at_index fs i ≡ Some name
+
+abbrev pub HasOtherName : FieldTrees → Letters → ℕ → Type 0
+HasOtherName fs name i = field_name_at_index fs i ≢ Some name
+
 -- the member was added to the child of its field, which had length n
 pub record MemberAdded (k : Letters) (j : Json) (n : ℕ) (old new : BuilderTree) : Type 0 where
   pub index : ℕ
@@ -76,7 +83,7 @@ pub record MemberAdded (k : Letters) (j : Json) (n : ℕ) (old new : BuilderTree
   pub child : builder_at (struct_children old) index ≡ Some before
   pub rows : builder_len before ≡ n
   pub valid : value_error (builder_type before) j ≡ None
-  pub added : RowAdded (slot_of (builder_type before) j) before after
+  pub added : SlotAdded (slot_of (builder_type before) j) before after
   pub set : new ≡ with_field old index after
 
 -- a struct builder with other children

@@ -2,7 +2,7 @@
 ghost use Rattle.std.specs.Prelude.{◌≡◌, ◌∷◌, ◌++◌, [], IfErr, IfOk, IsOkAnd, IsOkUnless, None, OnOk, alloc_error, false, true};
 ghost use Rattle.nest_any.specs.Flat.{flat_layout};
 ghost use Rattle.nest_any.specs.Trees.{tree_of, trees_of};
-ghost use Rattle.nest_any.specs.Words.{IsWhole, Memory, Pass, builder_len, builder_type, is_flat, nested_checks, nested_over, own_slots, physical_type, type_of};
+ghost use Rattle.nest_any.specs.Words.{IsComplete, Memory, Pass, builder_len, builder_type, is_flat, nested_checks, nested_over, own_slots, physical_type, type_of};
 ghost use Rattle.json_read.specs.DistinctNames.{HasDistinctFieldNames};
 ghost use Rattle.json_read.specs.EmptyBuilders.{AreEmptyOf, HoldsEmpty, IsEmptyOf};
 ghost use Rattle.json_read.specs.UnsupportedTypes.{IsNewBuilderError, unsupported_fields, unsupported_type};
@@ -35,7 +35,7 @@ use std::alloc::Global;
 /// - `Memory`: an allocation fails.
 pub fn new_builder(alloc: Global, data_type: &DataType) -> Result<AnyMutableArray, NewBuilderError>
     ensures supported { OnOk result (unsupported_type (type_of data_type.now) ≡ None) }
-    ensures whole { IfOk result (λ b. IsWhole (tree_of b)) }
+    ensures complete { IfOk result (λ b. IsComplete (tree_of b)) }
     ensures no_slot { IfOk result (λ b. own_slots (tree_of b) ≡ []) }
     ensures no_row { IfOk result (λ b. builder_len (tree_of b) ≡ 0) }
     ensures same_type { IfOk result (λ b. builder_type (tree_of b) ≡ type_of data_type.now) }
@@ -102,7 +102,7 @@ fn over(
     data_type: &DataType,
     child: AnyMutableArray,
 ) -> Result<AnyMutableArray, Error>
-    requires whole { IsWhole (tree_of child) }
+    requires complete { IsComplete (tree_of child) }
     requires fits { Pass (nested_checks (type_of data_type.now) (tree_of child)) }
     ensures ok { IfOk result (λ b. tree_of b ≡ nested_over (type_of data_type.now) (tree_of child)) }
     ensures memory { IsOkUnless result (Memory alloc_error) }

@@ -1,6 +1,6 @@
 //! Fields by name.
 ghost use Rattle.std.specs.Prelude.{◌≡◌, ◌≢◌, ◌<◌, ◌≤◌, ℕ, MatchOption, Some, bytes_eq, length};
-ghost use Rattle.json_read.specs.StructMembers.{field_name_at_index};
+ghost use Rattle.json_read.specs.StructMembers.{field_name_at_index, HasName, HasOtherName};
 ghost use Rattle.nest_memory.specs.TypeOf.{field_list_of, field_of};
 ghost use Rattle.json_write.specs.JsonText.{field_name};
 ghost use Rattle.json_write.specs.TypedSlots.{LacksField};
@@ -16,9 +16,9 @@ fn is_named(field: &Field, name: &str) -> bool
 
 // Returns the index of the first field of the name from `start` on.
 fn named_from(fields: &[Field], start: usize, name: &str) -> Option<usize>
-    ensures { MatchOption result
-        ((i : ℕ) → start ≤ i → i < length fields.now → field_name_at_index (field_list_of fields.now) i ≢ Some name.now)
-        (λ i. (i < length fields.now) × (field_name_at_index (field_list_of fields.now) i ≡ Some name.now)) }
+    ensures { let fs = field_list_of fields.now in MatchOption result
+        ((i : ℕ) → start ≤ i → i < length fields.now → HasOtherName fs name.now i)
+        (λ i. (i < length fields.now) × HasName fs name.now i) }
 {
     for i in start..fields.len() {
         if is_named(&fields[i], name) {

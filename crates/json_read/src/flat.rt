@@ -3,12 +3,12 @@ ghost use Rattle.std.specs.Prelude.{◌≡◌, ℕ, IfErr, IfOk, None, OnOk, Som
 ghost use Rattle.json.specs.Find.{is_null};
 ghost use Rattle.json.specs.Value.{value_view};
 ghost use Rattle.nest_any.specs.Trees.{tree_of};
-ghost use Rattle.nest_any.specs.Words.{IsWhole, builder_type};
+ghost use Rattle.nest_any.specs.Words.{IsComplete, builder_type};
 ghost use Rattle.nest_flat.specs.Words.{plain_value};
 ghost use Rattle.json_read.specs.StructMembers.{IsLimitError};
 ghost use Rattle.json_read.specs.FlatValues.{is_bytes, flat_error};
 ghost use Rattle.json_read.specs.JsonSlots.{flat_value_error, values_physical_type, slot_of};
-ghost use Rattle.json_read.specs.RowAdded.{IsPushError, RowAdded};
+ghost use Rattle.json_read.specs.SlotAdded.{IsPushError, SlotAdded};
 ghost use Rattle.nest_memory.specs.TypeTree.{TypeTree};
 ghost use Rattle.nest_model.specs.BuilderItem.{slot_of_plain};
 ghost use Rattle.nest_model.specs.Slot as slots;
@@ -35,8 +35,8 @@ pub(crate) fn push_leaf(
     builder: &mut AnyMutableArray,
     value: &Value<'_>,
 ) -> Result<(), PushError>
-    requires { IsWhole (tree_of builder.old) }
-    ensures added { OnOk result (RowAdded (slot_of (builder_type (tree_of builder.old)) (value_view value.now)) (tree_of builder.old) (tree_of builder.new)) }
+    requires { IsComplete (tree_of builder.old) }
+    ensures added { OnOk result (SlotAdded (slot_of (builder_type (tree_of builder.old)) (value_view value.now)) (tree_of builder.old) (tree_of builder.new)) }
     ensures valid { OnOk result (flat_value_error (builder_type (tree_of builder.old)) (value_view value.now) ≡ None) }
     ensures error { IfErr result (λ e. IsPushError e (flat_value_error (builder_type (tree_of builder.old)) (value_view value.now))) }
 {
@@ -49,8 +49,8 @@ pub(crate) fn push_leaf(
 
 // Adds a null.
 fn push_null(builder: &mut AnyMutableArray) -> Result<(), PushError>
-    requires { IsWhole (tree_of builder.old) }
-    ensures added { OnOk result (RowAdded slots.null (tree_of builder.old) (tree_of builder.new)) }
+    requires { IsComplete (tree_of builder.old) }
+    ensures added { OnOk result (SlotAdded slots.null (tree_of builder.old) (tree_of builder.new)) }
     ensures limit { IfErr result IsLimitError }
 {
     match builder.push_null() {
@@ -65,9 +65,9 @@ fn push_valid(
     builder: &mut AnyMutableArray,
     value: &Value<'_>,
 ) -> Result<(), PushError>
-    requires whole { IsWhole (tree_of builder.old) }
+    requires complete { IsComplete (tree_of builder.old) }
     requires valid { is_null (value_view value.now) ≡ false }
-    ensures added { OnOk result (RowAdded (slot_of (builder_type (tree_of builder.old)) (value_view value.now)) (tree_of builder.old) (tree_of builder.new)) }
+    ensures added { OnOk result (SlotAdded (slot_of (builder_type (tree_of builder.old)) (value_view value.now)) (tree_of builder.old) (tree_of builder.new)) }
     ensures valid { OnOk result (flat_value_error (builder_type (tree_of builder.old)) (value_view value.now) ≡ None) }
     ensures error { IfErr result (λ e. IsPushError e (flat_value_error (builder_type (tree_of builder.old)) (value_view value.now))) }
 {
@@ -87,8 +87,8 @@ fn push_valid(
 
 // Adds a value of the builder's type, which only a limit or an allocation can prevent.
 fn push_plain(builder: &mut AnyMutableArray, plain: Plain<'_>) -> Result<(), PushError>
-    requires { IsWhole (tree_of builder.old) }
-    ensures added { OnOk result (RowAdded (slot_of_plain (plain_value plain.entry)) (tree_of builder.old) (tree_of builder.new)) }
+    requires { IsComplete (tree_of builder.old) }
+    ensures added { OnOk result (SlotAdded (slot_of_plain (plain_value plain.entry)) (tree_of builder.old) (tree_of builder.new)) }
     ensures limit { IfErr result IsLimitError }
 {
     match builder.try_push_plain(Some(plain)) {

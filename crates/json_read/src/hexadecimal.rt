@@ -2,7 +2,7 @@
 ghost use Rattle.std.specs.Prelude.{◌≡◌, ◌+◌, ◌*◌, ◌&&◌, false, true, IfErr, IfOk, MatchOption, None, OnOk};
 ghost use Rattle.std.specs.Char.{digit_value};
 ghost use Rattle.json_read.specs.FlatValues.{bytes_of_hex, hex_error, is_hex};
-ghost use Rattle.json_read.specs.RowAdded.{IsPushError};
+ghost use Rattle.json_read.specs.SlotAdded.{IsPushError};
 
 use crate::value_error::{PushError, ValueError};
 use std::alloc::Global;

@@ -4,7 +4,7 @@ ghost use Rattle.json.specs.Json.{array, item, member, no_items, no_members, nul
 ghost use Rattle.json_read.specs.FlatValues.{bytes_of_hex, hex_error, native_error, number_in, ranges_of};
 ghost use Rattle.json_read.specs.FlatRoundTrip.{AreInRange, BytesRoundTrip, NumbersRoundTrip};
 ghost use Rattle.json_read.specs.DistinctNames.{HasDistinctFieldNames};
-ghost use Rattle.json_read.specs.Examples.{struct_type};
+ghost use Rattle.json_read.specs.Examples.{struct_type, tags_and_id, id_and_tags};
 ghost use Rattle.json_read.specs.JsonSlots.{value_error, slot_of};
 ghost use Rattle.json_read.specs.RoundTrip.{AreBytes, CanRoundTrip};
 ghost use Rattle.json_read.specs.declared.value_error.ValueError.TheVariants.{InvalidHex, NotAnInteger, WrongType, OutOfRange, DuplicateField, UnknownField, WrongLength};
@@ -34,9 +34,8 @@ pub fn slots_round_trip()
 
 /// `{"tags":["a"],"id":1}` as a struct of `id` and `tags`, and `{}`, which has neither.
 pub fn members_in_any_order()
-    ensures slot { slot_of struct_type (object (member (codes "tags") (array (item (string (codes "a")) no_items)) (member (codes "id") (number (codes "1")) no_members)))
-        ≡ slots.record_of (more_slots (slots.number (pos 1 ∷ [])) (more_slots (slots.list (more_slots (slots.text (codes "a")) no_slots)) no_slots)) }
-    ensures valid { value_error struct_type (object (member (codes "tags") (array (item (string (codes "a")) no_items)) (member (codes "id") (number (codes "1")) no_members))) ≡ None }
+    ensures slot { slot_of struct_type tags_and_id ≡ id_and_tags }
+    ensures valid { value_error struct_type tags_and_id ≡ None }
     ensures missing { slot_of struct_type (object no_members) ≡ slots.record_of (more_slots slots.null (more_slots slots.null no_slots)) }
 {}
 

@@ -2,12 +2,12 @@
 ghost use Rattle.std.specs.Prelude.{◌≡◌, ◌^◌, ◌≤◌, [], IfErr, IfOk, None, Ok, OnErr, OnOk, length, take};
 ghost use Rattle.json.specs.Value.{value_view};
 ghost use Rattle.nest_any.specs.Trees.{tree_of};
-ghost use Rattle.nest_any.specs.Words.{IsWhole, builder_type, layout_of, layout_type, own_slots, slots_of, type_of};
+ghost use Rattle.nest_any.specs.Words.{IsComplete, builder_type, layout_of, layout_type, own_slots, slots_of, type_of};
 ghost use Rattle.json_read.specs.DistinctNames.{HasDistinctFieldNames};
 ghost use Rattle.json_read.specs.JsonLines.{IsLineError, IsJsonReadError, StructRowsAreValid, LineAdded, row_error, spec_is_null_struct, spec_is_struct, spec_push_line_error, line_row, line_rows, spec_json_read_error};
 ghost use Rattle.json_read.specs.JsonSlots.{slot_of};
 ghost use Rattle.json_read.specs.LineSplit.{AreFirstLines, lines_of};
-ghost use Rattle.json_read.specs.RowAdded.{IsPushError, RowAdded};
+ghost use Rattle.json_read.specs.SlotAdded.{IsPushError, SlotAdded};
 ghost use Rattle.json_read.specs.UnsupportedTypes.{unsupported_type};
 
 use crate::builders::new_builder;
@@ -97,7 +97,7 @@ fn fill(
     text: &[u8],
     limit: usize,
 ) -> Result<JsonRows, JsonReadError>
-    requires whole { IsWhole (tree_of builder) }
+    requires complete { IsComplete (tree_of builder) }
     requires empty { own_slots (tree_of builder) ≡ [] }
     requires distinct { HasDistinctFieldNames (builder_type (tree_of builder)) }
     ensures rows { IfOk result (λ r. line_rows (builder_type (tree_of builder)) (lines_of (take r.used text.now)) ≡ Ok (slots_of (layout_of r.array))) }
@@ -129,12 +129,12 @@ fn push_lines(
     text: &[u8],
     limit: usize,
 ) -> Result<(usize, usize), JsonReadError>
-    requires whole { IsWhole (tree_of builder.old) }
+    requires complete { IsComplete (tree_of builder.old) }
     requires empty { own_slots (tree_of builder.old) ≡ [] }
     requires distinct { HasDistinctFieldNames (builder_type (tree_of builder.old)) }
     ensures rows { IfOk result (λ r. line_rows (builder_type (tree_of builder.old)) (lines_of (take r.0 text.now)) ≡ Ok (own_slots (tree_of builder.new))) }
     ensures lines { IfOk result (λ r. AreFirstLines text.now limit r.0 r.1) }
-    ensures whole { OnOk result (IsWhole (tree_of builder.new)) }
+    ensures complete { OnOk result (IsComplete (tree_of builder.new)) }
     ensures same_type { OnOk result (builder_type (tree_of builder.new) ≡ builder_type (tree_of builder.old)) }
     ensures error { IfErr result (λ e. IsJsonReadError e (builder_type (tree_of builder.old)) (take limit (lines_of text.now))) }
 {
@@ -161,7 +161,7 @@ fn push_line(
     line: &[u8],
     scratch: &mut Scratch,
 ) -> Result<(), PushLineError>
-    requires whole { IsWhole (tree_of builder.old) }
+    requires complete { IsComplete (tree_of builder.old) }
     requires distinct { HasDistinctFieldNames (builder_type (tree_of builder.old)) }
     ensures added { OnOk result (LineAdded (line_row (builder_type (tree_of builder.old)) line.now) (tree_of builder.old) (tree_of builder.new)) }
     ensures error { IfErr result (λ e. IsLineError e (line_row (builder_type (tree_of builder.old)) line.now)) }
@@ -186,9 +186,9 @@ fn push_row(
     builder: &mut AnyMutableArray,
     value: &Value<'_>,
 ) -> Result<(), PushError>
-    requires whole { IsWhole (tree_of builder.old) }
+    requires complete { IsComplete (tree_of builder.old) }
     requires distinct { HasDistinctFieldNames (builder_type (tree_of builder.old)) }
-    ensures added { OnOk result (RowAdded (slot_of (builder_type (tree_of builder.old)) (value_view value.now)) (tree_of builder.old) (tree_of builder.new)) }
+    ensures added { OnOk result (SlotAdded (slot_of (builder_type (tree_of builder.old)) (value_view value.now)) (tree_of builder.old) (tree_of builder.new)) }
     ensures valid { OnOk result (row_error (builder_type (tree_of builder.old)) (value_view value.now) ≡ None) }
     ensures error { IfErr result (λ e. IsPushError e (row_error (builder_type (tree_of builder.old)) (value_view value.now))) }
 {

@@ -1,6 +1,6 @@
 //! List slots over the items that were added to the child builder.
 ghost use Rattle.std.specs.Prelude.{IfErr, OnOk, true};
-ghost use Rattle.nest_any.specs.Words.{HasWholeChildren, Told};
+ghost use Rattle.nest_any.specs.Words.{HasCompleteChildren, RowAdded};
 ghost use Rattle.json_read.specs.StructMembers.{IsLimitError};
 
 use crate::value_error::PushError;
@@ -9,11 +9,11 @@ use nest_memory::error::Error;
 
 /// Adds a list slot of the items that were added to the child builder.
 pub(crate) fn push_list_slot(lists: &mut ListBuilder) -> Result<(), PushError>
-    requires { HasWholeChildren lists.old }
-    ensures added { OnOk result (Told true lists.old lists.new) }
+    requires { HasCompleteChildren lists.old }
+    ensures added { OnOk result (RowAdded true lists.old lists.new) }
     ensures limit { IfErr result IsLimitError }
 {
-    match lists.tell(true) {
+    match lists.push_row(true) {
         Ok(()) => Ok(()),
         Err(error) => Err(limit_error(error)),
     }

@@ -3,12 +3,12 @@ ghost use Rattle.std.specs.Prelude.{◌≡◌, ◌⊎◌, [], length, map, IfErr
 ghost use Rattle.json.specs.Json.{Members, object};
 ghost use Rattle.json.specs.Value.{items_view, members_view, value_view};
 ghost use Rattle.nest_any.specs.Trees.{tree_of};
-ghost use Rattle.nest_any.specs.Words.{HasWholeChildren, IsOfLists, IsWhole, builder_len, builder_type, builder_types, physical_type, struct_children};
+ghost use Rattle.nest_any.specs.Words.{HasCompleteChildren, IsOfLists, IsComplete, builder_len, builder_type, builder_types, physical_type, struct_children};
 ghost use Rattle.json_read.specs.DistinctNames.{HasDistinctFieldNames};
 ghost use Rattle.json_read.specs.StructMembers.{MembersAdded, MemberAdded, child_error, child_named};
 ghost use Rattle.json_read.specs.FlatValues.{first_error};
 ghost use Rattle.json_read.specs.JsonSlots.{items_error, length_error, members_error, slot_of, struct_slot, value_error};
-ghost use Rattle.json_read.specs.RowAdded.{IsList, IsPushError, RowAdded, RowsAdded};
+ghost use Rattle.json_read.specs.SlotAdded.{IsList, IsPushError, SlotAdded, SlotsAdded};
 ghost use Rattle.nest_memory.specs.TypeOf.{type_of};
 ghost use Rattle.nest_memory.specs.TypeTree.{fields_of, fixed_size};
 ghost use Rattle.nest_memory.specs.declared.datatypes.physical_type.PhysicalType.TheVariants as physical;
@@ -42,9 +42,9 @@ pub(crate) fn push_value(
     builder: &mut AnyMutableArray,
     value: &Value<'_>,
 ) -> Result<(), PushError>
-    requires whole { IsWhole (tree_of builder.old) }
+    requires complete { IsComplete (tree_of builder.old) }
     requires distinct { HasDistinctFieldNames (builder_type (tree_of builder.old)) }
-    ensures added { OnOk result (RowAdded (slot_of (builder_type (tree_of builder.old)) (value_view value.now)) (tree_of builder.old) (tree_of builder.new)) }
+    ensures added { OnOk result (SlotAdded (slot_of (builder_type (tree_of builder.old)) (value_view value.now)) (tree_of builder.old) (tree_of builder.new)) }
     ensures valid { OnOk result (value_error (builder_type (tree_of builder.old)) (value_view value.now) ≡ None) }
     ensures error { IfErr result (λ e. IsPushError e (value_error (builder_type (tree_of builder.old)) (value_view value.now))) }
 {
@@ -71,9 +71,9 @@ fn push_numbers(
     builder: &mut AnyMutableArray,
     value: &Value<'_>,
 ) -> Result<(), PushError>
-    requires whole { IsWhole (tree_of builder.old) }
+    requires complete { IsComplete (tree_of builder.old) }
     requires list { IsList (value_view value.now) }
-    ensures added { OnOk result (RowAdded (slot_of (builder_type (tree_of builder.old)) (value_view value.now)) (tree_of builder.old) (tree_of builder.new)) }
+    ensures added { OnOk result (SlotAdded (slot_of (builder_type (tree_of builder.old)) (value_view value.now)) (tree_of builder.old) (tree_of builder.new)) }
     ensures valid { OnOk result (value_error (builder_type (tree_of builder.old)) (value_view value.now) ≡ None) }
     ensures error { IfErr result (λ e. IsPushError e (value_error (builder_type (tree_of builder.old)) (value_view value.now))) }
 {
@@ -103,11 +103,11 @@ fn push_list(
     size: Option<usize>,
     items: &[Value<'_>],
 ) -> Result<(), PushError>
-    requires whole { IsWhole lists.old }
+    requires complete { IsComplete lists.old }
     requires distinct { HasDistinctFieldNames (builder_type lists.old) }
     requires size { size ≡ fixed_size (builder_type lists.old) }
     ensures lists { IsOfLists (physical_type (builder_type lists.old)) }
-    ensures added { OnOk result (RowAdded (slots.list (seal (map (λ v. slot_of (items_type (builder_type lists.old)) (value_view v)) items.now))) lists.old lists.new) }
+    ensures added { OnOk result (SlotAdded (slots.list (seal (map (λ v. slot_of (items_type (builder_type lists.old)) (value_view v)) items.now))) lists.old lists.new) }
     ensures valid { OnOk result (first_error (items_error (items_type (builder_type lists.old)) (items_view items.now)) (length_error size (length items.now)) ≡ None) }
     ensures error { IfErr result (λ e. IsPushError e (first_error (items_error (items_type (builder_type lists.old)) (items_view items.now)) (length_error size (length items.now)))) }
 {
@@ -130,9 +130,9 @@ fn push_items(
     child: &mut AnyMutableArray,
     items: &[Value<'_>],
 ) -> Result<(), PushError>
-    requires whole { IsWhole (tree_of child.old) }
+    requires complete { IsComplete (tree_of child.old) }
     requires distinct { HasDistinctFieldNames (builder_type (tree_of child.old)) }
-    ensures added { OnOk result (RowsAdded (map (λ v. slot_of (builder_type (tree_of child.old)) (value_view v)) items.now) (tree_of child.old) (tree_of child.new)) }
+    ensures added { OnOk result (SlotsAdded (map (λ v. slot_of (builder_type (tree_of child.old)) (value_view v)) items.now) (tree_of child.old) (tree_of child.new)) }
     ensures valid { OnOk result (items_error (builder_type (tree_of child.old)) (items_view items.now) ≡ None) }
     ensures error { IfErr result (λ e. IsPushError e (items_error (builder_type (tree_of child.old)) (items_view items.now))) }
 {
@@ -149,10 +149,10 @@ fn push_struct(
     records: &mut MutableStructArray,
     members: &[(&str, Value<'_>)],
 ) -> Result<(), PushError>
-    requires whole { IsWhole records.old }
+    requires complete { IsComplete records.old }
     requires distinct { HasDistinctFieldNames (builder_type records.old) }
     ensures records { physical_type (builder_type records.old) ≡ physical.Struct }
-    ensures added { OnOk result (RowAdded (struct_slot (fields_of (builder_type records.old)) (members_view members.now)) records.old records.new) }
+    ensures added { OnOk result (SlotAdded (struct_slot (fields_of (builder_type records.old)) (members_view members.now)) records.old records.new) }
     ensures valid { OnOk result (members_error (fields_of (builder_type records.old)) [] (members_view members.now) ≡ None) }
     ensures error { IfErr result (λ e. IsPushError e (members_error (fields_of (builder_type records.old)) [] (members_view members.now))) }
 {
@@ -171,7 +171,7 @@ fn push_members(
     len: usize,
     members: &[(&str, Value<'_>)],
 ) -> Result<(), PushError>
-    requires whole { IsWhole records.old }
+    requires complete { IsComplete records.old }
     requires distinct { HasDistinctFieldNames (builder_type records.old) }
     requires len { len ≡ builder_len records.old }
     ensures added { OnOk result (MembersAdded (members_view members.now) records.old records.new) }
@@ -199,7 +199,7 @@ fn push_member(
     name: &str,
     value: &Value<'_>,
 ) -> Result<usize, PushError>
-    requires children { HasWholeChildren records.old }
+    requires children { HasCompleteChildren records.old }
     requires typed { builder_types (struct_children records.old) ≡ field_types (fields_of (builder_type records.old)) }
     requires distinct { HasDistinctFieldNames (builder_type records.old) }
     ensures added { IfOk result (λ next. MemberAdded name.now (value_view value.now) len records.old records.new) }

@@ -1,7 +1,7 @@
 //! Struct slots over the values that were added to the child builders.
 ghost use Rattle.std.specs.Prelude.{IfErr, OnOk, true};
 ghost use Rattle.nest_any.specs.Trees.{trees_of};
-ghost use Rattle.nest_any.specs.Words.{AreEachWhole, HasWholeChildren, Told};
+ghost use Rattle.nest_any.specs.Words.{AreEachComplete, HasCompleteChildren, RowAdded};
 ghost use Rattle.json_read.specs.StructMembers.{NullsAdded, IsLimitError};
 
 use crate::list_rows::limit_error;
@@ -14,7 +14,7 @@ pub(crate) fn push_missing_nulls(
     children: &mut [AnyMutableArray],
     n: usize,
 ) -> Result<(), PushError>
-    requires { AreEachWhole (trees_of children.old) }
+    requires { AreEachComplete (trees_of children.old) }
     ensures completed { OnOk result (NullsAdded n (trees_of children.old) (trees_of children.new)) }
     ensures limit { IfErr result IsLimitError }
 {
@@ -30,8 +30,8 @@ pub(crate) fn push_missing_nulls(
 
 /// Adds a struct slot of the values that were added to the children.
 pub(crate) fn push_struct_slot(records: &mut MutableStructArray) -> Result<(), PushError>
-    requires { HasWholeChildren records.old }
-    ensures added { OnOk result (Told true records.old records.new) }
+    requires { HasCompleteChildren records.old }
+    ensures added { OnOk result (RowAdded true records.old records.new) }
     ensures limit { IfErr result IsLimitError }
 {
     match records.push(true) {

@@ -15,9 +15,9 @@ use Rattle.json_write.proofs.Literals.{first, tail, some_or, quoted-told, bytes-
 
 abbrev role : Slot → ℕ
 role slots.null = 0
-role (slots.truth b) = 1
+role (slots.boolean b) = 1
 role (slots.number zs) = 2
-role (slots.text bs) = 3
+role (slots.utf8 bs) = 3
 role (slots.bytes bs) = 4
 role (slots.list ss) = 5
 role (slots.record_of ss) = 6
@@ -35,9 +35,9 @@ role_of unions = 7
 
 by-form : (t : TypeTree) (s : Slot) → IsSlotOf t s → (role s ≡ 0) ⊎ (role s ≡ role_of (slot_kind t))
 by-form t slots.null i = inl refl
-by-form t (slots.truth b) i = inr (sym (ap role_of i))
+by-form t (slots.boolean b) i = inr (sym (ap role_of i))
 by-form t (slots.number zs) i = inr (sym (ap role_of i))
-by-form t (slots.text bs) i = inr (sym (ap role_of i))
+by-form t (slots.utf8 bs) i = inr (sym (ap role_of i))
 by-form t (slots.bytes bs) i = inr (sym (ap role_of i))
 by-form t (slots.list ss) i = inr (sym (ap role_of i.0))
 by-form t (slots.record_of ss) i = inr (sym (ap role_of i.0))
@@ -46,10 +46,10 @@ by-form t (slots.pick f u s) i = inr (sym (ap role_of i.0))
 -- no text begins with a closing bracket, and only null begins as `null`
 slot-first : (t : TypeTree) (s : Slot) (r : List ℕ) → FitsIn128Bits s → (first (json_of_slot t s ++ r) ≡ 93 → ⊥) × (first (json_of_slot t s ++ r) ≡ 110 → role s ≡ 0)
 slot-first t slots.null r h = (λ e. omega arith, λ e. refl)
-slot-first t (slots.truth true) r h = (λ e. omega arith, λ e. absurd (omega arith))
-slot-first t (slots.truth false) r h = (λ e. omega arith, λ e. absurd (omega arith))
+slot-first t (slots.boolean true) r h = (λ e. omega arith, λ e. absurd (omega arith))
+slot-first t (slots.boolean false) r h = (λ e. omega arith, λ e. absurd (omega arith))
 slot-first t (slots.number zs) r h = let k = number-first zs r h in (λ e. omega arith, λ e. absurd (omega arith))
-slot-first t (slots.text bs) r h = (λ e. omega arith, λ e. absurd (omega arith))
+slot-first t (slots.utf8 bs) r h = (λ e. omega arith, λ e. absurd (omega arith))
 slot-first t (slots.bytes bs) r h = (λ e. omega arith, λ e. absurd (omega arith))
 slot-first t (slots.list ss) r h = (λ e. omega arith, λ e. absurd (omega arith))
 slot-first t (slots.record_of ss) r h = (λ e. omega arith, λ e. absurd (omega arith))
@@ -156,12 +156,12 @@ mutual
   pub slot-told : (t : TypeTree) (s z : Slot) (r q : List ℕ) → HasDistinctUnionNames t → IsSlotOf t s → IsSlotOf t z → FitsIn128Bits s → FitsIn128Bits z → Stops r → Stops q
       → json_of_slot t s ++ r ≡ json_of_slot t z ++ q → (s ≡ z) × (r ≡ q)
   slot-told t slots.null slots.null r q o i j h l a b e = (refl, ap (drop 4) e)
-  slot-told t (slots.truth true) (slots.truth true) r q o i j h l a b e = (refl, ap (drop 4) e)
-  slot-told t (slots.truth false) (slots.truth false) r q o i j h l a b e = (refl, ap (drop 5) e)
-  slot-told t (slots.truth true) (slots.truth false) r q o i j h l a b e = absurd (omega (arith, ap first e))
-  slot-told t (slots.truth false) (slots.truth true) r q o i j h l a b e = absurd (omega (arith, ap first e))
+  slot-told t (slots.boolean true) (slots.boolean true) r q o i j h l a b e = (refl, ap (drop 4) e)
+  slot-told t (slots.boolean false) (slots.boolean false) r q o i j h l a b e = (refl, ap (drop 5) e)
+  slot-told t (slots.boolean true) (slots.boolean false) r q o i j h l a b e = absurd (omega (arith, ap first e))
+  slot-told t (slots.boolean false) (slots.boolean true) r q o i j h l a b e = absurd (omega (arith, ap first e))
   slot-told t (slots.number zs) (slots.number ys) r q o i j h l a b e = let same = number-told zs ys r q h l a b e in (ap slots.number same.0, same.1)
-  slot-told t (slots.text bs) (slots.text cs) r q o i j h l a b e = let same = quoted-told bs cs r q e in (ap slots.text same.0, same.1)
+  slot-told t (slots.utf8 bs) (slots.utf8 cs) r q o i j h l a b e = let same = quoted-told bs cs r q e in (ap slots.utf8 same.0, same.1)
   slot-told t (slots.bytes bs) (slots.bytes cs) r q o i j h l a b e = let same = bytes-told bs cs r q e in (ap slots.bytes same.0, same.1)
   slot-told t (slots.list ss) (slots.list zs) r q o i j h l a b e =
       let u = items_type t in

@@ -23,7 +23,7 @@ use Rattle.nest_model.specs.Layout as layouts
 use Rattle.nest_model.specs.Layout.{Layout, layout_type, count_layouts, weight, weight_all}
 use Rattle.nest_model.specs.Meaning.{run, slot, each, len, where_valid}
 use Rattle.nest_model.specs.Nullness.{is_null_at}
-use Rattle.nest_model.specs.Part.{valid_at, place}
+use Rattle.nest_model.specs.Part.{valid_at, to_index}
 use Rattle.nest_model.specs.Reads.{items-cut}
 use Rattle.nest_model.specs.Slot as slots
 use Rattle.nest_model.specs.Slot.{Slot, Slots, seal}
@@ -192,9 +192,9 @@ members-none (f ∷ fs) (x ∷ xs) i after done whole t (inr e) w = absurd (omeg
 -- a dictionary has the text of its values, an extension that of its storage
 json-dictionary : (k : IntegerType) (t : TypeTree) (b : Bool) (s : Slot) → json_of_slot (types.dictionary k t b) s ≡ json_of_slot t s
 json-dictionary k t b slots.null = refl
-json-dictionary k t b (slots.truth x) = refl
+json-dictionary k t b (slots.boolean x) = refl
 json-dictionary k t b (slots.number x) = refl
-json-dictionary k t b (slots.text x) = refl
+json-dictionary k t b (slots.utf8 x) = refl
 json-dictionary k t b (slots.bytes x) = refl
 json-dictionary k t b (slots.list x) = refl
 json-dictionary k t b (slots.record_of x) = refl
@@ -202,9 +202,9 @@ json-dictionary k t b (slots.pick f u x) = refl
 
 json-extension : (n : Letters) (t : TypeTree) (m : Option Letters) (s : Slot) → json_of_slot (types.extension n t m) s ≡ json_of_slot t s
 json-extension n t m slots.null = refl
-json-extension n t m (slots.truth x) = refl
+json-extension n t m (slots.boolean x) = refl
 json-extension n t m (slots.number x) = refl
-json-extension n t m (slots.text x) = refl
+json-extension n t m (slots.utf8 x) = refl
 json-extension n t m (slots.bytes x) = refl
 json-extension n t m (slots.list x) = refl
 json-extension n t m (slots.record_of x) = refl
@@ -249,7 +249,7 @@ pub keyed-shown : (a c : Layout) (i k : ℕ) → TopFits a → IsDictionaryOf a 
 keyed-shown a c i k h d v e p =
     ap (λ b. slot_json b k) e
     ∙ keyed-text (layout_type a) (layout_type (child_of a)) (slot (child_of a) k) (dictionary-facts (layout_type a) (keys_of a) (child_of a) (subst TopFits d h)).value_typed
-    ∙ ap (λ z. json_of_slot (layout_type a) (slot (child_of a) (place z))) p
+    ∙ ap (λ z. json_of_slot (layout_type a) (slot (child_of a) (to_index z))) p
     ∙ sym (ap (json_of_slot (layout_type a)) (keyed-slot a i d v))
 
 -- the text of a window

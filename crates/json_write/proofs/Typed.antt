@@ -2,7 +2,7 @@
 use Rattle.std.proofs.Common.{◌≡◌, ℕ, zero, suc, ◌*◌, Bool, true, false, List, [], ◌∷◌, take, drop, get_or, pos, Option, Some, None, if◌then◌else◌, refl, sym, ap, ◌∙◌, subst}
 use Rattle.std.proofs.lemmas.Bool.{false≢true}
 use Rattle.nest_array.specs.WindowParts.{WindowParts, window_slots}
-use Rattle.nest_memory.specs.Physical.{physical_type, list_of_width, binary_of_width, text_of_width}
+use Rattle.nest_memory.specs.Physical.{physical_type, list_of_width, binary_of_width, utf8_of_width}
 use Rattle.nest_memory.specs.TypeTree as types
 use Rattle.nest_memory.specs.TypeTree.{TypeTree, FieldTrees, no_fields, more_fields, field_type, fields_of, ids_of, item_type, size_of, logical_type, value_type}
 use Rattle.nest_memory.specs.declared.datatypes.physical_type.PhysicalType.{PhysicalType}
@@ -11,9 +11,9 @@ use Rattle.nest_model.specs.Accessors.{validity_of, key_at}
 use Rattle.nest_model.specs.Array.{AreArrays, IsArray}
 use Rattle.nest_model.specs.FactLaws.{binary-facts, text-facts, fixed_size_binary-facts, fixed_size_list-facts, list-facts, map-facts, struct-facts, union-facts, dictionary-facts}
 use Rattle.nest_model.specs.Fits.{EachType, IsLogically}
-use Rattle.nest_model.specs.Layout.{Layout, Layouts, null, boolean, primitive, binary, text, fixed_size_binary, fixed_size_list, list, map, struct, union, dictionary, no_layouts, more_layouts, layout_type}
-use Rattle.nest_model.specs.Meaning.{run, slot, each, picked, of_field, union_place, len, slots_of}
-use Rattle.nest_model.specs.Part.{valid_at, begin, extent, place, field_named}
+use Rattle.nest_model.specs.Layout.{Layout, Layouts, null, boolean, primitive, binary, utf8, fixed_size_binary, fixed_size_list, list, map, struct, union, dictionary, no_layouts, more_layouts, layout_type}
+use Rattle.nest_model.specs.Meaning.{run, slot, each, picked, of_field, union_index, len, slots_of}
+use Rattle.nest_model.specs.Part.{valid_at, begin, extent, to_index, field_named}
 use Rattle.nest_model.specs.Slot as slots
 use Rattle.nest_model.specs.Slot.{Slot, Slots, seal}
 use Rattle.json_write.specs.JsonText.{items_type, members_of}
@@ -42,7 +42,7 @@ binary-form : (t : TypeTree) (l : Bool) → physical_type t ≡ binary_of_width 
 binary-form t true e = form-is t physical.LargeBinary binaries refl refl e
 binary-form t false e = form-is t physical.Binary binaries refl refl e
 
-text-form : (t : TypeTree) (l : Bool) → physical_type t ≡ text_of_width l → slot_kind t ≡ strings
+text-form : (t : TypeTree) (l : Bool) → physical_type t ≡ utf8_of_width l → slot_kind t ≡ strings
 text-form t true e = form-is t physical.LargeUtf8 strings refl refl e
 text-form t false e = form-is t physical.Utf8 strings refl refl e
 
@@ -67,9 +67,9 @@ said-keyed t u h = absurd h
 
 same-slots : (t u : TypeTree) (s : Slot) → said u ≡ said t → IsSlotOf u s → IsSlotOf t s
 same-slots t u slots.null e h = tt
-same-slots t u (slots.truth b) e h = subst (λ p. p.0 ≡ booleans) e h
+same-slots t u (slots.boolean b) e h = subst (λ p. p.0 ≡ booleans) e h
 same-slots t u (slots.number zs) e h = subst (λ p. p.0 ≡ numbers) e h
-same-slots t u (slots.text bs) e h = subst (λ p. p.0 ≡ strings) e h
+same-slots t u (slots.utf8 bs) e h = subst (λ p. p.0 ≡ strings) e h
 same-slots t u (slots.bytes bs) e h = subst (λ p. p.0 ≡ binaries) e h
 same-slots t u (slots.list ss) e h = subst (λ p. (p.0 ≡ lists) × AreItems p.1 ss) e h
 same-slots t u (slots.record_of ss) e h = subst (λ p. (p.0 ≡ structs) × AreMembers p.2 ss) e h
@@ -105,10 +105,10 @@ row-typed t u f o n e i h = (e, subst (λ v. AreItems v (seal (run f o n))) (sym
 mutual
   pub slot-typed : (a : Layout) (i : ℕ) → IsArray a → IsSlotOf (layout_type a) (slot a i)
   slot-typed (null t n) i h = tt
-  slot-typed (boolean t bs va) i h = null-or t (slots.truth (get_or bs i false)) (valid_at va i) (form-is t physical.Boolean booleans refl refl h.0.1.1.0)
+  slot-typed (boolean t bs va) i h = null-or t (slots.boolean (get_or bs i false)) (valid_at va i) (form-is t physical.Boolean booleans refl refl h.0.1.1.0)
   slot-typed (primitive k t vs va) i h = null-or t (slots.number (get_or vs i [])) (valid_at va i) (form-is t (physical.Primitive k) numbers refl refl h.0.1.1.0)
   slot-typed (binary l t os bs va) i h = null-or t (slots.bytes (take (extent os i) (drop (begin os i) bs))) (valid_at va i) (binary-form t l (binary-facts l t os bs va h.0).typed)
-  slot-typed (text l t os bs va) i h = null-or t (slots.text (take (extent os i) (drop (begin os i) bs))) (valid_at va i) (text-form t l (text-facts l t os bs va h.0).typed)
+  slot-typed (utf8 l t os bs va) i h = null-or t (slots.utf8 (take (extent os i) (drop (begin os i) bs))) (valid_at va i) (text-form t l (text-facts l t os bs va h.0).typed)
   slot-typed (fixed_size_binary t bs va) i h =
       null-or t (slots.bytes (take (size_of t) (drop (i * size_of t) bs))) (valid_at va i) (form-is t physical.FixedSizeBinary binaries refl refl (fixed_size_binary-facts t bs va h.0).typed)
   slot-typed (fixed_size_list t c va) i h =
@@ -129,12 +129,12 @@ mutual
       (form-is t physical.Struct structs refl refl f.typed, subst (λ fs. AreMembers fs (each cs i)) (members-are t (ap is_keyed f.typed)) (each-typed (fields_of t) cs i f.each_type h.1))
   slot-typed (union t ks cs os start) i h =
       let u = union-facts t ks cs os start h.0 in
-      of-field t (field_named (ids_of t) (get_or ks i (pos 0))) (λ f. picked f cs f (union_place os start i))
-      (λ f. picked-typed t (fields_of t) cs f f (union_place os start i) (form-is t physical.Union unions refl refl u.typed) u.each_type h.1
+      of-field t (field_named (ids_of t) (get_or ks i (pos 0))) (λ f. picked f cs f (union_index os start i))
+      (λ f. picked-typed t (fields_of t) cs f f (union_index os start i) (form-is t physical.Union unions refl refl u.typed) u.each_type h.1
       (ap (λ fs. field_type_at fs f) (members-are t (ap is_keyed u.typed))))
   slot-typed (dictionary t ks c) i h =
-      null-or t (slot c (place (key_at ks i))) (valid_at (validity_of ks) i)
-      (same-slots t (layout_type c) (slot c (place (key_at ks i))) (said-keyed t (layout_type c) (dictionary-facts t ks c h.0).value_typed) (slot-typed c (place (key_at ks i)) h.1))
+      null-or t (slot c (to_index (key_at ks i))) (valid_at (validity_of ks) i)
+      (same-slots t (layout_type c) (slot c (to_index (key_at ks i))) (said-keyed t (layout_type c) (dictionary-facts t ks c h.0).value_typed) (slot-typed c (to_index (key_at ks i)) h.1))
 
   each-typed : (fs : FieldTrees) (cs : Layouts) (i : ℕ) → EachType fs cs → AreArrays cs → AreMembers fs (each cs i)
   each-typed no_fields no_layouts i e h = tt

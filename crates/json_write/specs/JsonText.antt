@@ -64,9 +64,9 @@ comma after = if after then 44 ∷ [] else []
 abbrev mutual
   pub json_of_slot : TypeTree → Slot → List ℕ
   json_of_slot t slots.null = codes "null"
-  json_of_slot t (slots.truth b) = if b then codes "true" else codes "false"
+  json_of_slot t (slots.boolean b) = if b then codes "true" else codes "false"
   json_of_slot t (slots.number zs) = json_of_number zs
-  json_of_slot t (slots.text bs) = quoted bs
+  json_of_slot t (slots.utf8 bs) = quoted bs
   json_of_slot t (slots.bytes bs) = hex_quoted bs
   json_of_slot t (slots.list ss) = 91 ∷ (json_items (items_type t) false ss ++ 93 ∷ [])
   json_of_slot t (slots.record_of ss) = 123 ∷ (json_members (members_of t) false ss ++ 125 ∷ [])

@@ -26,9 +26,9 @@ tree_of_number zs = json.array (number_items zs)
 abbrev mutual
   pub tree_of_slot : TypeTree → Slot → Json
   tree_of_slot t slots.null = json.null
-  tree_of_slot t (slots.truth b) = json.boolean b
+  tree_of_slot t (slots.boolean b) = json.boolean b
   tree_of_slot t (slots.number zs) = tree_of_number zs
-  tree_of_slot t (slots.text bs) = json.string bs
+  tree_of_slot t (slots.utf8 bs) = json.string bs
   tree_of_slot t (slots.bytes bs) = json.string (flat_map hex_byte bs)
   tree_of_slot t (slots.list ss) = json.array (tree_items (items_type t) ss)
   tree_of_slot t (slots.record_of ss) = json.object (tree_members (members_of t) ss)
@@ -87,10 +87,10 @@ number-printed (z ∷ y ∷ ys) after rest =
 mutual
   pub slot-printed : (t : TypeTree) (s : Slot) (after : Bool) (rest : List Token) → print_from after (json_tokens (tree_of_slot t s) ++ rest) ≡ comma after ++ (json_of_slot t s ++ print_from true rest)
   slot-printed t slots.null after rest = one-token Token.null after rest refl
-  slot-printed t (slots.truth true) after rest = one-token (Token.boolean true) after rest refl
-  slot-printed t (slots.truth false) after rest = one-token (Token.boolean false) after rest refl
+  slot-printed t (slots.boolean true) after rest = one-token (Token.boolean true) after rest refl
+  slot-printed t (slots.boolean false) after rest = one-token (Token.boolean false) after rest refl
   slot-printed t (slots.number zs) after rest = number-printed zs after rest
-  slot-printed t (slots.text bs) after rest = one-token (Token.string bs) after rest refl
+  slot-printed t (slots.utf8 bs) after rest = one-token (Token.string bs) after rest refl
   slot-printed t (slots.bytes bs) after rest = one-token (Token.string (flat_map hex_byte bs)) after rest refl
   slot-printed t (slots.list ss) after rest =
       one-token Token.begin_array after (items_tokens (tree_items (items_type t) ss) ++ rest) refl

@@ -54,9 +54,9 @@ field_type_at (more_fields f fs) (suc k) = field_type_at fs k
 abbrev mutual
   pub IsSlotOf : TypeTree → Slot → Type 0
   IsSlotOf t slots.null = Unit {0}
-  IsSlotOf t (slots.truth b) = slot_kind t ≡ booleans
+  IsSlotOf t (slots.boolean b) = slot_kind t ≡ booleans
   IsSlotOf t (slots.number zs) = slot_kind t ≡ numbers
-  IsSlotOf t (slots.text bs) = slot_kind t ≡ strings
+  IsSlotOf t (slots.utf8 bs) = slot_kind t ≡ strings
   IsSlotOf t (slots.bytes bs) = slot_kind t ≡ binaries
   IsSlotOf t (slots.list ss) = (slot_kind t ≡ lists) × AreItems (items_type t) ss
   IsSlotOf t (slots.record_of ss) = (slot_kind t ≡ structs) × AreMembers (members_of t) ss
@@ -81,9 +81,9 @@ NumbersFitIn128Bits (z ∷ zs) = (mag z < 2 ^ 128) × NumbersFitIn128Bits zs
 abbrev mutual
   pub FitsIn128Bits : Slot → Type 0
   FitsIn128Bits slots.null = Unit {0}
-  FitsIn128Bits (slots.truth b) = Unit {0}
+  FitsIn128Bits (slots.boolean b) = Unit {0}
   FitsIn128Bits (slots.number zs) = NumbersFitIn128Bits zs
-  FitsIn128Bits (slots.text bs) = Unit {0}
+  FitsIn128Bits (slots.utf8 bs) = Unit {0}
   FitsIn128Bits (slots.bytes bs) = Unit {0}
   FitsIn128Bits (slots.list ss) = FitIn128Bits ss
   FitsIn128Bits (slots.record_of ss) = FitIn128Bits ss

@@ -9,8 +9,9 @@ ghost use Rattle.nest_memory.specs.TypeTree.{TypeTree};
 ghost use Rattle.nest_model.specs.Array.{IsArray};
 ghost use Rattle.nest_model.specs.Layout.{layout_type};
 ghost use Rattle.nest_model.specs.Slot.{Slot, seal};
+ghost use Rattle.json_write.specs.TextLaws.{TextDeterminesSlots};
 ghost use Rattle.json_write.specs.JsonText.{json_of_slot, json_of_window};
-ghost use Rattle.json_write.specs.TypedSlots.{HasDistinctUnionNames, IsSlotOf, AreItems, FitsIn128Bits, FitIn128Bits};
+ghost use Rattle.json_write.specs.TypedSlots.{HasDistinctUnionNames, IsSlotOf, AreItems, FitsIn128Bits};
 ghost use Rattle.json_write.specs.JsonTree.{tree_of_window};
 
 use nest_array::Window;
@@ -42,7 +43,5 @@ pub fn slots_have_the_data_type(window: &Window)
 /// Two windows over arrays of one data type have equal slots if their texts are equal, under the conditions of
 /// `equal_texts_have_equal_slots`.
 pub fn equal_texts_have_equal_windows(window: &Window, other: &Window)
-    ensures { IsArray window.now.array → IsArray other.now.array → layout_type window.now.array ≡ layout_type other.now.array
-        → HasDistinctUnionNames (layout_type window.now.array) → FitIn128Bits (seal (window_slots window.now)) → FitIn128Bits (seal (window_slots other.now))
-        → json_of_window window.now ≡ json_of_window other.now → window_slots window.now ≡ window_slots other.now }
+    ensures { TextDeterminesSlots window.now other.now }
 {}

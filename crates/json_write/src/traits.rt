@@ -11,7 +11,7 @@ use crate::flat::{
 use crate::nested;
 use crate::quoting::write_comma;
 use crate::scalar::write_scalar;
-use nest_array::array::Slotted;
+use nest_array::array::ArrayParts;
 use nest_array::{
     AnyArray, AnyScalar, DictionaryArray, FixedSizeBinaryArray, FixedSizeListArray, LargeListArray,
     ListArray, MapArray, NullArray, StructArray, UnionArray, Window,
@@ -36,7 +36,7 @@ pub trait WriteJson {
 }
 
 /// An array whose slots can be written as JSON.
-pub trait WriteSlot: Slotted {
+pub trait WriteSlot: ArrayParts {
     /// Writes slot `i`.
     fn write_slot<W: fmt::Write>(&self, f: &mut Formatter<W>, i: usize) -> fmt::Result
         requires { i < len (Self.parts self.now) }
@@ -52,7 +52,7 @@ pub trait WriteSlot: Slotted {
         requires { start + count ≤ len (Self.parts self.now) }
         ensures { WritesOnOk W.write_str_gives f.old result (slots_json (Self.parts self.now) start count) f.new }
     {
-        let _end = Slotted::len(self);
+        let _end = ArrayParts::len(self);
         for k in 0..count {
             write_comma(f, k > 0)?;
             self.write_slot(f, start + k)?;
@@ -68,7 +68,7 @@ impl<A: WriteSlot> WriteJson for A {
 
     fn write_json<W: fmt::Write>(&self, f: &mut Formatter<W>) -> fmt::Result {
         f.write_str("[")?;
-        self.write_items(f, 0, Slotted::len(self))?;
+        self.write_items(f, 0, ArrayParts::len(self))?;
         f.write_str("]")
     }
 }

@@ -3,7 +3,7 @@ use Rattle.std.proofs.Common.{◌≡◌, ℕ, ◌<◌, true, ltb, List, [], ◌�
 use Rattle.std.specs.List.{list_all}
 use Rattle.std.proofs.lemmas.Bool.{and_parts, ltb-true}
 use Rattle.std.proofs.lemmas.List.Elements.{All-nil, All-cons}
-use Rattle.nest_take.specs.Places.{AreBelow}
+use Rattle.nest_take.specs.Indices.{AreBelow}
 
 pub all-below : (n : ℕ) (places : List ℕ) → list_all (λ place. ltb place n) places ≡ true → AreBelow places n
 all-below n [] e = All-nil (λ place. place < n)

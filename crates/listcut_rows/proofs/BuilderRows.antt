@@ -11,7 +11,7 @@ use Rattle.nest_model.specs.BuilderAppendLaws.{appended-sealed, type-all_appende
 use Rattle.nest_model.specs.BuilderLevels.{own_slots}
 use Rattle.nest_model.specs.BuilderRefusals.{item_refusal}
 use Rattle.nest_model.specs.BuilderRow.{Row}
-use Rattle.nest_model.specs.BuilderSpells.{value_item}
+use Rattle.nest_model.specs.BuilderInput.{value_item}
 use Rattle.nest_model.specs.BuilderTree.{BuilderTree, builder_type, flat, list}
 use Rattle.nest_model.specs.Checks.{largest_length}
 use Rattle.nest_model.specs.Layout.{Layout, layout_type}

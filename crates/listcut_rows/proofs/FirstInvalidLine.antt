@@ -9,7 +9,7 @@ use Rattle.listcut_rows.specs.Rows.{row_len, item_count, IsRow}
 use Rattle.listcut_rows.specs.Grammar.{parsed_row, lines_of, parsed_rows_after, parsed_rows, prepend_row}
 use Rattle.listcut_rows.specs.RowText.{row_text, IsFirstInvalidLine}
 use Rattle.listcut_rows.proofs.RoundTrip.{row_again}
-use Rattle.listcut_rows.proofs.ParsedText.{chosen, cases_row, row_takes}
+use Rattle.listcut_rows.proofs.ParsedText.{selected, cases_row, row_takes}
 
 -- each row of the line exceeds the number of items
 abbrev NoRow : ℕ → List ℕ → Type 0
@@ -41,7 +41,7 @@ lines_fault above items (line ∷ lines) k few e =
       | inr found ↦
           let row = found.0 in
           let step : parsed_rows_after above items (line ∷ lines) ≡ cond (ltb (items + row_len row) (2 ^ 31)) (prepend_row row (parsed_rows_after (above + 1) (items + row_len row) lines)) (Err (above + 1)) = rw (found.1, parsed_rows_after) refl in
-          elim (chosen (ltb (items + row_len row) (2 ^ 31)) (prepend_row row (parsed_rows_after (above + 1) (items + row_len row) lines)) (Err (above + 1)) (Err k) (sym step ∙ e)) [
+          elim (selected (ltb (items + row_len row) (2 ^ 31)) (prepend_row row (parsed_rows_after (above + 1) (items + row_len row) lines)) (Err (above + 1)) (Err k) (sym step ∙ e)) [
             | inl within ↦
                 let small : items + row_len row < 2 ^ 31 = ltb-true _ _ within.0 in
                 let f = lines_fault (above + 1) (items + row_len row) lines k small (onto_err row (parsed_rows_after (above + 1) (items + row_len row) lines) k within.1) in

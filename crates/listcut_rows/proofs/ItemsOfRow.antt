@@ -7,7 +7,7 @@ use Rattle.nest_memory.specs.declared.datatypes.physical_type.PrimitiveType.TheV
 use Rattle.nest_model.specs.BuilderAppendLaws.{slots-sealed}
 use Rattle.nest_model.specs.BuilderItem as items
 use Rattle.nest_model.specs.BuilderItem.{PlainValue, slot_of_item}
-use Rattle.nest_model.specs.BuilderSpells.{value_item}
+use Rattle.nest_model.specs.BuilderInput.{value_item}
 use Rattle.nest_model.specs.Slot as slots
 use Rattle.nest_model.specs.Slot.{seal}
 use Rattle.nest_build.specs.Slices.{row_item, row_len as len_of_row}

@@ -24,9 +24,9 @@ use Rattle.listcut_rows.proofs.Separated.{is_byte}
 
 -- ---- conditionals and maps
 
-pub chosen : {X : Type 0} (b : Bool) (x y z : X) → cond b x y ≡ z → ((b ≡ true) × (x ≡ z)) ⊎ ((b ≡ false) × (y ≡ z))
-chosen true x y z e = inl (refl, e)
-chosen false x y z e = inr (refl, e)
+pub selected : {X : Type 0} (b : Bool) (x y z : X) → cond b x y ≡ z → ((b ≡ true) × (x ≡ z)) ⊎ ((b ≡ false) × (y ≡ z))
+selected true x y z e = inl (refl, e)
+selected false x y z e = inr (refl, e)
 
 mapped : {X Y : Type 0} (f : X → Y) (o : Option X) (y : Y) → option_map f o ≡ Some y → (x : X) × (o ≡ Some x) × (f x ≡ y)
 mapped f None y e = absurd cc
@@ -61,9 +61,9 @@ minus_takes cs (suc n) other lt e = (record { sfits = omega arith }, ap (λ ds. 
 number_takes : (bs : List ℕ) (z : ℤ) → parsed_number bs ≡ Some z → NumberTakes bs z
 number_takes [] z e = absurd cc
 number_takes (c ∷ cs) z e =
-    elim (chosen (eqb c 45) _ _ (Some z) e) [
+    elim (selected (eqb c 45) _ _ (Some z) e) [
       | inl minus ↦
-          elim (chosen (bytes_eq cs (codes "0")) _ _ (Some z) minus.1) [
+          elim (selected (bytes_eq cs (codes "0")) _ _ (Some z) minus.1) [
             | inl zero_is ↦ absurd (none-some z zero_is.1)
             | inr other ↦
                 let m = mapped (λ n. neg_ℤ (pos n)) (number_below (2 ^ 63 + 1) cs) z other.1 in
@@ -91,7 +91,7 @@ some_takes bs z h = h
 
 item_takes : (bs : List ℕ) (item : Slot) → parsed_item bs ≡ Some item → ItemTakes bs item
 item_takes bs item e =
-    elim (chosen (bytes_eq bs (codes "null")) _ _ (Some item) e) [
+    elim (selected (bytes_eq bs (codes "null")) _ _ (Some item) e) [
       | inl null ↦ subst (ItemTakes bs) (same_Some _ _ null.1) (tt, sym ((bytes_eq-Decides bs (codes "null")).0 null.0))
       | inr number ↦
           let m = mapped number_slot (parsed_number bs) item number.1 in
@@ -121,7 +121,7 @@ ItemsTake bs items = AllByRecursion IsItem items × (join_with_byte 44 (map item
 
 items_take : (bs : List ℕ) (items : List Slot) → parsed_items bs ≡ Some items → ItemsTake bs items
 items_take bs items e =
-    elim (chosen (eqb (length bs) 0) _ _ (Some items) e) [
+    elim (selected (eqb (length bs) 0) _ _ (Some items) e) [
       | inl none ↦ subst (ItemsTake bs) (same_Some _ _ none.1) (tt, sym (nil_from_length bs (eqb-true _ _ none.0)))
       | inr some ↦
           let t = all_take (slice_split (is_byte 44) bs) items some.1 in
@@ -164,7 +164,7 @@ list_takes line items fits e =
 
 pub row_takes : (line : List ℕ) (row : Slot) → parsed_row line ≡ Some row → RowTakes line row
 row_takes line row e =
-    elim (chosen (bytes_eq line (codes "null")) _ _ (Some row) e) [
+    elim (selected (bytes_eq line (codes "null")) _ _ (Some row) e) [
       | inl null ↦ subst (RowTakes line) (same_Some _ _ null.1) (tt, sym ((bytes_eq-Decides line (codes "null")).0 null.0))
       | inr list ↦
           let m = mapped list_slot (option_and_then parsed_items (bracketed line)) row list.1 in
@@ -200,7 +200,7 @@ lines_take above items (line ∷ lines) rows few e =
       | inr found ↦
           let row = found.0 in
           let step : parsed_rows_after above items (line ∷ lines) ≡ cond (ltb (items + row_len row) (2 ^ 31)) (prepend_row row (parsed_rows_after (above + 1) (items + row_len row) lines)) (Err (above + 1)) = rw (found.1, parsed_rows_after) refl in
-          elim (chosen (ltb (items + row_len row) (2 ^ 31)) (prepend_row row (parsed_rows_after (above + 1) (items + row_len row) lines)) (Err (above + 1)) (Ok rows) (sym step ∙ e)) [
+          elim (selected (ltb (items + row_len row) (2 ^ 31)) (prepend_row row (parsed_rows_after (above + 1) (items + row_len row) lines)) (Err (above + 1)) (Ok rows) (sym step ∙ e)) [
             | inl within ↦
                 let small : items + row_len row < 2 ^ 31 = ltb-true _ _ within.0 in
                 let o = onto_ok row (parsed_rows_after (above + 1) (items + row_len row) lines) rows within.1 in

@@ -3,7 +3,7 @@ use Rattle.std.proofs.Common.{◌≡◌, ℕ, ◌+◌, ◌<◌, ◌≤◌, List,
 use Rattle.std.specs.List.{join_with_byte}
 use Rattle.std.proofs.lemmas.List.{take_more, take_all, map-append, length-take}
 use Rattle.std.proofs.lemmas.List.Concat.{flat_map-cons}
-use Rattle.nest_memory.specs.Cut.{cut}
+use Rattle.nest_memory.specs.Sublist.{sublist}
 use Rattle.nest_model.specs.Runs.{get_or-cut, length-cut}
 use Rattle.nest_model.specs.Slot as slots
 use Rattle.nest_model.specs.Slot.{Slot, seal}
@@ -67,10 +67,10 @@ module _ (xs : List Slot) (i : ℕ) (within : i < length xs) (old before between
       pushed ∙ ap (λ l. l ++ item_text item) (same ∙ so_far ∙ ap (λ l. old ++ joined_items l) none ∙ append-nil old) ∙ ap (λ l. old ++ l) (sym one)
 
 -- a slot of a slice
-pub cut-slot : (a : Layout) (o n i : ℕ) → o + n ≤ len a → i < n → get_or (cut (slots_of a) o n) i slots.null ≡ slot a (o + i)
+pub cut-slot : (a : Layout) (o n i : ℕ) → o + n ≤ len a → i < n → get_or (sublist (slots_of a) o n) i slots.null ≡ slot a (o + i)
 cut-slot a o n i h k = get_or-cut (slots_of a) o n i slots.null k ∙ slot-place a (o + i) slots.null (omega arith)
 
-pub cut-length : (a : Layout) (o n : ℕ) → o + n ≤ len a → length (cut (slots_of a) o n) ≡ n
+pub cut-length : (a : Layout) (o n : ℕ) → o + n ≤ len a → length (sublist (slots_of a) o n) ≡ n
 cut-length a o n h = length-cut (slots_of a) o n (omega (arith, slots-length a))
 
 -- ---- rows

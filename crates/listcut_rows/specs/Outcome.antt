@@ -2,9 +2,9 @@
 use Rattle.std.specs.Io.KnownBytes.{Appends, Keeps}
 use Rattle.std.specs.List.{list_all}
 use Rattle.std.specs.Prelude.{◌≡◌, ℕ, ◌+◌, ◌^◌, ◌≤◌, ◌++◌, ⊤, List, Option, Some, None, Result, Ok, Err, if◌then◌else◌, nat_le, nat_lt, length}
-use Rattle.nest_model.specs.Chosen.{chosen}
+use Rattle.nest_model.specs.Selected.{selected}
 use Rattle.nest_model.specs.Slot.{Slot}
-use Rattle.nest_memory.specs.Cut.{cut}
+use Rattle.nest_memory.specs.Sublist.{sublist}
 use Rattle.listcut_rows.specs.declared.error.ListcutError.{ListcutError}
 use Rattle.listcut_rows.specs.declared.error.ListcutError.TheVariants.{Arguments, Input, Line, Range, Size, Output, Memory}
 use Rattle.listcut_rows.specs.Grammar.{Selection, slice_rows, take_rows, parsed_rows, parsed_selection}
@@ -40,8 +40,8 @@ Writes (Err Size) old new bytes = ⊥
 
 -- the rows of a slice or at indices, in their order, if it is in bounds
 abbrev pub selected_rows : Selection → List Slot → Result (List Slot) ListcutError
-selected_rows (slice_rows window) rows = if nat_le (window.0 + window.1) (length rows) then Ok (cut rows window.0 window.1) else Err Range
-selected_rows (take_rows indices) rows = if list_all (λ index. nat_lt index (length rows)) indices then Ok (chosen rows indices) else Err Range
+selected_rows (slice_rows window) rows = if nat_le (window.0 + window.1) (length rows) then Ok (sublist rows window.0 window.1) else Err Range
+selected_rows (take_rows indices) rows = if list_all (λ index. nat_lt index (length rows)) indices then Ok (selected rows indices) else Err Range
 
 abbrev pub result_for : Option Selection → Result (List Slot) ℕ → Result (List Slot) ListcutError
 result_for None reading = Err Arguments

@@ -9,12 +9,12 @@ pub use Rattle.listcut_rows.specs.declared.error.ListcutError.TheVariants.{Memor
 pub use Rattle.nest_array.specs.Seen.{layout_of}
 pub use Rattle.nest_array.specs.Types.{default_list_type}
 pub use Rattle.listcut_rows.specs.RowsBuilder.{item_total, tree_of}
-pub use Rattle.nest_memory.specs.Cut.{cut}
+pub use Rattle.nest_memory.specs.Sublist.{sublist}
 pub use Rattle.nest_memory.specs.TypeTree.{item_type}
 pub use Rattle.nest_model.specs.BuilderLevels.{own_slots}
 pub use Rattle.nest_model.specs.BuilderTree.{builder_len, builder_type}
-pub use Rattle.nest_model.specs.BuilderWhole.{IsWhole}
-pub use Rattle.nest_model.specs.Chosen.{chosen}
+pub use Rattle.nest_model.specs.BuilderComplete.{IsComplete}
+pub use Rattle.nest_model.specs.Selected.{selected}
 pub use Rattle.nest_model.specs.Layout.{layout_type}
 pub use Rattle.nest_model.specs.Meaning.{len, slot, slots_of}
 pub use Rattle.nest_model.specs.Slot.{Slot}

@@ -2,7 +2,7 @@
 ghost use Rattle.std.specs.Prelude.{◌≡◌, ℕ, ◌+◌, ◌<◌, ◌∷◌, ◌++◌, ◌==◌, [], false, All, MatchOption, option_map, map, IfOk, IfErr, OnOk, Ok, length};
 ghost use Rattle.std.specs.Bool.{then_some};
 ghost use Rattle.nest_memory.specs.TypeTree as types;
-ghost use Rattle.listcut_rows.specs.Words.{IsWhole, IsReadError, builder_type, default_list_type, parsed_item, item_slot, parsed_items, item_total, layout_type, lines_of, own_slots, parsed_row, parsed_rows, slot_of_row, slots_of, tree_of};
+ghost use Rattle.listcut_rows.specs.Words.{IsComplete, IsReadError, builder_type, default_list_type, parsed_item, item_slot, parsed_items, item_total, layout_type, lines_of, own_slots, parsed_row, parsed_rows, slot_of_row, slots_of, tree_of};
 
 use crate::error::ListcutError;
 use crate::numbers::parse_number;
@@ -22,7 +22,7 @@ type RowsBuilder = MutableListArray<i32, MutablePrimitiveArray<i64>>;
 /// Splits the bytes at the first `separator`; the second part is `None` if there is none.
 fn split_at_byte(bytes: &[u8], separator: u8) -> (&[u8], Option<&[u8]>)
     ensures before { All (λ b. (b == separator) ≡ false) result.0.now }
-    ensures whole { MatchOption result.1 (bytes.now ≡ result.0.now) (λ rest. bytes.now ≡ result.0.now ++ separator ∷ rest.now) }
+    ensures complete { MatchOption result.1 (bytes.now ≡ result.0.now) (λ rest. bytes.now ≡ result.0.now ++ separator ∷ rest.now) }
 {
     match memchr(separator, bytes) {
         Some(i) => (&bytes[..i], Some(&bytes[i + 1..])),
@@ -43,7 +43,7 @@ fn parse_item(bytes: &[u8]) -> Option<Option<i64>>
 
 /// Replaces `items` by the items that are parsed; returns false if the bytes are invalid.
 fn parse_items(bytes: &[u8], items: &mut Vec<Option<i64>>) -> Result<bool, AllocError>
-    ensures { IfOk result (λ whole. then_some whole (map item_slot items.new.items) ≡ parsed_items bytes.now) }
+    ensures { IfOk result (λ complete. then_some complete (map item_slot items.new.items) ≡ parsed_items bytes.now) }
 {
     items.clear();
     if bytes.is_empty() {
@@ -98,12 +98,12 @@ fn next_line(bytes: &[u8]) -> (&[u8], &[u8])
 
 /// Adds the rows that are parsed to an empty builder.
 fn push_rows(alloc: Global, rows: &mut RowsBuilder, bytes: &[u8]) -> Result<(), ListcutError>
-    requires whole { IsWhole (tree_of rows.old.data_type rows.old.rows rows.old.values) }
+    requires complete { IsComplete (tree_of rows.old.data_type rows.old.rows rows.old.values) }
     requires no_rows { rows.old.rows ≡ [] }
     requires no_items { item_total (tree_of rows.old.data_type rows.old.rows rows.old.values) ≡ 0 }
     requires numbers { layout_type rows.old.values ≡ types.int64 }
     ensures rows { OnOk result (parsed_rows bytes.now ≡ Ok (own_slots (tree_of rows.new.data_type rows.new.rows rows.new.values))) }
-    ensures whole { OnOk result (IsWhole (tree_of rows.new.data_type rows.new.rows rows.new.values)) }
+    ensures complete { OnOk result (IsComplete (tree_of rows.new.data_type rows.new.rows rows.new.values)) }
     ensures same_type { OnOk result (builder_type (tree_of rows.new.data_type rows.new.rows rows.new.values) ≡ builder_type (tree_of rows.old.data_type rows.old.rows rows.old.values)) }
     ensures error { IfErr result (λ error. IsReadError error (parsed_rows bytes.now)) }
 {

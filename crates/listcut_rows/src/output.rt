@@ -2,7 +2,7 @@
 ghost use Rattle.std.specs.Prelude.{◌≡◌, ℕ, ◌+◌, ◌<◌, ◌≤◌, ◌++◌, ◌∷◌, Some, map, OnOk, IfOk};
 ghost use Rattle.std.specs.List.{join_with_byte};
 ghost use Rattle.nest_memory.specs.TypeTree as types;
-ghost use Rattle.listcut_rows.specs.Words.{Writes, cut, item_slot, item_text, item_type, layout_type, len, row_text, slot, slots_of, rows_text};
+ghost use Rattle.listcut_rows.specs.Words.{Writes, sublist, item_slot, item_text, item_type, layout_type, len, row_text, slot, slots_of, rows_text};
 
 use crate::error::ListcutError;
 use crate::int64::numbers;
@@ -33,7 +33,7 @@ fn push_items(
     count: usize,
 ) -> Result<(), AllocError>
     requires { start + count ≤ len items.now }
-    ensures { OnOk result (out.new.items ≡ out.old.items ++ join_with_byte 44 (map item_text (cut (slots_of items.now) start count))) }
+    ensures { OnOk result (out.new.items ≡ out.old.items ++ join_with_byte 44 (map item_text (sublist (slots_of items.now) start count))) }
 {
     let _end = items.len();
     for i in 0..count {

@@ -1,4 +1,4 @@
--- The builders in a list, as part of a tree: what holds of all of them and of each.
+-- The builders in a list as part of a tree: facts of all of them from facts of each.
 use Rattle.std.specs.Prelude.{List as Seq, [], ◌∷◌, Bool, true, false, ◌||◌, ◌⊎◌, alloc_error}
 use Rattle.std.proofs.Common.{◌≡◌, ℕ, zero, suc, ◌+◌, ◌<◌, ◌≤◌, ltb, length, get_or, set, refl, sym, ap, ◌∙◌, arith, inl, inr}
 use Rattle.std.proofs.lemmas.List.{get_or-set_same, get_or-set_other, get_or_default, length-set}
@@ -6,12 +6,12 @@ use Rattle.std.proofs.lemmas.Bool.{ltb-true, ltb-false}
 use Rattle.nest_memory.specs.declared.error.Error.{Error}
 use Rattle.nest_memory.specs.declared.error.Error.TheVariants.{Memory, Overflow}
 use Rattle.nest_model.specs.BuilderTree.{BuilderTree, BuilderTrees, no_builders, more_builders, builder_len}
-use Rattle.nest_model.specs.BuilderWhole.{IsWhole, AreWhole, cut_builder, cut_builders, emptied, emptied_each}
-use Rattle.nest_model.specs.BuilderCutLaws.{cut-whole}
+use Rattle.nest_model.specs.BuilderComplete.{IsComplete, AreComplete, truncate_builder, truncate_builders, emptied, emptied_each}
+use Rattle.nest_model.specs.BuilderTruncateLaws.{cut-complete}
 use Rattle.nest_model.specs.BuilderAppend.{nulls_appended, nulls_appended_each}
-use Rattle.nest_model.specs.BuilderAcceptLaws.{accepted-nulls, len-nulls, whole-nulls}
+use Rattle.nest_model.specs.BuilderAcceptLaws.{accepted-nulls, len-nulls, complete-nulls}
 use Rattle.nest_model.specs.BuilderRefusals.{nulls_pass, nulls_pass_each}
-use Rattle.nest_model.specs.BuilderTold.{AreEachWhole}
+use Rattle.nest_model.specs.BuilderAddRow.{AreEachComplete}
 use Rattle.nest_any.specs.BuilderCode.{weight, weight_all}
 use Rattle.nest_any.specs.Each.{each}
 use Rattle.nest_any.specs.Refusals.{AreEachLong}
@@ -30,7 +30,7 @@ same-all f (x ∷ xs) (y ∷ ys) e h =
     let b = same-all f xs ys (omega arith) (λ k d l. h (suc k) d (omega arith)) in
     cc
 
--- one builder in the place of another of the same tree
+-- one builder replaced by another with the same tree
 pub each-set : {A : Type 0} (f : A → BuilderTree) (xs : Seq A) (i : ℕ) (y d : A) → f y ≡ f (get_or xs i d) → each f (set xs i y) ≡ each f xs
 each-set f [] i y d h = refl
 each-set f (x ∷ xs) zero y d h = ap (λ t. more_builders t (each f xs)) h
@@ -43,7 +43,7 @@ set-at f (x ∷ xs) zero (suc k) y d e l h = refl
 set-at f (x ∷ xs) (suc i) zero y d e l h = refl
 set-at f (x ∷ xs) (suc i) (suc k) y d e l h = set-at f xs i k y d e (omega arith) h
 
--- what holds of each tree before place i, and there
+-- a fact of each tree before index i, and of the tree at i
 pub below-next : {A : Type 0} (f : A → BuilderTree) (P : BuilderTree → Type 0) (xs : Seq A) (i : ℕ) (x : A) → i < length xs → ((k : ℕ) (d : A) → k < i → P (f (get_or xs k d))) → P (f (get_or xs i x)) → (k : ℕ) (d : A) → k < i + 1 → P (f (get_or xs k d))
 below-next f P [] i x l h q k d b = absurd (omega arith)
 below-next f P (y ∷ ys) zero x l h q zero d b = q
@@ -64,22 +64,22 @@ done-next f g (u ∷ xs) (v ∷ ys) (suc i) y x e l h q (suc k) d b = done-next 
 pub left-next : {A : Type 0} (xs ys : Seq A) (i : ℕ) (y : A) → ((k : ℕ) (d : A) → i ≤ k → get_or xs k d ≡ get_or ys k d) → (k : ℕ) (d : A) → i + 1 ≤ k → get_or (set xs i y) k d ≡ get_or ys k d
 left-next xs ys i y h k d b = get_or-set_other xs i k y d (λ r. omega (arith, b, r)) ∙ h k d (omega (arith, b))
 
-pub cut-all : {A : Type 0} (f : A → BuilderTree) (xs ys : Seq A) (n : ℕ) → length xs ≡ length ys → ((k : ℕ) (d : A) → k < length ys → f (get_or xs k d) ≡ cut_builder (f (get_or ys k d)) n) → each f xs ≡ cut_builders (each f ys) n
+pub cut-all : {A : Type 0} (f : A → BuilderTree) (xs ys : Seq A) (n : ℕ) → length xs ≡ length ys → ((k : ℕ) (d : A) → k < length ys → f (get_or xs k d) ≡ truncate_builder (f (get_or ys k d)) n) → each f xs ≡ truncate_builders (each f ys) n
 cut-all f [] [] n e h = refl
 cut-all f [] (y ∷ ys) n e h = absurd (omega arith)
 cut-all f (x ∷ xs) [] n e h = absurd (omega arith)
 cut-all f (x ∷ xs) (y ∷ ys) n e h =
-    let a : f x ≡ cut_builder (f y) n = h 0 x (omega arith) in
+    let a : f x ≡ truncate_builder (f y) n = h 0 x (omega arith) in
     let b = cut-all f xs ys n (omega arith) (λ k d l. h (suc k) d (omega arith)) in
     cc
 
--- a cut that gives back what stood before
-pub back-all : {A : Type 0} (f : A → BuilderTree) (xs ys : Seq A) (n : ℕ) → length xs ≡ length ys → ((k : ℕ) (d : A) → k < length ys → cut_builder (f (get_or xs k d)) n ≡ f (get_or ys k d)) → cut_builders (each f xs) n ≡ each f ys
+-- truncation restores the former trees
+pub back-all : {A : Type 0} (f : A → BuilderTree) (xs ys : Seq A) (n : ℕ) → length xs ≡ length ys → ((k : ℕ) (d : A) → k < length ys → truncate_builder (f (get_or xs k d)) n ≡ f (get_or ys k d)) → truncate_builders (each f xs) n ≡ each f ys
 back-all f [] [] n e h = refl
 back-all f [] (y ∷ ys) n e h = absurd (omega arith)
 back-all f (x ∷ xs) [] n e h = absurd (omega arith)
 back-all f (x ∷ xs) (y ∷ ys) n e h =
-    let a : cut_builder (f x) n ≡ f y = h 0 x (omega arith) in
+    let a : truncate_builder (f x) n ≡ f y = h 0 x (omega arith) in
     let b = back-all f xs ys n (omega arith) (λ k d l. h (suc k) d (omega arith)) in
     cc
 
@@ -101,53 +101,53 @@ nulls-all f (x ∷ xs) (y ∷ ys) n e h =
     let b = nulls-all f xs ys n (omega arith) (λ k d l. h (suc k) d (omega arith)) in
     cc
 
-pub whole-at : {A : Type 0} (f : A → BuilderTree) (xs : Seq A) (n k : ℕ) (d : A) → AreWhole (each f xs) n → k < length xs → IsWhole (f (get_or xs k d)) × (builder_len (f (get_or xs k d)) ≡ n)
-whole-at f [] n k d h l = absurd (omega arith)
-whole-at f (x ∷ xs) n zero d h l = (h.0, h.1)
-whole-at f (x ∷ xs) n (suc k) d h l = whole-at f xs n k d h.2 (omega arith)
+pub complete-at : {A : Type 0} (f : A → BuilderTree) (xs : Seq A) (n k : ℕ) (d : A) → AreComplete (each f xs) n → k < length xs → IsComplete (f (get_or xs k d)) × (builder_len (f (get_or xs k d)) ≡ n)
+complete-at f [] n k d h l = absurd (omega arith)
+complete-at f (x ∷ xs) n zero d h l = (h.0, h.1)
+complete-at f (x ∷ xs) n (suc k) d h l = complete-at f xs n k d h.2 (omega arith)
 
-pub each_whole-at : {A : Type 0} (f : A → BuilderTree) (xs : Seq A) (k : ℕ) (d : A) → AreEachWhole (each f xs) → k < length xs → IsWhole (f (get_or xs k d))
+pub each_whole-at : {A : Type 0} (f : A → BuilderTree) (xs : Seq A) (k : ℕ) (d : A) → AreEachComplete (each f xs) → k < length xs → IsComplete (f (get_or xs k d))
 each_whole-at f [] k d h l = absurd (omega arith)
 each_whole-at f (x ∷ xs) zero d h l = h.0
 each_whole-at f (x ∷ xs) (suc k) d h l = each_whole-at f xs k d h.1 (omega arith)
 
-pub whole-each : (cs : BuilderTrees) (n : ℕ) → AreWhole cs n → AreEachWhole cs
-whole-each no_builders n w = tt
-whole-each (more_builders c cs) n w = (w.0, whole-each cs n w.2)
+pub complete-each : (cs : BuilderTrees) (n : ℕ) → AreComplete cs n → AreEachComplete cs
+complete-each no_builders n w = tt
+complete-each (more_builders c cs) n w = (w.0, complete-each cs n w.2)
 
-pub long-at : {A : Type 0} (f : A → BuilderTree) (xs : Seq A) (n k : ℕ) (d : A) → AreEachLong (each f xs) n → k < length xs → IsWhole (f (get_or xs k d)) × (n ≤ builder_len (f (get_or xs k d)))
+pub long-at : {A : Type 0} (f : A → BuilderTree) (xs : Seq A) (n k : ℕ) (d : A) → AreEachLong (each f xs) n → k < length xs → IsComplete (f (get_or xs k d)) × (n ≤ builder_len (f (get_or xs k d)))
 long-at f [] n k d h l = absurd (omega arith)
 long-at f (x ∷ xs) n zero d h l = (h.0, h.1)
 long-at f (x ∷ xs) n (suc k) d h l = long-at f xs n k d h.2 (omega arith)
 
-pub long-all : {A : Type 0} (f : A → BuilderTree) (xs : Seq A) (n : ℕ) → ((k : ℕ) (d : A) → k < length xs → IsWhole (f (get_or xs k d)) × (n ≤ builder_len (f (get_or xs k d)))) → AreEachLong (each f xs) n
+pub long-all : {A : Type 0} (f : A → BuilderTree) (xs : Seq A) (n : ℕ) → ((k : ℕ) (d : A) → k < length xs → IsComplete (f (get_or xs k d)) × (n ≤ builder_len (f (get_or xs k d)))) → AreEachLong (each f xs) n
 long-all f [] n h = tt
 long-all f (x ∷ xs) n h = ((h 0 x (omega arith)).0, (h 0 x (omega arith)).1, long-all f xs n (λ k d l. h (suc k) d (omega arith)))
 
-pub long-whole : (cs : BuilderTrees) (m n : ℕ) → AreWhole cs m → n ≤ m → AreEachLong cs n
-long-whole no_builders m n w l = tt
-long-whole (more_builders c cs) m n w l = (w.0, omega (arith, w.1), long-whole cs m n w.2 l)
+pub long-complete : (cs : BuilderTrees) (m n : ℕ) → AreComplete cs m → n ≤ m → AreEachLong cs n
+long-complete no_builders m n w l = tt
+long-complete (more_builders c cs) m n w l = (w.0, omega (arith, w.1), long-complete cs m n w.2 l)
 
--- nulls that were appended go back by a cut
-pub nulls-undone : (n : ℕ) (t : BuilderTree) → IsWhole t → cut_builder (nulls_appended n t) (builder_len t) ≡ t
+-- truncation removes the appended nulls
+pub nulls-undone : (n : ℕ) (t : BuilderTree) → IsComplete t → truncate_builder (nulls_appended n t) (builder_len t) ≡ t
 nulls-undone n t w = (accepted-nulls t n w).undo
 
-pub each-undone : (cs : BuilderTrees) (n : ℕ) → AreWhole cs n → cut_builders (nulls_appended_each 1 cs) n ≡ cs
+pub each-undone : (cs : BuilderTrees) (n : ℕ) → AreComplete cs n → truncate_builders (nulls_appended_each 1 cs) n ≡ cs
 each-undone no_builders n w = refl
 each-undone (more_builders c cs) n w = rw (each-undone cs n w.2, ← w.1, nulls-undone 1 c w.0) refl
 
-whole-nulls-all : (cs : BuilderTrees) (n : ℕ) → AreWhole cs n → AreWhole (nulls_appended_each 1 cs) (n + 1)
-whole-nulls-all no_builders n w = tt
-whole-nulls-all (more_builders c cs) n w = (whole-nulls 1 c w.0, omega (arith, w.1, len-nulls 1 c), whole-nulls-all cs n w.2)
+complete-nulls-all : (cs : BuilderTrees) (n : ℕ) → AreComplete cs n → AreComplete (nulls_appended_each 1 cs) (n + 1)
+complete-nulls-all no_builders n w = tt
+complete-nulls-all (more_builders c cs) n w = (complete-nulls 1 c w.0, omega (arith, w.1, len-nulls 1 c), complete-nulls-all cs n w.2)
 
--- children that took a null can be cut to what they were
-pub long-took : (cs : BuilderTrees) (n : ℕ) → AreWhole cs n → AreEachLong (nulls_appended_each 1 cs) n
-long-took cs n w = long-whole (nulls_appended_each 1 cs) (n + 1) n (whole-nulls-all cs n w) (omega arith)
+-- children with an appended null can be truncated to what they were
+pub long-took : (cs : BuilderTrees) (n : ℕ) → AreComplete cs n → AreEachLong (nulls_appended_each 1 cs) n
+long-took cs n w = long-complete (nulls_appended_each 1 cs) (n + 1) n (complete-nulls-all cs n w) (omega arith)
 
--- a child that is as it was or took a null goes back by a cut
-settled : (a b : BuilderTree) (n : ℕ) → IsWhole a → builder_len a ≡ n → (b ≡ a) ⊎ (b ≡ nulls_appended 1 a) → (IsWhole b × (n ≤ builder_len b)) × (cut_builder b n ≡ a)
-settled a b n w e (inl q) = rw q ((w, omega (arith, e)), rw (← e) (cut-whole a w))
-settled a b n w e (inr q) = rw q ((whole-nulls 1 a w, omega (arith, e, len-nulls 1 a)), rw (← e) (nulls-undone 1 a w))
+-- truncation restores a child that is unchanged or has an appended null
+settled : (a b : BuilderTree) (n : ℕ) → IsComplete a → builder_len a ≡ n → (b ≡ a) ⊎ (b ≡ nulls_appended 1 a) → (IsComplete b × (n ≤ builder_len b)) × (truncate_builder b n ≡ a)
+settled a b n w e (inl q) = rw q ((w, omega (arith, e)), rw (← e) (cut-complete a w))
+settled a b n w e (inr q) = rw q ((complete-nulls 1 a w, omega (arith, e, len-nulls 1 a)), rw (← e) (nulls-undone 1 a w))
 
 refused-at : {A : Type 0} (f : A → BuilderTree) (old now : Seq A) (i k : ℕ) (x y d : A) (b c : Bool) → ltb k i ≡ b → ltb i k ≡ c → length now ≡ length old → i < length old → ((j : ℕ) (e : A) → i ≤ j → get_or now j e ≡ get_or old j e)
     → ((j : ℕ) (e : A) → j < i → f (get_or now j e) ≡ nulls_appended 1 (f (get_or old j e))) → x ≡ get_or now i x → f y ≡ f x
@@ -162,16 +162,16 @@ refused-at f old now i k x y d false false p q e l g h s m =
     let same : k ≡ i = omega (arith, ltb-false k i p, ltb-false i k q) in
     rw same (rw (get_or-set_same now i y d (omega (arith, e, l))) (inl (m ∙ ap f (s ∙ (g i x (omega arith) ∙ get_or_default old i x d l)))))
 
--- one child refused: the former ones took a null, the later ones are as they were
-pub refused : {A : Type 0} (f : A → BuilderTree) (old now : Seq A) (i n : ℕ) (x y : A) → length now ≡ length old → i < length old → AreWhole (each f old) n → ((j : ℕ) (e : A) → i ≤ j → get_or now j e ≡ get_or old j e)
+-- one child refused: those before it have an appended null, those after it are unchanged
+pub refused : {A : Type 0} (f : A → BuilderTree) (old now : Seq A) (i n : ℕ) (x y : A) → length now ≡ length old → i < length old → AreComplete (each f old) n → ((j : ℕ) (e : A) → i ≤ j → get_or now j e ≡ get_or old j e)
     → ((j : ℕ) (e : A) → j < i → f (get_or now j e) ≡ nulls_appended 1 (f (get_or old j e))) → x ≡ get_or now i x → f y ≡ f x
-    → AreEachLong (each f (set now i y)) n × (cut_builders (each f (set now i y)) n ≡ each f old)
+    → AreEachLong (each f (set now i y)) n × (truncate_builders (each f (set now i y)) n ≡ each f old)
 refused {A = A} f old now i n x y e l w g h s m =
     let size_now : length (set now i y) ≡ length old = length-set now i y ∙ e in
-    let at = λ (k : ℕ) (d : A) (r : k < length old). settled (f (get_or old k d)) (f (get_or (set now i y) k d)) n (whole-at f old n k d w r).0 (whole-at f old n k d w r).1 (refused-at f old now i k x y d (ltb k i) (ltb i k) refl refl e l g h s m) in
+    let at = λ (k : ℕ) (d : A) (r : k < length old). settled (f (get_or old k d)) (f (get_or (set now i y) k d)) n (complete-at f old n k d w r).0 (complete-at f old n k d w r).1 (refused-at f old now i k x y d (ltb k i) (ltb i k) refl refl e l g h s m) in
     (long-all f (set now i y) n (λ k d r. (at k d (omega (arith, r, size_now))).0), back-all f (set now i y) old n size_now (λ k d r. (at k d r).1))
 
--- nulls that pass a limit, in one child or in none
+-- nulls that exceed a limit, in one child or in none
 pub pass-at : {A : Type 0} (f : A → BuilderTree) (xs : Seq A) (n i : ℕ) (d : A) → nulls_pass n (f (get_or xs i d)) ≡ true → i < length xs → nulls_pass_each n (each f xs) ≡ true
 pass-at f [] n i d h l = absurd (omega arith)
 pass-at f (x ∷ xs) n zero d h l = rw h refl
@@ -188,7 +188,7 @@ pass-none f (x ∷ xs) n h =
     let b = pass-none f xs n (λ k d l. h (suc k) d (omega arith)) in
     rw (a, b) refl
 
--- one child has no place for a null
+-- the nulls exceed the limit of one child
 pub child-passes : {A : Type 0} (f : A → BuilderTree) (xs : Seq A) (i : ℕ) (d : A) (t : BuilderTree) (e : Error) → i < length xs → t ≡ f (get_or xs i d) → (e ≡ Memory alloc_error) ⊎ ((e ≡ Overflow) × (nulls_pass 1 t ≡ true))
     → (e ≡ Memory alloc_error) ⊎ ((e ≡ Overflow) × (nulls_pass_each 1 (each f xs) ≡ true))
 child-passes f xs i d t e l s (inl m) = inl m

@@ -1,4 +1,4 @@
--- Which data types are of values without children, and which places keys name.
+-- Which data types have flat values, and the indices of keys.
 use Rattle.std.specs.Prelude.{◌⊎◌, ◌↔◌, IsTrue, Option, None, Some, ℕ, ℤ, pos, negsuc}
 use Rattle.std.proofs.Common.{◌≡◌, true, false, refl, ap, sym, ◌∙◌, inl, inr}
 use Rattle.nest_array.specs.Keys.{index_of}
@@ -20,7 +20,7 @@ keyed-not_flat (types.dictionary k u b) h = refl
 keyed-not_flat (types.extension n u m) h = keyed-not_flat u h
 keyed-not_flat t h = cc
 
--- a type whose logical type is that of such values is one of such values
+-- a type with the logical type of flat values is flat
 pub logically-flat : (o : Option TypeTree) (u : TypeTree) → AreFlat o → IsLogically o u → is_flat (physical_type u) ≡ false → ⊥
 logically-flat None u h l n = absurd h
 logically-flat (Some t) u h l n =
@@ -28,7 +28,7 @@ logically-flat (Some t) u h l n =
     let x = sym e ∙ n in
     cc
 
--- a key names the place that its number is
+-- a key is the index equal to its number
 pub index-of : (z : ℤ) (r : Option ℕ) (k : ℕ) → r ≡ index_of z → (r ≡ Some k) ↔ (Some z ≡ Some (pos k))
 index-of (pos n) r k e = (λ h. let x = sym e ∙ h in cc, λ h. e ∙ (let x = h in cc))
 index-of (negsuc n) r k e = (λ h. let x = sym e ∙ h in cc, λ h. cc)

@@ -1,4 +1,4 @@
--- A child that is lent, in the list of the children.
+-- A borrowed child in the list of the children.
 use Rattle.std.specs.Prelude.{List as Seq, [], ◌∷◌, Some, None}
 use Rattle.std.proofs.Common.{◌≡◌, ℕ, zero, suc, ◌<◌, ◌≤◌, ◌++◌, length, get_or, set, take, drop, refl, ap, ◌∙◌, arith}
 use Rattle.nest_model.specs.BuilderTree.{BuilderTree, more_builders}
@@ -20,13 +20,13 @@ each-set f [] i y = refl
 each-set f (x ∷ xs) zero y = refl
 each-set f (x ∷ xs) (suc i) y = ap (more_builders (f x)) (each-set f xs i y)
 
-take-whole : {A : Type 0} (xs : Seq A) → take (length xs) xs ≡ xs
-take-whole [] = refl
-take-whole (x ∷ xs) = ap (λ ys. x ∷ ys) (take-whole xs)
+take-complete : {A : Type 0} (xs : Seq A) → take (length xs) xs ≡ xs
+take-complete [] = refl
+take-complete (x ∷ xs) = ap (λ ys. x ∷ ys) (take-complete xs)
 
 all-over : {A : Type 0} (f : A → BuilderTree) (xs ws : Seq A) → each f (take (length xs) (ws ++ drop (length ws) xs)) ≡ written_over (each f xs) (each f ws)
 all-over f [] ws = refl
-all-over f (x ∷ xs) [] = ap (λ ys. more_builders (f x) (each f ys)) (take-whole xs)
+all-over f (x ∷ xs) [] = ap (λ ys. more_builders (f x) (each f ys)) (take-complete xs)
 all-over f (x ∷ xs) (w ∷ ws) = ap (more_builders (f w)) (all-over f xs ws)
 
 pub each-over : {A : Type 0} (f : A → BuilderTree) (xs ws : Seq A) (n : ℕ) → n ≡ length xs → each f (take n (ws ++ drop (length ws) xs)) ≡ written_over (each f xs) (each f ws)

@@ -1,18 +1,18 @@
--- A null that was appended, as what the interface says of it.
+-- An appended null in the terms of the `MutableArray` contract.
 use Rattle.std.specs.Prelude.{◌⊎◌, Some, alloc_error}
 use Rattle.std.proofs.Common.{◌≡◌, ℕ, zero, suc, ◌+◌, ◌<◌, true, false, sym, ap, ◌∙◌, inl, inr, arith}
 use Rattle.nest_memory.specs.declared.error.Error.{Error}
 use Rattle.nest_memory.specs.declared.error.Error.TheVariants.{Memory, Overflow}
 use Rattle.nest_model.specs.BuilderTree.{BuilderTree}
 use Rattle.nest_model.specs.BuilderItem as items
-use Rattle.nest_model.specs.BuilderWhole.{IsWhole}
+use Rattle.nest_model.specs.BuilderComplete.{IsComplete}
 use Rattle.nest_model.specs.BuilderAppend.{Accepted, nulls_appended}
 use Rattle.nest_model.specs.BuilderAppendLaws.{nulls-zero, nulls-more}
 use Rattle.nest_model.specs.BuilderAcceptLaws.{accepted-null}
 use Rattle.nest_model.specs.BuilderRefusals.{nulls_pass, item_refusal}
 use Rattle.nest_model.specs.BuilderRefusalLaws.{null_past, null_passes, nulls-more_fit, nulls-then_pass}
 
-pub null_accepted : (t u : BuilderTree) → IsWhole t → u ≡ nulls_appended 1 t → Accepted items.null t u
+pub null_accepted : (t u : BuilderTree) → IsComplete t → u ≡ nulls_appended 1 t → Accepted items.null t u
 null_accepted t u w e = rw e (accepted-null t w)
 
 -- the cause of a refused null, in either form
@@ -24,7 +24,7 @@ pub cause_of_null : (t : BuilderTree) (e : Error) → (e ≡ Memory alloc_error)
 cause_of_null t e (inl m) = inl m
 cause_of_null t e (inr k) = inr (null_passes t e k)
 
--- one null more after i of them
+-- one more null after i of them
 pub one_more : (t u v : BuilderTree) (i : ℕ) → u ≡ nulls_appended i t → v ≡ nulls_appended 1 u → v ≡ nulls_appended (i + 1) t
 one_more t u v i e f = f ∙ ap (nulls_appended 1) e ∙ nulls-more t i 1
 

@@ -1,22 +1,22 @@
--- Which rows of a builder of records are null.
+-- Which rows of a struct builder are null.
 use Rattle.std.specs.Prelude.{List as Seq, [], ◌∷◌, ◌≢◌, ◌↔◌, ◌⊎◌, ◌++◌, IsTrue, Some, None, alloc_error}
 use Rattle.std.proofs.Common.{◌≡◌, ℕ, zero, suc, ◌+◌, ◌<◌, ◌≤◌, Bool, true, false, length, get_or, refl, sym, ap, subst, ◌∙◌, inl, inr, arith}
 use Rattle.nest_memory.specs.TypeTree.{TypeTree}
 use Rattle.nest_memory.specs.declared.error.Error.{Error}
 use Rattle.nest_memory.specs.declared.error.Error.TheVariants.{Memory, Overflow}
 use Rattle.nest_model.specs.Checks.{Pass, largest_length}
-use Rattle.nest_model.specs.BuilderTold.{Told, HasWholeChildren, row_checks}
+use Rattle.nest_model.specs.BuilderAddRow.{RowAdded, HasCompleteChildren, row_checks}
 use Rattle.nest_model.specs.BuilderRowCheckLaws.{pass-ready}
-use Rattle.nest_model.specs.BuilderToldLaws.{struct_told}
+use Rattle.nest_model.specs.BuilderAddRowLaws.{struct_row_added}
 use Rattle.nest_model.specs.Part.{Validity}
 use Rattle.nest_model.specs.Slot as slots
 use Rattle.nest_model.specs.Slot.{Slot, Slots}
 use Rattle.nest_model.specs.BuilderTree.{BuilderTree, BuilderTrees, struct}
 use Rattle.nest_model.specs.BuilderLevels.{valid_or_null, record_at, rows_of_records, own_slots_each}
-use Rattle.nest_model.specs.BuilderFreeze.{SpellsBits}
-use Rattle.nest_build.specs.Told.{own_slot, TellsNulls}
+use Rattle.nest_model.specs.BuilderFreeze.{EncodesBits}
+use Rattle.nest_build.specs.Shown.{own_slot, ShowsNulls}
 
--- a row is a record or null, by its bit
+-- a row is a struct or null, by its bit
 row : (j i : ℕ) (bits : Seq Bool) (xss : Seq (Seq Slot)) → i < length bits → (s : Slots) × (get_or (rows_of_records j bits xss) i slots.null ≡ valid_or_null (get_or bits i true) (slots.record_of s))
 row j i [] xss l = absurd (omega (arith, l))
 row j zero (b ∷ bits) xss l = (record_at j xss, refl)
@@ -38,12 +38,12 @@ by-bit r false N h e = (λ t. absurd (let f : true ≡ false = sym t ∙ e in cc
 pub record-valid : (t : TypeTree) (bits : Seq Bool) (cs : BuilderTrees) (i : ℕ) (r : Bool) → i < length bits → r ≡ get_or bits i true → IsTrue r ↔ (own_slot (struct t bits cs) i ≢ slots.null)
 record-valid t bits cs i r l e = by-bit r (get_or bits i true) (own_slot (struct t bits cs) i ≡ slots.null) (record-null t bits cs i l) e
 
-pub records-tell : (va : Validity) (t : TypeTree) (bits : Seq Bool) (cs : BuilderTrees) → SpellsBits va bits → TellsNulls va (struct t bits cs)
-records-tell None t bits cs s = inr (λ i l e.
+pub records-push_row : (va : Validity) (t : TypeTree) (bits : Seq Bool) (cs : BuilderTrees) → EncodesBits va bits → ShowsNulls va (struct t bits cs)
+records-push_row None t bits cs s = inr (λ i l e.
     let k = (record-null t bits cs i l).1 e in
     let u : true ≡ false = sym (s i l) ∙ k in
     cc)
-records-tell (Some vs) t bits cs s = (
+records-push_row (Some vs) t bits cs s = (
   ap length s,
   λ i l.
       let k = record-null t bits cs i l in
@@ -51,12 +51,12 @@ records-tell (Some vs) t bits cs s = (
       (λ z. k.0 (sym e ∙ z), λ z. e ∙ k.1 z),
 )
 
--- a told record
-pub record-told : (valid : Bool) (t : TypeTree) (bits new : Seq Bool) (cs : BuilderTrees) (old : BuilderTree) → struct t bits cs ≡ old → HasWholeChildren old → Pass (row_checks old) → new ≡ bits ++ valid ∷ [] → Told valid old (struct t new cs)
-record-told valid t bits new cs old v w p e =
+-- an added row
+pub record-with_row : (valid : Bool) (t : TypeTree) (bits new : Seq Bool) (cs : BuilderTrees) (old : BuilderTree) → struct t bits cs ≡ old → HasCompleteChildren old → Pass (row_checks old) → new ≡ bits ++ valid ∷ [] → RowAdded valid old (struct t new cs)
+record-with_row valid t bits new cs old v w p e =
     let q = subst (λ b. Pass (row_checks b)) (sym v) p in
-    let h = subst HasWholeChildren (sym v) w in
-    subst (λ b. Told valid b (struct t new cs)) v (struct_told valid t bits new cs e (pass-ready (struct t bits cs) h q).0)
+    let h = subst HasCompleteChildren (sym v) w in
+    subst (λ b. RowAdded valid b (struct t new cs)) v (struct_row_added valid t bits new cs e (pass-ready (struct t bits cs) h q).0)
 
 pub memory-alone : (n : ℕ) (e : Error) → n + 1 ≤ largest_length → (e ≡ Memory alloc_error) ⊎ ((e ≡ Overflow) × (largest_length < n + 1)) → e ≡ Memory alloc_error
 memory-alone n e l (inl m) = m

@@ -1,4 +1,4 @@
--- Room for more rows, and nulls, that pass a limit in one of some builders or in none.
+-- Reserved rows and nulls that exceed a limit in one of several builders or in none.
 use Rattle.std.specs.Prelude.{List as Seq, [], ◌∷◌, Bool, true, false, ◌||◌, ◌⊎◌, alloc_error}
 use Rattle.std.specs.List.{list_any}
 use Rattle.std.proofs.Common.{◌≡◌, ℕ, suc, ◌<◌, length, get_or, refl, sym, ap, ◌∙◌, inl, inr, arith}
@@ -6,7 +6,7 @@ use Rattle.std.proofs.lemmas.List.Folds.{list_any_at}
 use Rattle.nest_memory.specs.declared.error.Error.{Error}
 use Rattle.nest_memory.specs.declared.error.Error.TheVariants.{Memory, Overflow}
 use Rattle.nest_model.specs.BuilderTree.{BuilderTree}
-use Rattle.nest_build.specs.Told.{reserve_passes, reserve_passes_each}
+use Rattle.nest_build.specs.Shown.{reserve_passes, reserve_passes_each}
 use Rattle.nest_any.specs.Each.{each}
 
 any-none : {A : Type 0} (p : A → Bool) (xs : Seq A) → ((k : ℕ) (d : A) → k < length xs → p (get_or xs k d) ≡ false) → list_any p xs ≡ false
@@ -25,7 +25,7 @@ reserve-at f xs n i d h l = reserve-any f n xs ∙ list_any_at (λ x. reserve_pa
 pub reserve-none : {A : Type 0} (f : A → BuilderTree) (xs : Seq A) (n : ℕ) → ((k : ℕ) (d : A) → k < length xs → reserve_passes n (f (get_or xs k d)) ≡ false) → reserve_passes_each n (each f xs) ≡ false
 reserve-none f xs n h = reserve-any f n xs ∙ any-none (λ x. reserve_passes n (f x)) xs h
 
--- one child has none
+-- the limit of one child is exceeded
 pub child-lacks_room : {A : Type 0} (f : A → BuilderTree) (xs : Seq A) (n i : ℕ) (d : A) (t : BuilderTree) (e : Error) → i < length xs → t ≡ f (get_or xs i d) → (e ≡ Memory alloc_error) ⊎ ((e ≡ Overflow) × (reserve_passes n t ≡ true))
     → (e ≡ Memory alloc_error) ⊎ ((e ≡ Overflow) × (reserve_passes_each n (each f xs) ≡ true))
 child-lacks_room f xs n i d t e l s (inl m) = inl m

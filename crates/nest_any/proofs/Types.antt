@@ -1,4 +1,4 @@
--- As many data types as builders, and as many as fields.
+-- The numbers of data types, builders and fields are equal.
 use Rattle.std.specs.Prelude.{List as Seq, [], ◌∷◌}
 use Rattle.std.proofs.Common.{◌≡◌, suc, ◌<◌, length, refl, ap, arith}
 use Rattle.nest_memory.specs.TypeTree.{FieldTrees, no_fields, more_fields, count_fields}
@@ -21,7 +21,7 @@ pub children-count : {A : Type 0} (f : A → BuilderTree) (xs : Seq A) → count
 children-count f [] = refl
 children-count f (x ∷ xs) = ap suc (children-count f xs)
 
--- records of a field at least have a child at least
+-- a struct type with a field has a child
 pub some-children : (cs : BuilderTrees) (fs : FieldTrees) → builder_types cs ≡ field_types fs → 0 < count_fields fs → 0 < count_builders cs
 some-children no_builders no_fields e l = l
 some-children no_builders (more_fields f fs) e l = absurd cc

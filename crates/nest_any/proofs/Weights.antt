@@ -1,4 +1,4 @@
--- How deep a builder is stays under all that a call does to it.
+-- Calls do not change the depth of a builder.
 use Rattle.std.proofs.Common.{◌≡◌, ℕ, ◌*◌, refl, arith}
 use Rattle.nest_memory.specs.TypeTree.{size_of}
 use Rattle.nest_model.specs.BuilderTree.{BuilderTree, BuilderTrees, flat, list, fixed_size_list, dictionary, struct, no_builders, more_builders}

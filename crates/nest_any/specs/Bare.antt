@@ -1,4 +1,4 @@
--- A builder of any kind without a validity: a flat one by its parts, another one where it has no row.
+-- A builder of any kind without a validity. A dictionary, list or struct builder has none if it has no rows.
 use Rattle.std.specs.Prelude.{◌≡◌, [], None}
 use Rattle.nest_any.specs.declared.any.AnyMutableArray.{AnyMutableArray}
 use Rattle.nest_any.specs.declared.any.AnyMutableArray.TheVariants.{Flat, Dictionary}

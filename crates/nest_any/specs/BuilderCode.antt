@@ -1,4 +1,4 @@
--- A code of builders' trees, by which a ghost value that is one is told apart from another; and how deep a builder is.
+-- An injective encoding of builder trees as ghost values, and the depth of a builder.
 use Rattle.std.specs.Prelude.{◌≡◌, ℕ, ◌+◌, Bool, List, Option}
 use Rattle.std.specs.Coded.{Coded, code_by, coded_ℕ, coded_bool, coded_list, coded×, coded_option}
 use Rattle.std.proofs.Common.{refl, ap}
@@ -19,7 +19,7 @@ coded_row = code_by (Bool × ℕ) (coded× coded_bool coded_ℕ) (λ r. (r.valid
 abbrev coded_integer : Coded IntegerType
 coded_integer = integer_row.coded
 
--- of each kind the parts that are no builder
+-- the parts of each kind that are not builders
 abbrev flat_part : Coded (TypeTree × List Slot)
 flat_part = coded× coded_type (coded_list coded_slot)
 
@@ -77,7 +77,7 @@ mutual
 abbrev pub coded_builder : Coded BuilderTree
 coded_builder = record { code = code_builder; inj = builder_one }
 
--- how many builders stand below it, and how deep
+-- a bound of the depth of a builder
 abbrev mutual
   pub weight : BuilderTree → ℕ
   weight (flat t xs) = 0

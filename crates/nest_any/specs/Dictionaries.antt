@@ -1,4 +1,4 @@
--- A builder of dictionaries by keys of any width as its tree.
+-- The tree of a dictionary builder with keys of any width.
 use Rattle.std.specs.Prelude.{List, Option, ℕ}
 use Rattle.nest_any.specs.declared.dictionary.AnyMutableDictionary.{AnyMutableDictionary}
 use Rattle.nest_any.specs.declared.dictionary.AnyMutableDictionary.TheVariants.{Int8, Int16, Int32, Int64, UInt8, UInt16, UInt32, UInt64}

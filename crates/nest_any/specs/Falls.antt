@@ -1,4 +1,4 @@
--- Children are smaller than what holds them.
+-- Children are smaller than their builder.
 use Rattle.std.specs.Prelude.{◌+◌, ◌≤◌, List as Seq, [], ◌∷◌}
 use Rattle.std.proofs.Common.{arith}
 use denote.Param.Weighed.{most}

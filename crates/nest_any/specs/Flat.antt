@@ -1,4 +1,4 @@
--- A builder of a flat array of any kind as the layout of its array so far, and the physical type of its kind.
+-- The layout of a flat builder of any kind, and the physical type of its kind.
 use Rattle.nest_any.specs.declared.flat.AnyMutableFlat.{AnyMutableFlat}
 use Rattle.nest_any.specs.declared.flat.AnyMutableFlat.TheVariants.{Boolean, Primitive, Binary, LargeBinary, Utf8, LargeUtf8, FixedSizeBinary}
 use Rattle.nest_build.specs.BuiltKind.{built_kind}
@@ -18,7 +18,7 @@ flat_layout (Utf8 b) = b
 flat_layout (LargeUtf8 b) = b
 flat_layout (FixedSizeBinary b) = b
 
--- its one level
+-- its tree, which has one level
 abbrev pub values_tree : AnyMutableFlat → BuilderTree
 values_tree b = flat_tree (flat_layout b)
 

@@ -1,17 +1,17 @@
--- What a builder is once a child that it lent was written over.
+-- A builder after a borrowed child was written.
 use Rattle.std.specs.Prelude.{ℕ, zero, suc, Option, Some, None}
 use Rattle.nest_any.specs.declared.any.AnyMutableArray.{AnyMutableArray}
 use Rattle.nest_any.specs.declared.any.AnyMutableArray.TheVariants.{List, Struct}
 pub use Rattle.nest_build.specs.Children.{with_items}
 use Rattle.nest_model.specs.BuilderTree.{BuilderTree, BuilderTrees, flat, list, fixed_size_list, dictionary, struct, no_builders, more_builders}
 
--- children in the place of as many others, which stay where none was written
+-- the first children replaced by others
 abbrev pub written_over : BuilderTrees → BuilderTrees → BuilderTrees
 written_over no_builders ds = no_builders
 written_over (more_builders c cs) no_builders = more_builders c cs
 written_over (more_builders c cs) (more_builders d ds) = more_builders d (written_over cs ds)
 
--- records over other children, or over another child i
+-- a struct builder with its children replaced, or with child i replaced
 abbrev pub with_children : BuilderTree → BuilderTrees → BuilderTree
 with_children (struct t bits cs) ds = struct t bits (written_over cs ds)
 with_children b ds = b
@@ -25,7 +25,7 @@ abbrev pub with_field : BuilderTree → ℕ → BuilderTree → BuilderTree
 with_field (struct t bits cs) i d = struct t bits (set_builder cs i d)
 with_field b i d = b
 
--- child i; lists have one, kinds that take no row of items none
+-- child i: a list has child 0, a flat or dictionary builder has none
 abbrev pub builder_at : BuilderTrees → ℕ → Option BuilderTree
 builder_at no_builders i = None
 builder_at (more_builders c cs) zero = Some c
@@ -38,7 +38,7 @@ child_builder i (fixed_size_list t bits c) = builder_at (more_builders c no_buil
 child_builder i (dictionary k t keys c) = None
 child_builder i (struct t bits cs) = builder_at cs i
 
--- a builder of any kind as the tree of the builder of lists that it is, or of records
+-- the tree of the list builder or of the struct builder
 abbrev pub as_list : AnyMutableArray → Option BuilderTree
 as_list (List b) = Some b
 as_list b = None

@@ -1,4 +1,4 @@
--- A builder of lists as its tree.
+-- The tree of a list builder.
 use Rattle.nest_any.specs.declared.lists.ListBuilder.TheInside.{Inside}
 use Rattle.nest_any.specs.Trees.{tree_of}
 use Rattle.nest_any.specs.TypedRows.{lists_over}

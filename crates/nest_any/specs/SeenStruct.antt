@@ -1,4 +1,4 @@
--- A builder of records as its tree.
+-- The tree of a struct builder.
 use Rattle.nest_any.specs.declared.struct_.MutableStructArray.TheInside.{Inside}
 use Rattle.nest_any.specs.Trees.{trees_of}
 use Rattle.nest_model.specs.BuilderTree.{BuilderTree, struct}

@@ -1,4 +1,4 @@
--- A builder of any kind as its tree.
+-- The tree of a builder of any kind.
 use Rattle.std.specs.Prelude.{List as Seq}
 use Rattle.nest_any.specs.declared.any.AnyMutableArray.{AnyMutableArray}
 use Rattle.nest_any.specs.declared.any.AnyMutableArray.TheVariants.{Null, Flat, Dictionary, List, Struct}

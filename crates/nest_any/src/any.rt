@@ -3,7 +3,7 @@ ghost use Rattle.std.specs.Prelude.{◌≡◌, ◌≢◌, ◌≤◌, ◌<◌, �
 ghost use Rattle.nest_any.specs.Bare.{IsBare};
 ghost use Rattle.nest_any.specs.Flat.{values_tree};
 ghost use Rattle.nest_any.specs.Trees.{tree_of};
-ghost use Rattle.nest_any.specs.Words.{FailFirst, HasWholeChildren, IsWhole, Memory, Overflow, Pass, Told, builder_len, builder_type, cut_builder, emptied, empty_lists, is_flat, layout_of, layout_type, lists_checks, nested_checks, nested_over, nulls_appended, nulls_pass, own_slots, physical_type, reserve_passes, row_checks, slots_of, type_of};
+ghost use Rattle.nest_any.specs.Words.{FailFirst, HasCompleteChildren, IsComplete, Memory, Overflow, Pass, RowAdded, builder_len, builder_type, truncate_builder, emptied, empty_lists, is_flat, layout_of, layout_type, lists_checks, nested_checks, nested_over, nulls_appended, nulls_pass, own_slots, physical_type, reserve_passes, row_checks, slots_of, type_of};
 
 use crate::children::add_null_to;
 use crate::dictionary::AnyMutableDictionary;
@@ -17,12 +17,11 @@ use nest_build::null::MutableNullArray;
 use nest_flat::plain::Plain;
 use nest_memory::bitmap::mutable::MutableBitmap;
 use nest_memory::datatypes::DataType;
-use nest_memory::error::{Argument, Error};
+use nest_memory::error::{ArgumentError, Error};
 use std::alloc::Global;
 use std::rc::Rc;
 
-/// A builder, in the variant of its kind. Lists of all kinds are one variant: by offsets of 32 bits, of 64, or of one
-/// size.
+/// A builder, in the variant of its kind. All list kinds share one variant: 32-bit offsets, 64-bit offsets, fixed-size.
 #[cycle(builder)]
 #[derive(Drop)]
 pub enum AnyMutableArray {
@@ -33,7 +32,7 @@ pub enum AnyMutableArray {
     Struct(MutableStructArray),
 }
 
-// One expression over the builder of a flat kind, another over one with children.
+// Evaluates the first expression for null, flat and dictionary builders, the second for list and struct builders.
 macro_rules! each_kind {
     ($any:expr, $flat:ident => $leaf:expr, $nested:ident => $node:expr) => {
         match $any {
@@ -54,19 +53,22 @@ impl AnyMutableArray {
     ghost use Rattle.nest_any.specs.declared.any.AnyMutableArray.TheVariants.{List, Struct};
     ghost use Rattle.nest_any.specs.Lent.{as_list, as_struct, child_builder};
 
-    /// No row of lists or of dictionaries of that type, over an empty child. The values of dictionaries have no children.
+    /// Returns a builder without rows, of a list or dictionary type over an empty child. Dictionary values are flat.
     ///
     /// # Errors
-    /// `WrongType` where the physical type is none of lists and none of dictionaries of values without children, but for
-    /// nulls; `ZeroSize` where each list has no item, `ChildNotEmpty` where the child has rows, `ChildType` where it is of
-    /// another type than its field, or than the values, of which the logical types are compared: the first of these;
-    /// `Memory`.
+    /// The first of:
+    /// - `WrongType` if the type is not a list, and not a dictionary of flat values other than nulls;
+    /// - `ZeroSize` if the type is a fixed-size list of size 0;
+    /// - `ChildNotEmpty` if the child has rows;
+    /// - `ChildType` if the type of the child differs from its field's. For a dictionary, logical types are compared.
+    ///
+    /// `Memory` if an allocation fails.
     pub fn try_nested(
         alloc: Global,
         data_type: DataType,
         child: AnyMutableArray,
     ) -> Result<AnyMutableArray, Error>
-        requires { IsWhole (tree_of child) }
+        requires { IsComplete (tree_of child) }
         ensures ok { IfOk result (λ b. tree_of b ≡ nested_over (type_of data_type) (tree_of child)) }
         ensures passed { IfOk result (λ b. Pass (nested_checks (type_of data_type) (tree_of child))) }
         ensures cause { IfErr result (λ e. (e ≡ Memory alloc_error) ⊎ FailFirst e (nested_checks (type_of data_type) (tree_of child))) }
@@ -83,7 +85,7 @@ impl AnyMutableArray {
         }
     }
 
-    // The same of lists.
+    // The same for lists.
     fn lists(
         alloc: Global,
         data_type: DataType,
@@ -103,7 +105,7 @@ impl AnyMutableArray {
         }
     }
 
-    // The builder of values without children, if it is one.
+    // The builder of flat values, `None` for nulls and for other kinds.
     pub(crate) fn into_flat(self) -> Option<AnyMutableFlat>
         ensures { MatchOption result (is_flat (physical_type (builder_type (tree_of self))) ≡ false) (λ b. values_tree b ≡ tree_of self) }
     {
@@ -132,18 +134,19 @@ impl AnyMutableArray {
         }
     }
 
-    /// Whether the children are whole, as those are that take only whole items; then a row of what waits there may be told.
-    pub fn has_whole_children(&self) -> bool
-        ensures { IsTrue result ↔ HasWholeChildren (tree_of self.now) }
+    /// Returns whether the children are complete; then a row of the pending items may be added. True for other kinds
+    /// than lists and structs.
+    pub fn has_complete_children(&self) -> bool
+        ensures { IsTrue result ↔ HasCompleteChildren (tree_of self.now) }
     {
         match self {
-            AnyMutableArray::List(lists) => lists.has_whole_children(),
-            AnyMutableArray::Struct(records) => records.has_whole_children(),
+            AnyMutableArray::List(lists) => lists.has_complete_children(),
+            AnyMutableArray::Struct(records) => records.has_complete_children(),
             _ => true,
         }
     }
 
-    /// The builder of lists, if it is one: its child is lent by `ListBuilder::child`.
+    /// Returns the list builder, `None` for other kinds. `ListBuilder::child` borrows its child.
     pub fn as_list_mut(&mut self) -> Option<&mut ListBuilder>
         ensures* writes_back { sem 𝓛 (LendsIf the_row list_row self.entry result List self.old) }
         ensures value { option_map (λ lists. lists.now) result ≡ as_list self.old }
@@ -154,7 +157,8 @@ impl AnyMutableArray {
         }
     }
 
-    /// The builder of records, if it is one: its children are lent by `MutableStructArray::value` and `mut_values`.
+    /// Returns the struct builder, `None` for other kinds. `MutableStructArray::value` and `mut_values` borrow its
+    /// children.
     pub fn as_struct_mut(&mut self) -> Option<&mut MutableStructArray>
         ensures* writes_back { sem 𝓛 (LendsIf the_row struct_row self.entry result Struct self.old) }
         ensures value { option_map (λ records. records.now) result ≡ as_struct self.old }
@@ -165,9 +169,8 @@ impl AnyMutableArray {
         }
     }
 
-    /// The child of a list for 0, child i of a record; `None` of any other, into which the items of a row may be pushed
-    /// before the row is told. What the builder is once the child was written over is said of `as_list_mut` and
-    /// `as_struct_mut`.
+    /// Returns child 0 of a list or child `i` of a struct, `None` otherwise. The items of a row may be pushed into it
+    /// before the row is added. The contracts of `as_list_mut` and `as_struct_mut` also state the builder after that.
     pub fn child(&mut self, i: usize) -> Option<&mut AnyMutableArray>
         ensures { option_map (λ c. tree_of c.now) result ≡ child_builder i (tree_of self.old) }
     {
@@ -178,41 +181,45 @@ impl AnyMutableArray {
         }
     }
 
-    /// Tells a row of the items that wait in the children; an untrue one is null, and the items stand under it.
+    /// Appends a row of the pending items in the children. If `valid` is false, the row is null, over these items.
     ///
     /// # Errors
-    /// `ItemType` of a kind without such rows. `Unfinished` where the children are not of their fields' types or have too
-    /// few rows, of a record also where they have too many; then `ItemSize` where a list of one size has too many, and
-    /// `Overflow` where a list ends past the largest offset. `Memory`. The items go on waiting then.
-    pub fn tell(&mut self, valid: bool) -> Result<(), Error>
-        requires { HasWholeChildren (tree_of self.old) }
-        ensures ok { OnOk result (Told valid (tree_of self.old) (tree_of self.new)) }
+    /// The first of:
+    /// - `ItemType` if the builder is not of lists or structs.
+    /// - `Incomplete` if a child has another type than its field or too few rows; for a struct also if it has too many.
+    /// - `ItemSize` if a fixed-size list has too many pending items.
+    /// - `Overflow` if the end of a list exceeds the largest offset.
+    ///
+    /// `Memory` if an allocation fails. After an error the items stay pending.
+    pub fn push_row(&mut self, valid: bool) -> Result<(), Error>
+        requires { HasCompleteChildren (tree_of self.old) }
+        ensures ok { OnOk result (RowAdded valid (tree_of self.old) (tree_of self.new)) }
         ensures passed { OnOk result (Pass (row_checks (tree_of self.old))) }
         ensures err { OnErr result (tree_of self.new ≡ tree_of self.old) }
         ensures cause { IfErr result (λ e. (e ≡ Memory alloc_error) ⊎ FailFirst e (row_checks (tree_of self.old))) }
     {
         match self {
-            AnyMutableArray::List(lists) => lists.tell(valid),
+            AnyMutableArray::List(lists) => lists.push_row(valid),
             AnyMutableArray::Struct(records) => records.push(valid),
-            _ => Err(Error::InvalidArgumentError(Argument::ItemType)),
+            _ => Err(Error::InvalidArgumentError(ArgumentError::ItemType)),
         }
     }
 
-    #[cycle(whole)]
-    pub(crate) fn whole(&self) -> bool
-        ensures { IsTrue result ↔ IsWhole (tree_of self.now) }
+    #[cycle(complete)]
+    pub(crate) fn complete(&self) -> bool
+        ensures { IsTrue result ↔ IsComplete (tree_of self.now) }
     {
         match self {
-            AnyMutableArray::List(lists) => lists.whole(),
-            AnyMutableArray::Struct(records) => records.whole(),
-            AnyMutableArray::Dictionary(keyed) => MutableArray::is_whole(keyed),
+            AnyMutableArray::List(lists) => lists.complete(),
+            AnyMutableArray::Struct(records) => records.complete(),
+            AnyMutableArray::Dictionary(keyed) => MutableArray::is_complete(keyed),
             _ => true,
         }
     }
 
     #[cycle(null)]
     pub(crate) fn add_null(&mut self) -> Result<(), Error>
-        requires { IsWhole (tree_of self.old) }
+        requires { IsComplete (tree_of self.old) }
         ensures ok { OnOk result (tree_of self.new ≡ nulls_appended 1 (tree_of self.old)) }
         ensures room { OnOk result (nulls_pass 1 (tree_of self.old) ≡ false) }
         ensures err { OnErr result (tree_of self.new ≡ tree_of self.old) }
@@ -223,9 +230,9 @@ impl AnyMutableArray {
 
     #[cycle(cut)]
     pub(crate) fn cut(&mut self, n: usize)
-        requires whole { IsWhole (tree_of self.old) }
+        requires complete { IsComplete (tree_of self.old) }
         requires within { n ≤ builder_len (tree_of self.old) }
-        ensures { tree_of self.new ≡ cut_builder (tree_of self.old) n }
+        ensures { tree_of self.new ≡ truncate_builder (tree_of self.old) n }
     {
         each_kind!(self, flat => MutableArray::truncate(flat, n), nested => nested.cut(n))
     }
@@ -250,7 +257,7 @@ impl AnyMutableArray {
     #[tactic(auto, using(crate::proofs::Over::emptied_none))]
     #[cycle(frozen)]
     pub(crate) fn frozen(&mut self) -> Result<AnyArray, Error>
-        requires { IsWhole (tree_of self.old) }
+        requires { IsComplete (tree_of self.old) }
         ensures slots { IfOk result (λ a. slots_of (layout_of a) ≡ own_slots (tree_of self.old)) }
         ensures same_type { IfOk result (λ a. layout_type (layout_of a) ≡ builder_type (tree_of self.old)) }
         ensures emptied { tree_of self.new ≡ emptied (tree_of self.old) }
@@ -262,7 +269,7 @@ impl AnyMutableArray {
 }
 
 impl AnyMutableArray {
-    /// Its data type and how many rows it has, by one look at its kind.
+    /// Returns the data type and the number of rows, with one match on the kind.
     pub(crate) fn typed_len(&self) -> (&DataType, usize)
         ensures data_type { type_of result.0.now ≡ builder_type (tree_of self.now) }
         ensures len { result.1 ≡ builder_len (tree_of self.now) }
@@ -304,8 +311,8 @@ impl MutableArray for AnyMutableArray {
         each_kind!(self, flat => MutableArray::is_valid(flat, i), nested => nested.is_valid(i))
     }
 
-    fn is_whole(&self) -> bool {
-        self.whole()
+    fn is_complete(&self) -> bool {
+        self.complete()
     }
 
     fn holds(&self, i: usize, value: &Plain<'_>) -> bool {
@@ -327,7 +334,7 @@ impl MutableArray for AnyMutableArray {
                 flat => MutableArray::try_push_plain(flat, Some(value)),
                 nested => {
                     nested.known();
-                    Err(Error::InvalidArgumentError(Argument::ItemType))
+                    Err(Error::InvalidArgumentError(ArgumentError::ItemType))
                 }
             ),
         }
@@ -346,8 +353,8 @@ impl MutableArray for AnyMutableArray {
     }
 
     fn as_box(&mut self) -> Result<AnyArray, Error> {
-        if !self.whole() {
-            return Err(Error::InvalidArgumentError(Argument::Unfinished));
+        if !self.complete() {
+            return Err(Error::InvalidArgumentError(ArgumentError::Incomplete));
         }
         self.frozen()
     }

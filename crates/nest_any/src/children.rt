@@ -1,8 +1,8 @@
-//! The children of builders with children: each of them, in order.
+//! Operations on each child of a builder, in order.
 ghost use Rattle.std.specs.Prelude.{◌≡◌, ◌≤◌, ◌<◌, ◌+◌, ◌++◌, ◌∷◌, [], ◌↔◌, ◌⊎◌, IsTrue, OnOk, OnErr, IfOk, IfErr, IsOk, IsOkUnless, true, false, alloc_error};
 ghost use Rattle.nest_memory.specs.TypeOf.{field_list_of};
 ghost use Rattle.nest_any.specs.Trees.{tree_of, trees_of};
-ghost use Rattle.nest_any.specs.Words.{AreEachLong, AreEachWhole, AreFrozen, AreWhole, HaveRows, IsWhole, Memory, Overflow, builder_types, count_builders, cut_builders, emptied_each, field_types, first_rows, largest_length, layouts_of, nulls_appended, nulls_appended_each, nulls_pass, nulls_pass_each, reserve_passes_each};
+ghost use Rattle.nest_any.specs.Words.{AreEachLong, AreEachComplete, AreFrozen, AreComplete, HaveRows, IsComplete, Memory, Overflow, builder_types, count_builders, truncate_builders, emptied_each, field_types, first_rows, largest_length, layouts_of, nulls_appended, nulls_appended_each, nulls_pass, nulls_pass_each, reserve_passes_each};
 
 use crate::any::AnyMutableArray;
 use nest_array::AnyArray;
@@ -11,7 +11,7 @@ use nest_memory::datatypes::field::Field;
 use nest_memory::error::Error;
 use std::alloc::Global;
 
-/// Whether the children have the types of the fields, in order.
+/// Returns whether the children have the types of the fields, in order.
 pub(crate) fn have_types(fields: &[Field], children: &[AnyMutableArray]) -> bool
     ensures { IsTrue result ↔ (builder_types (trees_of children.now) ≡ field_types (field_list_of fields.now)) }
 {
@@ -27,7 +27,7 @@ pub(crate) fn have_types(fields: &[Field], children: &[AnyMutableArray]) -> bool
     true
 }
 
-/// How many rows the first child has.
+/// Returns the number of rows of the first child.
 pub(crate) fn first_rows(children: &[AnyMutableArray]) -> usize
     ensures { result ≡ first_rows (trees_of children.now) }
 {
@@ -37,7 +37,7 @@ pub(crate) fn first_rows(children: &[AnyMutableArray]) -> usize
     }
 }
 
-/// Whether each child has n rows.
+/// Returns whether each child has `n` rows.
 pub(crate) fn have_rows(children: &[AnyMutableArray], n: usize) -> bool
     ensures { IsTrue result ↔ HaveRows (trees_of children.now) n }
 {
@@ -49,7 +49,7 @@ pub(crate) fn have_rows(children: &[AnyMutableArray], n: usize) -> bool
     true
 }
 
-/// Whether each child has its field's type and a row more than n.
+/// Returns whether each child has its field's type and `n` + 1 rows.
 pub(crate) fn are_ready(fields: &[Field], children: &[AnyMutableArray], n: usize) -> bool
     ensures types { IsTrue result → builder_types (trees_of children.now) ≡ field_types (field_list_of fields.now) }
     ensures rows { IsTrue result → HaveRows (trees_of children.now) (n + 1) }
@@ -72,35 +72,35 @@ pub(crate) fn are_ready(fields: &[Field], children: &[AnyMutableArray], n: usize
     true
 }
 
-/// Whether each child is whole.
-pub(crate) fn are_whole(children: &[AnyMutableArray]) -> bool
-    ensures { IsTrue result ↔ AreEachWhole (trees_of children.now) }
+/// Returns whether each child is complete.
+pub(crate) fn are_complete(children: &[AnyMutableArray]) -> bool
+    ensures { IsTrue result ↔ AreEachComplete (trees_of children.now) }
 {
     for i in 0..children.len() {
-        if !children[i].whole() {
+        if !children[i].complete() {
             return false;
         }
     }
     true
 }
 
-/// Whether each child is whole and has n rows.
-#[cycle(whole)]
-pub(crate) fn each_is_whole(children: &[AnyMutableArray], n: usize) -> bool
-    ensures { IsTrue result ↔ AreWhole (trees_of children.now) n }
+/// Returns whether each child is complete and has `n` rows.
+#[cycle(complete)]
+pub(crate) fn each_is_complete(children: &[AnyMutableArray], n: usize) -> bool
+    ensures { IsTrue result ↔ AreComplete (trees_of children.now) n }
 {
     for i in 0..children.len() {
         let child = &children[i];
-        if !child.whole() || child.len() != n {
+        if !child.complete() || child.len() != n {
             return false;
         }
     }
     true
 }
 
-/// Adds a null to a builder of any type: what is appended, as an equation of trees.
+/// Appends a null to a builder of any type. The contract is an equation of trees.
 pub(crate) fn add_null_to<B: MutableArray>(builder: &mut B) -> Result<(), Error>
-    requires { IsWhole (B.model builder.old) }
+    requires { IsComplete (B.model builder.old) }
     ensures ok { OnOk result (B.model builder.new ≡ nulls_appended 1 (B.model builder.old)) }
     ensures room { OnOk result (nulls_pass 1 (B.model builder.old) ≡ false) }
     ensures err { OnErr result (B.model builder.new ≡ B.model builder.old) }
@@ -109,10 +109,10 @@ pub(crate) fn add_null_to<B: MutableArray>(builder: &mut B) -> Result<(), Error>
     builder.push_null()
 }
 
-/// Adds n nulls to a child, all of them or none.
+/// Appends `n` nulls to a child, all of them or none.
 #[cycle(null)]
 pub(crate) fn add_nulls(child: &mut AnyMutableArray, n: usize) -> Result<(), Error>
-    requires { IsWhole (tree_of child.old) }
+    requires { IsComplete (tree_of child.old) }
     ensures ok { OnOk result (tree_of child.new ≡ nulls_appended n (tree_of child.old)) }
     ensures room { OnOk result (0 < n → nulls_pass n (tree_of child.old) ≡ false) }
     ensures err { OnErr result (tree_of child.new ≡ tree_of child.old) }
@@ -131,10 +131,10 @@ pub(crate) fn add_nulls(child: &mut AnyMutableArray, n: usize) -> Result<(), Err
     Ok(())
 }
 
-/// Adds a null to each child of n rows, to all of them or none.
+/// Appends a null to each child of `n` rows, to all of them or none.
 #[cycle(null)]
 pub(crate) fn add_null_each(children: &mut [AnyMutableArray], n: usize) -> Result<(), Error>
-    requires { AreWhole (trees_of children.old) n }
+    requires { AreComplete (trees_of children.old) n }
     ensures ok { OnOk result (trees_of children.new ≡ nulls_appended_each 1 (trees_of children.old)) }
     ensures room { OnOk result (nulls_pass_each 1 (trees_of children.old) ≡ false) }
     ensures err { OnErr result (trees_of children.new ≡ trees_of children.old) }
@@ -152,18 +152,18 @@ pub(crate) fn add_null_each(children: &mut [AnyMutableArray], n: usize) -> Resul
     Ok(())
 }
 
-/// Keeps the first n rows of each child.
+/// Keeps the first `n` rows of each child.
 #[cycle(cut)]
 pub(crate) fn cut_each(children: &mut [AnyMutableArray], n: usize)
     requires { AreEachLong (trees_of children.old) n }
-    ensures { trees_of children.new ≡ cut_builders (trees_of children.old) n }
+    ensures { trees_of children.new ≡ truncate_builders (trees_of children.old) n }
 {
     for i in 0..children.len() {
         children[i].cut(n);
     }
 }
 
-/// Room for so many rows more in each child.
+/// Reserves capacity for at least `additional` more rows in each child.
 #[cycle(room)]
 pub(crate) fn room_each(children: &mut [AnyMutableArray], additional: usize) -> Result<(), Error>
     ensures same { trees_of children.new ≡ trees_of children.old }
@@ -191,13 +191,13 @@ pub(crate) fn shrink_each(children: &mut [AnyMutableArray]) -> Result<(), Error>
     Ok(())
 }
 
-/// The arrays of the children, which have no row then, also after `Memory`.
+/// Returns the arrays of the children. The children have no rows afterwards, also after `Memory`.
 #[cycle(frozen)]
 pub(crate) fn frozen_each(
     alloc: Global,
     children: &mut [AnyMutableArray],
 ) -> Result<Vec<AnyArray>, Error>
-    requires { AreEachWhole (trees_of children.old) }
+    requires { AreEachComplete (trees_of children.old) }
     ensures ok { IfOk result (λ arrays. AreFrozen (layouts_of arrays.items) (trees_of children.old)) }
     ensures emptied { trees_of children.new ≡ emptied_each (trees_of children.old) }
     ensures memory { IsOkUnless result (Memory alloc_error) }
@@ -210,7 +210,7 @@ pub(crate) fn frozen_each(
     arrays
 }
 
-/// One array more, or why there is none.
+/// Appends an array, or returns the error of either result.
 fn with_array(
     arrays: Result<Vec<AnyArray>, Error>,
     array: Result<AnyArray, Error>,

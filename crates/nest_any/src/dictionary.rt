@@ -1,13 +1,13 @@
-//! A builder of dictionaries, by keys of any width.
+//! A dictionary builder with keys of any width.
 ghost use Rattle.std.specs.Prelude.{◌≡◌, ◌⊎◌, ◌↔◌, ℕ, [], IfErr, IfOk, IsOkUnless, IsTrue, MatchOption, Some, alloc_error};
 ghost use Rattle.nest_any.specs.Dictionaries.{dictionary_tree, keyed_rows};
 ghost use Rattle.nest_any.specs.Flat.{values_tree};
 ghost use Rattle.nest_any.specs.Trees.{tree_of};
 ghost use Rattle.nest_any.specs.Words.{AreFlat, FailFirst, Memory, Pass, builder_len, builder_type, is_flat, key_type, keyed_checks, own_slots, type_of, value_type};
 ghost use Rattle.nest_build.specs.Keys.{dictionary_child};
-ghost use Rattle.nest_model.specs.BuilderItem.{Stands};
+ghost use Rattle.nest_model.specs.BuilderItem.{IsValueAt};
 ghost use Rattle.nest_model.specs.BuilderTree as builders;
-ghost use Rattle.nest_model.specs.BuilderWhole.{AreDifferent};
+ghost use Rattle.nest_model.specs.BuilderComplete.{AreDifferent};
 ghost use Rattle.nest_model.specs.Fits.{IsLogically, is_dictionary};
 
 use crate::any::AnyMutableArray;
@@ -19,12 +19,12 @@ use nest_flat::plain::{AsPlain, Plain};
 use nest_memory::bitmap::mutable::MutableBitmap;
 use nest_memory::datatypes::physical_type::PhysicalType;
 use nest_memory::datatypes::{DataType, IntegerType};
-use nest_memory::error::{Argument, Error, Spec};
+use nest_memory::error::{ArgumentError, Error, SpecError};
 use std::alloc::Global;
 use std::rc::Rc;
 
-/// A builder of dictionaries over values without children, each of them once, in the variant of its keys. Each is
-/// a box, since the type of all of them would have too many fields for the toolchain.
+/// A dictionary builder over flat values, in the variant of its key type. Each is boxed, since an enum of all of them
+/// has more fields than the toolchain supports.
 #[derive(Drop)]
 pub enum AnyMutableDictionary {
     Int8(Box<MutableDictionaryArray<i8, AnyMutableFlat>>),
@@ -37,7 +37,7 @@ pub enum AnyMutableDictionary {
     UInt64(Box<MutableDictionaryArray<u64, AnyMutableFlat>>),
 }
 
-// The same expression over the builder by keys of each width.
+// Evaluates an expression with the builder of any key type.
 macro_rules! each_width {
     ($any:expr, $keyed:ident => $body:expr) => {
         match $any {
@@ -53,7 +53,7 @@ macro_rules! each_width {
     };
 }
 
-// The builder by keys of that width, where there is memory for its box.
+// Boxes a builder in the variant of its key type.
 macro_rules! made {
     ($width:ident, $alloc:ident, $data_type:ident, $values:ident) => {
         match boxed($alloc, $data_type, $values) {
@@ -64,11 +64,11 @@ macro_rules! made {
 }
 
 impl AnyMutableDictionary {
-    /// No row of a data type of dictionaries by such keys, over a child that is looked at.
+    /// Returns a builder without rows, of a dictionary type, after checking the child.
     ///
     /// # Errors
-    /// `WrongType` where the values of such dictionaries are nulls or have children, `ChildNotEmpty` where the child has
-    /// rows, `ChildType` where its logical type is another: the first of these; `Memory`.
+    /// The first of: `WrongType` if the values of the dictionary type are nulls or have children; `ChildNotEmpty` if
+    /// the child has rows; `ChildType` if the child has another logical type. `Memory` if an allocation fails.
     pub(crate) fn try_new(
         alloc: Global,
         keys: IntegerType,
@@ -80,7 +80,7 @@ impl AnyMutableDictionary {
         ensures passed { IfOk result (λ b. Pass (keyed_checks (type_of data_type) (tree_of child))) }
         ensures cause { IfErr result (λ e. (e ≡ Memory alloc_error) ⊎ FailFirst e (keyed_checks (type_of data_type) (tree_of child))) }
     {
-        if let Some(error) = fault(&data_type, &child) {
+        if let Some(error) = first_error(&data_type, &child) {
             drop(child);
             drop(data_type);
             return Err(error);
@@ -89,12 +89,12 @@ impl AnyMutableDictionary {
             Some(values) => AnyMutableDictionary::of_type(alloc, keys, data_type, values),
             None => {
                 drop(data_type);
-                Err(Error::OutOfSpec(Spec::ChildType))
+                Err(Error::OutOfSpec(SpecError::ChildType))
             }
         }
     }
 
-    // No row of that data type, over an empty child.
+    // A builder without rows of a data type, over an empty child.
     fn of_type(
         alloc: Global,
         keys: IntegerType,
@@ -118,14 +118,14 @@ impl AnyMutableDictionary {
         }
     }
 
-    /// What holds of every such builder: its data type is one of dictionaries.
+    /// Shows the prover that the data type is a dictionary type. Does nothing at run time.
     pub(crate) fn known(&self)
         ensures { IsTrue (is_dictionary (builder_type (dictionary_tree self.now))) }
     {
         each_width!(self, keyed => keyed.known())
     }
 
-    /// The values.
+    /// Returns the values.
     pub fn values(&self) -> &AnyMutableFlat
         ensures value { values_tree result.now ≡ dictionary_child (dictionary_tree self.now) }
         ensures different { AreDifferent (own_slots (values_tree result.now)) }
@@ -133,33 +133,33 @@ impl AnyMutableDictionary {
         each_width!(self, keyed => keyed.values())
     }
 
-    /// The key of a value as a place among the values, `None` where none of the values is it. No memory is taken.
+    /// Returns the key of a value as an index into the values, `None` if no value is equal to it. Does not allocate.
     pub fn key_of<T: AsPlain>(&self, value: &T) -> Option<usize>
-        ensures { (k : ℕ) → (result ≡ Some k) ↔ Stands (dictionary_child (dictionary_tree self.now)) (T.value value.now) k }
+        ensures { (k : ℕ) → (result ≡ Some k) ↔ IsValueAt (dictionary_child (dictionary_tree self.now)) (T.value value.now) k }
     {
         each_width!(self, keyed => place_of(keyed, value))
     }
 }
 
-/// Why no builder of dictionaries is made of that type over such a child.
-fn fault(data_type: &DataType, child: &AnyMutableArray) -> Option<Error>
+/// Returns the first failed check of a new dictionary builder.
+fn first_error(data_type: &DataType, child: &AnyMutableArray) -> Option<Error>
     ensures { MatchOption result
         (Pass (keyed_checks (type_of data_type.now) (tree_of child.now)))
         (λ e. FailFirst e (keyed_checks (type_of data_type.now) (tree_of child.now))) }
 {
     if !has_flat_values(data_type) {
-        return Some(Error::OutOfSpec(Spec::WrongType));
+        return Some(Error::OutOfSpec(SpecError::WrongType));
     }
     if child.len() != 0 {
-        return Some(Error::InvalidArgumentError(Argument::ChildNotEmpty));
+        return Some(Error::InvalidArgumentError(ArgumentError::ChildNotEmpty));
     }
     if !has_values(data_type, child.data_type()) {
-        return Some(Error::OutOfSpec(Spec::ChildType));
+        return Some(Error::OutOfSpec(SpecError::ChildType));
     }
     None
 }
 
-/// Whether such dictionaries have values, which have no children and aren't nulls.
+/// Returns whether the values of a dictionary type have no children and are not nulls.
 fn has_flat_values(data_type: &DataType) -> bool
     ensures { IsTrue result ↔ AreFlat (value_type (type_of data_type.now)) }
 {
@@ -169,7 +169,7 @@ fn has_flat_values(data_type: &DataType) -> bool
     }
 }
 
-/// Whether such dictionaries have values of that type, looked through extensions.
+/// Returns whether the values of a dictionary type have the logical type of `values`.
 fn has_values(data_type: &DataType, values: &DataType) -> bool
     ensures { IsTrue result ↔ IsLogically (value_type (type_of data_type.now)) (type_of values.now) }
 {
@@ -179,7 +179,7 @@ fn has_values(data_type: &DataType, values: &DataType) -> bool
     }
 }
 
-/// Whether values of that type have no children and aren't nulls.
+/// Returns whether values of a physical type have no children and are not nulls.
 fn is_flat(physical: PhysicalType) -> bool
     ensures { result ≡ is_flat physical }
 {
@@ -195,7 +195,7 @@ fn is_flat(physical: PhysicalType) -> bool
     }
 }
 
-// No row of dictionaries by keys of one width, over an empty child.
+// A builder without rows with keys of one type, over an empty child.
 fn boxed<K: BuilderKey>(
     alloc: Global,
     data_type: DataType,
@@ -215,12 +215,12 @@ fn boxed<K: BuilderKey>(
     }
 }
 
-// The key of a value as a place.
+// The key of a value as an index.
 fn place_of<K: BuilderKey, T: AsPlain>(
     keyed: &MutableDictionaryArray<K, AnyMutableFlat>,
     value: &T,
 ) -> Option<usize>
-    ensures { (k : ℕ) → (result ≡ Some k) ↔ Stands (dictionary_child (⟦<MutableDictionaryArray<K, AnyMutableFlat> as MutableArray>⟧.model keyed.now)) (T.value value.now) k }
+    ensures { (k : ℕ) → (result ≡ Some k) ↔ IsValueAt (dictionary_child (⟦<MutableDictionaryArray<K, AnyMutableFlat> as MutableArray>⟧.model keyed.now)) (T.value value.now) k }
 {
     match keyed.key_of(value) {
         Some(key) => key.to_index(),
@@ -253,8 +253,8 @@ impl MutableArray for AnyMutableDictionary {
         each_width!(self, keyed => keyed.is_valid(i))
     }
 
-    fn is_whole(&self) -> bool {
-        each_width!(self, keyed => keyed.is_whole())
+    fn is_complete(&self) -> bool {
+        each_width!(self, keyed => keyed.is_complete())
     }
 
     fn holds(&self, i: usize, value: &Plain<'_>) -> bool {

@@ -1,4 +1,4 @@
-//! A builder of a flat array of any kind.
+//! A flat builder of any kind.
 ghost use Rattle.std.specs.Prelude.{◌≡◌};
 ghost use Rattle.nest_any.specs.Flat.{flat_layout, physical_kind, values_tree};
 ghost use Rattle.nest_any.specs.Words.{builder_len, builder_type, layout_type, physical_type, type_of};
@@ -15,10 +15,10 @@ use nest_flat::plain::{AsPlain, Plain};
 use nest_flat::utf8::mutable::MutableUtf8Array;
 use nest_memory::bitmap::mutable::MutableBitmap;
 use nest_memory::datatypes::DataType;
-use nest_memory::error::{Argument, Error};
+use nest_memory::error::{ArgumentError, Error};
 
-/// A builder of values without children, in the variant of its kind. It takes values of its kind alone; `try_push` of
-/// another one answers `ItemType`.
+/// A builder of values without children, in the variant of its kind. It accepts values of its kind only: `try_push` of
+/// another value returns `ItemType`.
 #[derive(Drop)]
 pub enum AnyMutableFlat {
     Boolean(MutableBooleanArray),
@@ -30,7 +30,7 @@ pub enum AnyMutableFlat {
     FixedSizeBinary(MutableFixedSizeBinaryArray),
 }
 
-// The same expression over the builder of each kind.
+// Evaluates an expression with the builder of any kind.
 macro_rules! each_flat {
     ($any:expr, $builder:ident => $body:expr) => {
         match $any {
@@ -45,7 +45,7 @@ macro_rules! each_flat {
     };
 }
 
-// The rows of another builder behind its own, where both are of one kind.
+// Appends the rows of another builder of the same kind.
 macro_rules! join_pair {
     ($kind:ident, $builder:ident, $other:expr) => {
         match $other {
@@ -55,7 +55,7 @@ macro_rules! join_pair {
     };
 }
 
-// The data type of a builder is of its kind.
+// The data type of a builder has the physical type of its variant.
 fn known(any: &AnyMutableFlat)
     ensures { physical_type (layout_type (flat_layout any.now)) ≡ physical_kind any.now }
 {
@@ -71,7 +71,7 @@ fn known(any: &AnyMutableFlat)
 }
 
 impl AnyMutableFlat {
-    /// Its data type and how many rows it has, by one look at its kind.
+    /// Returns the data type and the number of rows, with one match on the kind.
     pub(crate) fn typed_len(&self) -> (&DataType, usize)
         ensures data_type { type_of result.0.now ≡ builder_type (values_tree self.now) }
         ensures len { result.1 ≡ builder_len (values_tree self.now) }
@@ -113,7 +113,7 @@ impl FlatBuilder for AnyMutableFlat {
 
     fn join(&mut self, other: &AnyMutableFlat) -> Result<(), Error> {
         if !same_types(self.type_of_slots(), other.type_of_slots()) {
-            return Err(Error::InvalidArgumentError(Argument::ItemType));
+            return Err(Error::InvalidArgumentError(ArgumentError::ItemType));
         }
         known(self);
         known(other);

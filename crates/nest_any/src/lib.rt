@@ -1,7 +1,7 @@
-//! Builders of any kind as one enum, and builders of records over them.
+//! Builders of any kind as one enum, and struct builders over them.
 //!
-//! A statement whose value is never read (`let _len = ..`, `x.known()`) shows the prover a fact that the next step needs, and does
-//! nothing when it runs.
+//! A statement whose value is never read (`let _len = ..`, `x.known()`) shows the prover a fact that the next step
+//! needs. It does nothing at run time.
 #![tactic(auto)]
 
 pub mod any;

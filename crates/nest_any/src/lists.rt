@@ -3,7 +3,7 @@ ghost use Rattle.std.specs.Prelude.{◌≡◌, ◌≢◌, ◌≤◌, ◌<◌, �
 ghost use Rattle.nest_model.specs.Slot as slots;
 ghost use Rattle.nest_any.specs.Trees.{tree_of};
 ghost use Rattle.nest_model.specs.BuilderItem.{PlainValue, takes};
-ghost use Rattle.nest_any.specs.Words.{FailFirst, HasWholeChildren, IsListBuilder, IsOfLists, IsWhole, Memory, Overflow, Pass, TellsNulls, Told, builder_len, builder_type, cut_builder, emptied, layout_of, layout_type, list_child, lists_over, nulls_appended, nulls_pass, own_slot, own_slots, physical_type, reserve_passes, row_checks, slots_of, type_of};
+ghost use Rattle.nest_any.specs.Words.{FailFirst, HasCompleteChildren, IsListBuilder, IsOfLists, IsComplete, Memory, Overflow, Pass, ShowsNulls, RowAdded, builder_len, builder_type, truncate_builder, emptied, layout_of, layout_type, list_child, lists_over, nulls_appended, nulls_pass, own_slot, own_slots, physical_type, reserve_passes, row_checks, slots_of, type_of};
 
 use crate::any::AnyMutableArray;
 use crate::children::add_nulls;
@@ -16,8 +16,8 @@ use nest_memory::error::Error;
 use std::alloc::Global;
 use std::marker::Model;
 
-/// Lists over a builder of their items: by offsets of 32 or of 64 bits, or of one size. Items that are pushed into the
-/// child wait there until a row of them is told.
+/// A list builder over a builder of the items: 32-bit or 64-bit offsets, or fixed-size. Items pushed into the child are
+/// pending until a row of them is added.
 #[cycle(builder)]
 #[derive(Drop)]
 pub struct ListBuilder {
@@ -52,7 +52,7 @@ impl ListBuilder {
     ghost use Rattle.nest_any.specs.contracts.any.AnyMutableArray.{the_row as any_row};
     ghost use Rattle.nest_any.specs.Lent.{child_builder, with_items};
 
-    /// Rows over a child.
+    /// Returns the builder of rows over a child.
     pub(crate) fn over(alloc: Global, rows: TypedRows, values: Box<AnyMutableArray>) -> ListBuilder
         ensures { result ≡ lists_over rows (tree_of values.value) }
     {
@@ -63,7 +63,7 @@ impl ListBuilder {
         }
     }
 
-    /// Rows over a child that is no box yet.
+    /// Returns the builder of rows over a child, which it boxes.
     pub(crate) fn boxed(
         alloc: Global,
         rows: TypedRows,
@@ -81,13 +81,13 @@ impl ListBuilder {
         }
     }
 
-    /// What holds of every such builder: it takes no plain value, its data type is one of lists, and over a whole child a row
-    /// may be told.
+    /// Shows the prover the invariants: the builder accepts no plain value, its data type is a list type, and a row may
+    /// be added if the child is complete. Does nothing at run time.
     pub fn known(&self)
         ensures takes { (v : PlainValue) → takes self.now v ≡ false }
         ensures kind { IsListBuilder self.now }
         ensures lists { IsOfLists (physical_type (builder_type self.now)) }
-        ensures tells { IsWhole (list_child self.now) → HasWholeChildren self.now }
+        ensures nulls { IsComplete (list_child self.now) → HasCompleteChildren self.now }
     {
         self.rows.known();
     }
@@ -105,7 +105,7 @@ impl ListBuilder {
     }
 
     pub(crate) fn validity(&self) -> Option<&MutableBitmap>
-        ensures tells { TellsNulls (option_map (λ b. b.now) result) self.now }
+        ensures nulls { ShowsNulls (option_map (λ b. b.now) result) self.now }
         ensures none { builder_len self.now ≡ 0 → IsNone result }
     {
         self.rows.validity()
@@ -119,16 +119,16 @@ impl ListBuilder {
         self.rows.is_valid(i)
     }
 
-    #[cycle(whole)]
-    pub(crate) fn whole(&self) -> bool
-        ensures { IsTrue result ↔ IsWhole self.now }
+    #[cycle(complete)]
+    pub(crate) fn complete(&self) -> bool
+        ensures { IsTrue result ↔ IsComplete self.now }
     {
-        self.values.whole() && self.rows.fits(self.values.data_type(), self.values.len())
+        self.values.complete() && self.rows.fits(self.values.data_type(), self.values.len())
     }
 
     #[cycle(null)]
     pub(crate) fn add_null(&mut self) -> Result<(), Error>
-        requires { IsWhole self.old }
+        requires { IsComplete self.old }
         ensures ok { OnOk result (self.new ≡ nulls_appended 1 self.old) }
         ensures room { OnOk result (nulls_pass 1 self.old ≡ false) }
         ensures err { OnErr result (self.new ≡ self.old) }
@@ -151,9 +151,9 @@ impl ListBuilder {
 
     #[cycle(cut)]
     pub(crate) fn cut(&mut self, n: usize)
-        requires whole { IsWhole self.old }
+        requires complete { IsComplete self.old }
         requires within { n ≤ builder_len self.old }
-        ensures { self.new ≡ cut_builder self.old n }
+        ensures { self.new ≡ truncate_builder self.old n }
     {
         let items = self.values.len();
         let end = self.rows.truncate(n, items);
@@ -186,7 +186,7 @@ impl ListBuilder {
 
     #[cycle(frozen)]
     pub(crate) fn frozen(&mut self) -> Result<AnyArray, Error>
-        requires { IsWhole self.old }
+        requires { IsComplete self.old }
         ensures slots { IfOk result (λ a. slots_of (layout_of a) ≡ own_slots self.old) }
         ensures same_type { IfOk result (λ a. layout_type (layout_of a) ≡ builder_type self.old) }
         ensures emptied { self.new ≡ emptied self.old }
@@ -201,27 +201,27 @@ impl ListBuilder {
         }
     }
 
-    /// Tells a row of the items that wait, as `AnyMutableArray::tell` does.
-    pub fn tell(&mut self, valid: bool) -> Result<(), Error>
-        requires { HasWholeChildren self.old }
-        ensures ok { OnOk result (Told valid self.old self.new) }
+    /// Appends a row of the pending items, as `AnyMutableArray::push_row`.
+    pub fn push_row(&mut self, valid: bool) -> Result<(), Error>
+        requires { HasCompleteChildren self.old }
+        ensures ok { OnOk result (RowAdded valid self.old self.new) }
         ensures passed { OnOk result (Pass (row_checks self.old)) }
         ensures err { OnErr result (self.new ≡ self.old) }
         ensures cause { IfErr result (λ e. (e ≡ Memory alloc_error) ⊎ FailFirst e (row_checks self.old)) }
     {
         let count = self.values.len();
-        self.rows.tell(valid, self.values.data_type(), count)
+        self.rows.push_row(valid, self.values.data_type(), count)
     }
 
-    /// Whether the child is whole; then a row of what waits there may be told.
-    pub fn has_whole_children(&self) -> bool
-        ensures { IsTrue result ↔ HasWholeChildren self.now }
+    /// Returns whether the child is complete; then a row of the pending items may be added.
+    pub fn has_complete_children(&self) -> bool
+        ensures { IsTrue result ↔ HasCompleteChildren self.now }
     {
         self.rows.known();
-        self.values.whole()
+        self.values.complete()
     }
 
-    /// The child, into which the items of a row may be pushed before the row is told.
+    /// Returns the child, to push the items of a row before the row is added.
     pub fn child(&mut self) -> &mut AnyMutableArray
         ensures* writes_back { sem 𝓛 (Lends the_row any_row self.entry result (λ c. with_items self.entry.now (tree_of c))) }
         ensures value { tree_of result.now ≡ list_child self.old }
@@ -229,7 +229,7 @@ impl ListBuilder {
         &mut self.values
     }
 
-    /// The child for 0, else none.
+    /// Returns the child for index 0, else `None`.
     pub(crate) fn child_at(&mut self, i: usize) -> Option<&mut AnyMutableArray>
         ensures* writes_back { sem 𝓛 (LendsIf the_row any_row self.entry result (λ c. with_items self.entry.now (tree_of c)) self.old) }
         ensures value { option_map (λ c. tree_of c.now) result ≡ child_builder i self.old }

@@ -1,11 +1,13 @@
-//! The rows of a builder of lists of any kind, with its data type and without its items.
+//! The rows of a list builder of any kind, with its data type and without its items.
 ghost use Rattle.std.specs.Prelude.{◌≡◌, ◌≢◌, ◌≤◌, ◌<◌, ◌↔◌, ◌⊎◌, IsNone, IsTrue, OnOk, OnErr, IfOk, IfErr, IsOkUnless, MatchOption, Some, None, true, false, ◌+◌, ◌++◌, ◌∷◌, [], option_map, alloc_error};
 ghost use Rattle.nest_model.specs.BuilderTree as builders;
 ghost use Rattle.nest_model.specs.Slot as slots;
-ghost use Rattle.nest_any.specs.Words.{BuilderTree, FailFirst, Fitting, HasItems, HasSize, HasWholeChildren, IsListBuilder, IsOfLists, IsWhole, Memory, Overflow, Pass, TellsNulls, told, builder_len, builder_type, child_nulls, cut_builder, emptied, empty_lists, item_type, items_needed, largest_length, layout_of, layout_type, lists_checks, lists_over, nulls_appended, own_slot, own_slots, physical_type, reserve_passes, row_checks, rows_len, slots_of, type_of};
+ghost use Rattle.nest_any.specs.Refusals.{IsEmptyOver};
+ghost use Rattle.nest_any.specs.TypedRows.{OverChildren};
+ghost use Rattle.nest_any.specs.Words.{BuilderTree, FailFirst, Fitting, HasItems, HasSize, HasCompleteChildren, IsListBuilder, IsOfLists, IsComplete, Memory, Overflow, Pass, ShowsNulls, with_row, builder_len, builder_type, child_nulls, truncate_builder, emptied, empty_lists, items_needed, largest_length, layout_of, layout_type, lists_checks, lists_over, nulls_appended, own_slot, own_slots, physical_type, reserve_passes, row_checks, rows_len, slots_of, type_of};
 
 use nest_array::AnyArray;
-use nest_array::array::Variant;
+use nest_array::array::ArrayVariant;
 use nest_build::child::has_items;
 use nest_build::fixed_size_list::data_type::FixedType;
 use nest_build::fixed_size_list::{FixedRows, freeze_over};
@@ -15,10 +17,10 @@ use nest_build::list::width::FrozenRows;
 use nest_memory::bitmap::mutable::MutableBitmap;
 use nest_memory::datatypes::DataType;
 use nest_memory::datatypes::physical_type::PhysicalType;
-use nest_memory::error::{Argument, Error, Spec};
+use nest_memory::error::{ArgumentError, Error, SpecError};
 use std::alloc::Global;
 
-/// Rows of lists by offsets of either width, or of one size, and their data type.
+/// The rows of lists, with offsets of either width or of a fixed size, and their data type.
 #[derive(Drop)]
 pub(crate) enum TypedRows {
     List(ListType<i32>, ListRows<i32>),
@@ -26,7 +28,7 @@ pub(crate) enum TypedRows {
     FixedSizeList(FixedType, FixedRows),
 }
 
-// The same expression over the rows of each variant.
+// Evaluates an expression with the rows of any variant.
 macro_rules! each_rows {
     ($any:expr, $rows:ident => $body:expr) => {
         match $any {
@@ -55,7 +57,7 @@ impl TypedRows {
     }
 
     pub(crate) fn validity(&self) -> Option<&MutableBitmap>
-        ensures tells { (c : BuilderTree) → TellsNulls (option_map (λ b. b.now) result) (lists_over self.now c) }
+        ensures nulls { (c : BuilderTree) → ShowsNulls (option_map (λ b. b.now) result) (lists_over self.now c) }
         ensures none { rows_len self.now ≡ 0 → IsNone result }
     {
         each_rows!(self, rows => rows.validity())
@@ -68,7 +70,7 @@ impl TypedRows {
         each_rows!(self, rows => rows.is_valid(i))
     }
 
-    /// Whether a child of that type with so many items has just the rows' items.
+    /// Returns whether a child of type `items` with `count` items has exactly the items of the rows.
     pub(crate) fn fits(&self, items: &DataType, count: usize) -> bool
         ensures { (c : BuilderTree) → type_of items.now ≡ builder_type c → count ≡ builder_len c → IsTrue result ↔ Fitting self.now c }
     {
@@ -85,9 +87,9 @@ impl TypedRows {
         }
     }
 
-    /// What holds of all such rows: offsets never fall, and the data type is one of lists.
+    /// Shows the prover that offsets never decrease and that the data type is a list type. Does nothing at run time.
     pub(crate) fn known(&self)
-        ensures rising { (c : BuilderTree) → IsWhole c → HasWholeChildren (lists_over self.now c) }
+        ensures rising { (c : BuilderTree) → IsComplete c → HasCompleteChildren (lists_over self.now c) }
         ensures kind { (c : BuilderTree) → IsListBuilder (lists_over self.now c) }
         ensures lists { (c : BuilderTree) → IsOfLists (physical_type (builder_type (lists_over self.now c))) }
     {
@@ -106,7 +108,7 @@ impl TypedRows {
         }
     }
 
-    /// How many nulls a null row has in the child.
+    /// Returns the number of nulls that a null row has in the child.
     pub(crate) fn child_nulls(&self) -> usize
         ensures value { result ≡ child_nulls self.now }
         ensures some { HasSize self.now }
@@ -118,7 +120,7 @@ impl TypedRows {
         }
     }
 
-    /// Adds a null row, whose nulls the child has already.
+    /// Appends a null row. Its nulls are already in the child.
     pub(crate) fn push_null(&mut self) -> Result<(), Error>
         ensures ok { OnOk result ((c : BuilderTree) → lists_over self.new (nulls_appended (child_nulls self.old) c) ≡ nulls_appended 1 (lists_over self.old c)) }
         ensures room { OnOk result (rows_len self.old + 1 ≤ largest_length) }
@@ -138,9 +140,14 @@ impl TypedRows {
         }
     }
 
-    /// Tells a row of the items that wait in a child of that type, which has so many.
-    pub(crate) fn tell(&mut self, valid: bool, items: &DataType, count: usize) -> Result<(), Error>
-        ensures ok { OnOk result ((c : BuilderTree) → count ≡ builder_len c → lists_over self.new c ≡ told valid (lists_over self.old c)) }
+    /// Appends a row of the pending items of a child of type `items` with `count` items.
+    pub(crate) fn push_row(
+        &mut self,
+        valid: bool,
+        items: &DataType,
+        count: usize,
+    ) -> Result<(), Error>
+        ensures ok { OnOk result ((c : BuilderTree) → count ≡ builder_len c → lists_over self.new c ≡ with_row valid (lists_over self.old c)) }
         ensures passed { OnOk result ((c : BuilderTree) → type_of items.now ≡ builder_type c → count ≡ builder_len c → Pass (row_checks (lists_over self.old c))) }
         ensures err { OnErr result ((c : BuilderTree) → lists_over self.new c ≡ lists_over self.old c) }
         ensures cause { IfErr result (λ e. (c : BuilderTree) → type_of items.now ≡ builder_type c → count ≡ builder_len c → (e ≡ Memory alloc_error) ⊎ FailFirst e (row_checks (lists_over self.old c))) }
@@ -149,28 +156,28 @@ impl TypedRows {
         match self {
             TypedRows::List(_, rows) => {
                 if !typed || count < rows.last() {
-                    return Err(Error::InvalidArgumentError(Argument::Unfinished));
+                    return Err(Error::InvalidArgumentError(ArgumentError::Incomplete));
                 }
                 rows.push(valid, count)
             }
             TypedRows::LargeList(_, rows) => {
                 if !typed || count < rows.last() {
-                    return Err(Error::InvalidArgumentError(Argument::Unfinished));
+                    return Err(Error::InvalidArgumentError(ArgumentError::Incomplete));
                 }
                 rows.push(valid, count)
             }
             TypedRows::FixedSizeList(data_type, rows) => {
-                tell_fixed(data_type, rows, valid, typed, count)
+                push_fixed_row(data_type, rows, valid, typed, count)
             }
         }
     }
 
-    /// Keeps the first n rows, and answers how many of the child's items they need; there are so many.
+    /// Keeps the first `n` rows and returns the number of child items they need, at most `count`.
     pub(crate) fn truncate(&mut self, n: usize, count: usize) -> usize
         requires within { n ≤ rows_len self.old }
         requires items { items_needed self.old n ≤ count }
         ensures end { result ≡ items_needed self.old n }
-        ensures cut { (c : BuilderTree) → lists_over self.new (cut_builder c result) ≡ cut_builder (lists_over self.old c) n }
+        ensures cut { (c : BuilderTree) → lists_over self.new (truncate_builder c result) ≡ truncate_builder (lists_over self.old c) n }
     {
         let _count = count;
         match self {
@@ -190,7 +197,7 @@ impl TypedRows {
         }
     }
 
-    /// How many items of the child so many rows more are asked room for; `None` where no length can be so much.
+    /// Returns the number of child items that `additional` rows reserve, `None` if it exceeds the largest length.
     pub(crate) fn room_for(&self, additional: usize) -> Option<usize>
         ensures { MatchOption result
             ((c : BuilderTree) → reserve_passes additional (lists_over self.now c) ≡ true)
@@ -216,14 +223,14 @@ impl TypedRows {
         each_rows!(self, rows => rows.shrink_to_fit())
     }
 
-    /// Leaves no row, and no validity.
+    /// Removes all rows and the validity.
     pub(crate) fn clear(&mut self)
         ensures { (c : BuilderTree) → lists_over self.new (emptied c) ≡ emptied (lists_over self.old c) }
     {
         each_rows!(self, rows => rows.clear())
     }
 
-    /// The array of the rows over their items. No row and no validity is left, also after `Memory`.
+    /// Returns the array of the rows over their items. No rows and no validity are left, also after `Memory`.
     pub(crate) fn freeze_over(&mut self, alloc: Global, values: AnyArray) -> Result<AnyArray, Error>
         requires { HasItems self.old (layout_of values) }
         ensures slots { IfOk result (λ a. (c : BuilderTree) → slots_of (layout_of values) ≡ own_slots c → slots_of (layout_of a) ≡ own_slots (lists_over self.old c)) }
@@ -281,8 +288,8 @@ impl TypedRows {
     }
 }
 
-/// Tells a row of lists of one size, of so many items in all.
-fn tell_fixed(
+/// Appends a row of a fixed-size list, over a child with `count` items.
+fn push_fixed_row(
     data_type: &FixedType,
     rows: &mut FixedRows,
     valid: bool,
@@ -290,9 +297,9 @@ fn tell_fixed(
     count: usize,
 ) -> Result<(), Error>
     ensures ok { OnOk result (rows.new ≡ rows.old ++ valid ∷ []) }
-    ensures passed { OnOk result ((c : BuilderTree) → (IsTrue typed ↔ (item_type data_type.now ≡ Some (builder_type c))) → count ≡ builder_len c → Pass (row_checks (builders.fixed_size_list data_type.now rows.old c))) }
+    ensures passed { OnOk result (OverChildren typed data_type.now count (λ c. Pass (row_checks (builders.fixed_size_list data_type.now rows.old c)))) }
     ensures err { OnErr result (rows.new ≡ rows.old) }
-    ensures cause { IfErr result (λ e. (c : BuilderTree) → (IsTrue typed ↔ (item_type data_type.now ≡ Some (builder_type c))) → count ≡ builder_len c → (e ≡ Memory alloc_error) ⊎ FailFirst e (row_checks (builders.fixed_size_list data_type.now rows.old c))) }
+    ensures cause { IfErr result (λ e. OverChildren typed data_type.now count (λ c. (e ≡ Memory alloc_error) ⊎ FailFirst e (row_checks (builders.fixed_size_list data_type.now rows.old c)))) }
 {
     let size = data_type.size();
     let end = match rows.len().checked_add(1) {
@@ -300,53 +307,55 @@ fn tell_fixed(
         None => None,
     };
     let Some(end) = end else {
-        return Err(Error::InvalidArgumentError(Argument::Unfinished));
+        return Err(Error::InvalidArgumentError(ArgumentError::Incomplete));
     };
     if !typed || count < end {
-        return Err(Error::InvalidArgumentError(Argument::Unfinished));
+        return Err(Error::InvalidArgumentError(ArgumentError::Incomplete));
     }
     if count > end {
-        return Err(Error::InvalidArgumentError(Argument::ItemSize));
+        return Err(Error::InvalidArgumentError(ArgumentError::ItemSize));
     }
     rows.push(valid)
 }
 
-/// Why no builder of lists is made of that type over such a child.
-fn fault(data_type: &DataType, items: &DataType, count: usize) -> Option<Error>
-    ensures { (c : BuilderTree) → type_of items.now ≡ builder_type c → count ≡ builder_len c → MatchOption result (Pass (lists_checks (type_of data_type.now) c)) (λ e. FailFirst e (lists_checks (type_of data_type.now) c)) }
+/// Returns the first failed check of a new list builder.
+fn first_error(data_type: &DataType, items: &DataType, count: usize) -> Option<Error>
+    ensures { (c : BuilderTree) → type_of items.now ≡ builder_type c → count ≡ builder_len c
+        → let cs = lists_checks (type_of data_type.now) c in MatchOption result (Pass cs) (λ e. FailFirst e cs) }
 {
     let physical = data_type.to_physical_type();
     let fixed = physical == PhysicalType::FixedSizeList;
     if !fixed && physical != PhysicalType::List && physical != PhysicalType::LargeList {
-        return Some(Error::OutOfSpec(Spec::WrongType));
+        return Some(Error::OutOfSpec(SpecError::WrongType));
     }
     if fixed && data_type.size().unwrap_or(0) == 0 {
-        return Some(Error::OutOfSpec(Spec::ZeroSize));
+        return Some(Error::OutOfSpec(SpecError::ZeroSize));
     }
     if count != 0 {
-        return Some(Error::InvalidArgumentError(Argument::ChildNotEmpty));
+        return Some(Error::InvalidArgumentError(ArgumentError::ChildNotEmpty));
     }
     if !has_items(data_type, items) {
-        return Some(Error::OutOfSpec(Spec::ChildType));
+        return Some(Error::OutOfSpec(SpecError::ChildType));
     }
     None
 }
 
 impl TypedRows {
-    /// No row of lists of that type, over a child of such a type with so many items.
+    /// Returns no rows, of a list type over a child of type `items` with `count` items.
     ///
     /// # Errors
-    /// The first of the checks that fails; `Memory`.
+    /// The first failed check; `Memory` if an allocation fails.
     pub(crate) fn try_new(
         alloc: Global,
         data_type: DataType,
         items: &DataType,
         count: usize,
     ) -> Result<TypedRows, Error>
-        ensures ok { IfOk result (λ rows. (c : BuilderTree) → type_of items.now ≡ builder_type c → count ≡ builder_len c → Pass (lists_checks (type_of data_type) c) × (lists_over rows c ≡ empty_lists (physical_type (type_of data_type)) (type_of data_type) c)) }
+        ensures ok { let t = type_of data_type in IfOk result (λ rows. (c : BuilderTree) → type_of items.now ≡ builder_type c → count ≡ builder_len c
+            → Pass (lists_checks t c) × IsEmptyOver t rows c) }
         ensures cause { IfErr result (λ e. (c : BuilderTree) → type_of items.now ≡ builder_type c → count ≡ builder_len c → (e ≡ Memory alloc_error) ⊎ FailFirst e (lists_checks (type_of data_type) c)) }
     {
-        if let Some(error) = fault(&data_type, items, count) {
+        if let Some(error) = first_error(&data_type, items, count) {
             drop(data_type);
             return Err(error);
         }

@@ -1,20 +1,21 @@
-//! The builder of arrays of records.
+//! The builder of struct arrays.
 ghost use Rattle.std.specs.Prelude.{◌≡◌, ◌≢◌, ◌≤◌, ◌<◌, ◌+◌, ◌↔◌, ◌⊎◌, Bool, List, ℕ, IsNone, IsTrue, OnOk, OnErr, IfOk, IfErr, IfSome, IsErrOf, IsOkUnless, MatchResult, MatchOption, None, Some, true, false, not, option_map, alloc_error};
 ghost use Rattle.std.specs.List.{count_by};
 ghost use Rattle.nest_memory.specs.TypeTree.{count_fields, fields_of};
 ghost use Rattle.nest_memory.specs.declared.datatypes.physical_type.PhysicalType.TheVariants as physical;
 ghost use Rattle.nest_model.specs.BuilderTree as builders;
 ghost use Rattle.nest_model.specs.Slot as slots;
+ghost use Rattle.nest_any.specs.Refusals.{struct_over};
 ghost use Rattle.nest_any.specs.Trees.{tree_of, trees_of};
-ghost use Rattle.nest_any.specs.Words.{AreEachWhole, FailFirst, HasWholeChildren, InvalidArgumentError, IsFrozenAs, IsWhole, Memory, Overflow, Pass, SpellsBits, TellsNulls, Told, Unfinished, ValidityFits, bits_told, builder_len, builder_type, count_builders, cut_builder, emptied, first_rows, largest_length, layout_of, layout_type, layouts_of, null_count, nulls_appended, nulls_pass, own_slot, own_slots, physical_type, reserve_passes, row_checks, slots_of, struct_bits, struct_checks, struct_children, type_of, validity_of};
+ghost use Rattle.nest_any.specs.Words.{AreEachComplete, FailFirst, HasCompleteChildren, InvalidArgumentError, IsFrozenAs, IsComplete, Memory, Overflow, Pass, EncodesBits, ShowsNulls, RowAdded, Incomplete, ValidityFits, encoded_bits, builder_len, builder_type, count_builders, truncate_builder, emptied, first_rows, largest_length, layout_of, layout_type, layouts_of, null_count, nulls_appended, nulls_pass, own_slot, own_slots, physical_type, reserve_passes, row_checks, slots_of, struct_bits, struct_checks, struct_children, type_of, validity_of};
 
 use crate::any::AnyMutableArray;
 use crate::children::{
-    add_null_each, are_ready, are_whole, cut_each, each_is_whole, first_rows, frozen_each,
+    add_null_each, are_complete, are_ready, cut_each, each_is_complete, first_rows, frozen_each,
     have_rows, have_types, room_each, shrink_each,
 };
 use crate::struct_type::StructType;
-use nest_array::array::Variant;
+use nest_array::array::ArrayVariant;
 use nest_array::{AnyArray, StructArray};
 use nest_build::array::{MutableArray, shared};
 use nest_build::fixed_size_list::FixedRows;
@@ -24,13 +25,13 @@ use nest_memory::bitmap::immutable::Bitmap;
 use nest_memory::bitmap::mutable::MutableBitmap;
 use nest_memory::datatypes::DataType;
 use nest_memory::datatypes::physical_type::PhysicalType;
-use nest_memory::error::{Argument, Error, Spec};
+use nest_memory::error::{ArgumentError, Error, SpecError};
 use std::alloc::Global;
 use std::marker::Model;
 use std::rc::Rc;
 
-/// Records of one child for each field, which are told one after another: arrow2's `MutableStructArray`. What is pushed
-/// into the children waits there until a row of them is told.
+/// A builder of struct arrays, with one child per field: arrow2's `MutableStructArray`. Values pushed into the children
+/// are pending until a row of them is added.
 #[cycle(builder)]
 #[derive(Drop)]
 pub struct MutableStructArray {
@@ -66,25 +67,28 @@ impl MutableStructArray {
     ghost use Rattle.nest_any.specs.contracts.any.AnyMutableArray.{the_row as any_row};
     ghost use Rattle.nest_any.specs.Lent.{builder_at, child_builder, with_children, with_field};
 
-    /// The records of such parts: as many rows as the children have, valid where the validity says so.
+    /// Returns the builder of these parts. It has as many rows as the children.
     ///
     /// # Errors
-    /// `WrongType` where the physical type isn't `Struct`, `NoFields` where it has no field, `FieldCount` where there are
-    /// not as many children as fields, `ChildType` where a child has another data type than its field, `ChildLength`
-    /// where a child has another number of rows than the first, `ValidityLength` where there isn't a bit for each row: the
-    /// first of these.
+    /// The first of:
+    /// - `WrongType` if the physical type is not `Struct`;
+    /// - `NoFields` if it has no fields;
+    /// - `FieldCount` if the numbers of children and of fields differ;
+    /// - `ChildType` if the types of a child and of its field differ;
+    /// - `ChildLength` if a child has another number of rows than the first;
+    /// - `ValidityLength` if there is not one validity bit per row.
     pub fn try_new(
         alloc: Global,
         data_type: DataType,
         values: Vec<AnyMutableArray>,
         validity: Option<MutableBitmap>,
     ) -> Result<MutableStructArray, Error>
-        requires { AreEachWhole (trees_of values.items) }
-        ensures { let cs = trees_of values.items in
-            let checks = struct_checks (type_of data_type) cs validity in
-            MatchResult result (λ b. Pass checks × (b ≡ builders.struct (type_of data_type) (bits_told (first_rows cs) validity) cs)) (λ e. FailFirst e checks) }
+        requires { AreEachComplete (trees_of values.items) }
+        ensures { let t = type_of data_type in let cs = trees_of values.items in
+            let all = struct_checks t cs validity in
+            MatchResult result (λ b. Pass all × (b ≡ struct_over t cs validity)) (λ e. FailFirst e all) }
     {
-        if let Some(error) = fault(&data_type, &values, &validity) {
+        if let Some(error) = first_error(&data_type, &values, &validity) {
             drop(validity);
             drop(values);
             drop(data_type);
@@ -93,20 +97,20 @@ impl MutableStructArray {
         Ok(MutableStructArray::of(alloc, data_type, values, validity))
     }
 
-    /// The records of parts that pass the checks of `try_new`, each of them valid.
+    /// Returns the builder of parts that pass the checks of `try_new`, with all rows valid.
     pub fn new(
         alloc: Global,
         data_type: DataType,
         values: Vec<AnyMutableArray>,
     ) -> MutableStructArray
-        requires whole { AreEachWhole (trees_of values.items) }
+        requires complete { AreEachComplete (trees_of values.items) }
         requires fit { Pass (struct_checks (type_of data_type) (trees_of values.items) None) }
-        ensures { result ≡ builders.struct (type_of data_type) (bits_told (first_rows (trees_of values.items)) None) (trees_of values.items) }
+        ensures { result ≡ builders.struct (type_of data_type) (encoded_bits (first_rows (trees_of values.items)) None) (trees_of values.items) }
     {
         MutableStructArray::of(alloc, data_type, values, None)
     }
 
-    // The records of parts that fit.
+    // The builder of valid parts.
     fn of(
         alloc: Global,
         data_type: DataType,
@@ -114,7 +118,7 @@ impl MutableStructArray {
         validity: Option<MutableBitmap>,
     ) -> MutableStructArray
         requires { Pass (struct_checks (type_of data_type) (trees_of values.items) validity) }
-        ensures { result ≡ builders.struct (type_of data_type) (bits_told (first_rows (trees_of values.items)) validity) (trees_of values.items) }
+        ensures { result ≡ builders.struct (type_of data_type) (encoded_bits (first_rows (trees_of values.items)) validity) (trees_of values.items) }
     {
         let count = first_rows(&values);
         MutableStructArray {
@@ -125,11 +129,11 @@ impl MutableStructArray {
         }
     }
 
-    /// Its data type, its children and its validity.
+    /// Returns the data type, the children and the validity.
     pub fn into_inner(self) -> (DataType, Vec<AnyMutableArray>, Option<MutableBitmap>)
         ensures same_type { type_of result.0 ≡ builder_type self }
         ensures children { trees_of result.1.items ≡ struct_children self }
-        ensures validity { SpellsBits result.2 (struct_bits self) }
+        ensures validity { EncodesBits result.2 (struct_bits self) }
     {
         let MutableStructArray {
             data_type,
@@ -140,7 +144,7 @@ impl MutableStructArray {
         (data_type.into_inner(), values, rows.into_validity())
     }
 
-    /// What holds of every such builder.
+    /// Shows the prover the invariants of a struct builder. Does nothing at run time.
     pub fn known(&self)
         ensures kind { self.now ≡ builders.struct (builder_type self.now) (struct_bits self.now) (struct_children self.now) }
         ensures records { physical_type (builder_type self.now) ≡ physical.Struct }
@@ -149,11 +153,11 @@ impl MutableStructArray {
         let _records = self.data_type.get();
     }
 
-    /// Whether the children are whole; then a row of what waits there may be told.
-    pub fn has_whole_children(&self) -> bool
-        ensures { IsTrue result ↔ HasWholeChildren self.now }
+    /// Returns whether the children are complete; then a row of the pending values may be added.
+    pub fn has_complete_children(&self) -> bool
+        ensures { IsTrue result ↔ HasCompleteChildren self.now }
     {
-        are_whole(&self.values)
+        are_complete(&self.values)
     }
 
     pub(crate) fn data_type(&self) -> &DataType
@@ -169,7 +173,7 @@ impl MutableStructArray {
     }
 
     pub(crate) fn validity(&self) -> Option<&MutableBitmap>
-        ensures tells { TellsNulls (option_map (λ b. b.now) result) self.now }
+        ensures nulls { ShowsNulls (option_map (λ b. b.now) result) self.now }
         ensures none { builder_len self.now ≡ 0 → IsNone result }
     {
         self.rows.validity()
@@ -182,14 +186,14 @@ impl MutableStructArray {
         self.rows.is_valid(i)
     }
 
-    /// Its children, one for each field.
+    /// Returns the children, one per field.
     pub fn values(&self) -> &[AnyMutableArray]
         ensures { trees_of result.now ≡ struct_children self.now }
     {
         &self.values
     }
 
-    /// The children, into which a row may be pushed before it is told.
+    /// Returns the children, to push the values of a row before the row is added.
     pub fn mut_values(&mut self) -> &mut [AnyMutableArray]
         ensures* writes_back { sem 𝓛 (Lends the_row (Array any_row 0) self.entry result (λ cs. with_children self.entry.now (trees_of cs))) }
         ensures value { trees_of result.now ≡ struct_children self.old }
@@ -197,7 +201,7 @@ impl MutableStructArray {
         &mut self.values
     }
 
-    /// Child i, into which a value may be pushed before its row is told.
+    /// Returns child `i`, to push the value of a row before the row is added.
     pub fn value(&mut self, i: usize) -> &mut AnyMutableArray
         requires { i < count_builders (struct_children self.old) }
         ensures* writes_back { sem 𝓛 (Lends the_row any_row self.entry result (λ c. with_field self.entry.now i (tree_of c))) }
@@ -206,7 +210,7 @@ impl MutableStructArray {
         &mut self.values[i]
     }
 
-    // Child i, if there is one.
+    // Child i, `None` if there is none.
     pub(crate) fn child_at(&mut self, i: usize) -> Option<&mut AnyMutableArray>
         ensures* writes_back { sem 𝓛 (LendsIf the_row any_row self.entry result (λ c. with_field self.entry.now i (tree_of c)) self.old) }
         ensures value { option_map (λ c. tree_of c.now) result ≡ child_builder i self.old }
@@ -218,25 +222,25 @@ impl MutableStructArray {
         }
     }
 
-    /// Tells a row of what waits in the children; an untrue one is null.
+    /// Appends a row of the pending values. If `valid` is false, the row is null.
     ///
     /// # Errors
-    /// `Unfinished` unless each child is of its field's type and has just one row more; `Memory`. The row goes on waiting
-    /// then.
+    /// `Incomplete` unless each child has its field's type and exactly one more row; `Memory` if an allocation fails.
+    /// After an error the values stay pending.
     pub fn push(&mut self, valid: bool) -> Result<(), Error>
-        requires { HasWholeChildren self.old }
-        ensures ok { OnOk result (Told valid self.old self.new) }
+        requires { HasCompleteChildren self.old }
+        ensures ok { OnOk result (RowAdded valid self.old self.new) }
         ensures passed { OnOk result (Pass (row_checks self.old)) }
         ensures err { OnErr result (self.new ≡ self.old) }
         ensures cause { IfErr result (λ e. (e ≡ Memory alloc_error) ⊎ FailFirst e (row_checks self.old)) }
     {
         if !self.is_ready() {
-            return Err(Error::InvalidArgumentError(Argument::Unfinished));
+            return Err(Error::InvalidArgumentError(ArgumentError::Incomplete));
         }
         self.rows.push(valid)
     }
 
-    // Whether each child is of its field's type and has just one row more.
+    // Whether each child has its field's type and exactly one more row.
     fn is_ready(&self) -> bool
         ensures ready { IsTrue result ↔ Pass (row_checks self.now) }
         ensures room { IsTrue result → builder_len self.now + 1 ≤ largest_length }
@@ -245,17 +249,17 @@ impl MutableStructArray {
         are_ready(self.data_type.fields(), &self.values, self.rows.len())
     }
 
-    #[cycle(whole)]
-    pub(crate) fn whole(&self) -> bool
-        ensures { IsTrue result ↔ IsWhole self.now }
+    #[cycle(complete)]
+    pub(crate) fn complete(&self) -> bool
+        ensures { IsTrue result ↔ IsComplete self.now }
     {
         have_types(self.data_type.fields(), &self.values)
-            && each_is_whole(&self.values, self.rows.len())
+            && each_is_complete(&self.values, self.rows.len())
     }
 
     #[cycle(null)]
     pub(crate) fn add_null(&mut self) -> Result<(), Error>
-        requires { IsWhole self.old }
+        requires { IsComplete self.old }
         ensures ok { OnOk result (self.new ≡ nulls_appended 1 self.old) }
         ensures room { OnOk result (nulls_pass 1 self.old ≡ false) }
         ensures err { OnErr result (self.new ≡ self.old) }
@@ -276,9 +280,9 @@ impl MutableStructArray {
 
     #[cycle(cut)]
     pub(crate) fn cut(&mut self, n: usize)
-        requires whole { IsWhole self.old }
+        requires complete { IsComplete self.old }
         requires within { n ≤ builder_len self.old }
-        ensures { self.new ≡ cut_builder self.old n }
+        ensures { self.new ≡ truncate_builder self.old n }
     {
         self.rows.truncate(n);
         cut_each(&mut self.values, n);
@@ -305,10 +309,10 @@ impl MutableStructArray {
         shrink_each(&mut self.values)
     }
 
-    // The parts of the array of the rows. No row and no validity is left, also after `Memory`.
+    // The parts of the array of the rows. No rows and no validity are left, also after `Memory`.
     #[cycle(frozen)]
     fn frozen_parts(&mut self) -> Result<(DataType, Vec<AnyArray>, Option<Bitmap>), Error>
-        requires { IsWhole self.old }
+        requires { IsComplete self.old }
         ensures ok { IfOk result (λ parts. IsFrozenAs (type_of parts.0) (layouts_of parts.1.items) parts.2 self.old) }
         ensures emptied { self.new ≡ emptied self.old }
         ensures memory { IsOkUnless result (Memory alloc_error) }
@@ -338,7 +342,7 @@ impl MutableStructArray {
 
     #[cycle(frozen)]
     pub(crate) fn frozen(&mut self) -> Result<AnyArray, Error>
-        requires { IsWhole self.old }
+        requires { IsComplete self.old }
         ensures slots { IfOk result (λ a. slots_of (layout_of a) ≡ own_slots self.old) }
         ensures same_type { IfOk result (λ a. layout_type (layout_of a) ≡ builder_type self.old) }
         ensures emptied { self.new ≡ emptied self.old }
@@ -353,22 +357,22 @@ impl MutableStructArray {
         }
     }
 
-    /// The array of the rows, without a validity where no row is null. The builder keeps its data type and has no row at
-    /// any level and no validity then, also after `Memory`.
+    /// Freezes the builder: returns the array of its rows, without a validity if no row is null. The builder keeps its
+    /// data type; all its levels are empty and without validity afterwards, also after `Memory`.
     ///
     /// # Errors
-    /// `Unfinished` where it isn't whole; then nothing changes. `Memory`.
+    /// `Incomplete` if the builder is not complete; then nothing changes. `Memory` if an allocation fails.
     pub fn freeze(&mut self) -> Result<StructArray, Error>
         ensures slots { IfOk result (λ a. slots_of a ≡ own_slots self.old) }
         ensures same_type { IfOk result (λ a. layout_type a ≡ builder_type self.old) }
         ensures bare { IfOk result (λ a. null_count a ≡ 0 → validity_of a ≡ None) }
-        ensures unfinished { IsErrOf result (InvalidArgumentError Unfinished) ↔ ¬ IsWhole self.old }
-        ensures unchanged { ¬ IsWhole self.old → self.new ≡ self.old }
-        ensures emptied { IsWhole self.old → self.new ≡ emptied self.old }
-        ensures errors { IfErr result (λ e. (e ≡ InvalidArgumentError Unfinished) ⊎ (e ≡ Memory alloc_error)) }
+        ensures incomplete { IsErrOf result (InvalidArgumentError Incomplete) ↔ ¬ IsComplete self.old }
+        ensures unchanged { ¬ IsComplete self.old → self.new ≡ self.old }
+        ensures emptied { IsComplete self.old → self.new ≡ emptied self.old }
+        ensures errors { IfErr result (λ e. (e ≡ InvalidArgumentError Incomplete) ⊎ (e ≡ Memory alloc_error)) }
     {
-        if !self.whole() {
-            return Err(Error::InvalidArgumentError(Argument::Unfinished));
+        if !self.complete() {
+            return Err(Error::InvalidArgumentError(ArgumentError::Incomplete));
         }
         self.known();
         match self.frozen_parts() {
@@ -379,7 +383,7 @@ impl MutableStructArray {
         }
     }
 
-    /// The same array, owned by what shares it.
+    /// Freezes the builder, consumes it and returns the array in an `Rc`.
     ///
     /// # Errors
     /// As `freeze`. The builder is dropped.
@@ -387,8 +391,8 @@ impl MutableStructArray {
         ensures slots { IfOk result (λ r. slots_of (layout_of r.value) ≡ own_slots self) }
         ensures same_type { IfOk result (λ r. layout_type (layout_of r.value) ≡ builder_type self) }
         ensures bare { IfOk result (λ r. null_count (layout_of r.value) ≡ 0 → validity_of (layout_of r.value) ≡ None) }
-        ensures unfinished { IsErrOf result (InvalidArgumentError Unfinished) ↔ ¬ IsWhole self }
-        ensures errors { IfErr result (λ e. (e ≡ InvalidArgumentError Unfinished) ⊎ (e ≡ Memory alloc_error)) }
+        ensures incomplete { IsErrOf result (InvalidArgumentError Incomplete) ↔ ¬ IsComplete self }
+        ensures errors { IfErr result (λ e. (e ≡ InvalidArgumentError Incomplete) ⊎ (e ≡ Memory alloc_error)) }
     {
         let mut records = self;
         let frozen = records.freeze();
@@ -400,9 +404,9 @@ impl MutableStructArray {
     }
 }
 
-/// A validity that has a null, or none.
+/// Returns the validity, or `None` if it has no null.
 fn without_full(validity: Option<Bitmap>) -> Option<Bitmap>
-    ensures bits { (bits : List Bool) → SpellsBits validity bits → SpellsBits result bits }
+    ensures bits { (bits : List Bool) → EncodesBits validity bits → EncodesBits result bits }
     ensures fits { (n : ℕ) → ValidityFits validity n → ValidityFits result n }
     ensures null { IfSome result (λ bits. count_by not bits ≢ 0) }
 {
@@ -418,8 +422,8 @@ fn without_full(validity: Option<Bitmap>) -> Option<Bitmap>
     }
 }
 
-/// The first check of a builder's parts that fails.
-fn fault(
+/// Returns the first failed check of a builder's parts.
+fn first_error(
     data_type: &DataType,
     values: &[AnyMutableArray],
     validity: &Option<MutableBitmap>,
@@ -428,24 +432,24 @@ fn fault(
         MatchOption result (Pass checks) (λ e. FailFirst e checks) }
 {
     if data_type.to_physical_type() != PhysicalType::Struct {
-        return Some(Error::OutOfSpec(Spec::WrongType));
+        return Some(Error::OutOfSpec(SpecError::WrongType));
     }
     let fields = data_type.fields();
     if fields.is_empty() {
-        return Some(Error::OutOfSpec(Spec::NoFields));
+        return Some(Error::OutOfSpec(SpecError::NoFields));
     }
     if fields.len() != values.len() {
-        return Some(Error::OutOfSpec(Spec::FieldCount));
+        return Some(Error::OutOfSpec(SpecError::FieldCount));
     }
     if !have_types(fields, values) {
-        return Some(Error::OutOfSpec(Spec::ChildType));
+        return Some(Error::OutOfSpec(SpecError::ChildType));
     }
     let count = first_rows(values);
     if !have_rows(values, count) {
-        return Some(Error::OutOfSpec(Spec::ChildLength));
+        return Some(Error::OutOfSpec(SpecError::ChildLength));
     }
     if !has_bits(validity, count) {
-        return Some(Error::OutOfSpec(Spec::ValidityLength));
+        return Some(Error::OutOfSpec(SpecError::ValidityLength));
     }
     None
 }
@@ -475,8 +479,8 @@ impl MutableArray for MutableStructArray {
         self.is_valid(i)
     }
 
-    fn is_whole(&self) -> bool {
-        self.whole()
+    fn is_complete(&self) -> bool {
+        self.complete()
     }
 
     fn holds(&self, _i: usize, _value: &Plain<'_>) -> bool {
@@ -492,7 +496,7 @@ impl MutableArray for MutableStructArray {
         self.known();
         match value {
             None => self.add_null(),
-            Some(_) => Err(Error::InvalidArgumentError(Argument::ItemType)),
+            Some(_) => Err(Error::InvalidArgumentError(ArgumentError::ItemType)),
         }
     }
 
@@ -510,8 +514,8 @@ impl MutableArray for MutableStructArray {
 
     #[tactic(auto, using(crate::proofs::Over::emptied_none))]
     fn as_box(&mut self) -> Result<AnyArray, Error> {
-        if !self.whole() {
-            return Err(Error::InvalidArgumentError(Argument::Unfinished));
+        if !self.complete() {
+            return Err(Error::InvalidArgumentError(ArgumentError::Incomplete));
         }
         self.frozen()
     }

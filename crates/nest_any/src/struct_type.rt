@@ -1,4 +1,4 @@
-//! The data types of builders of records.
+//! Data types of struct builders.
 ghost use Rattle.std.specs.Prelude.{◌≡◌, ◌<◌};
 ghost use Rattle.nest_memory.specs.TypeTree.{count_fields, fields_of};
 ghost use Rattle.nest_memory.specs.TypeOf.{field_list_of};
@@ -9,7 +9,7 @@ use nest_memory::datatypes::DataType;
 use nest_memory::datatypes::field::Field;
 use std::marker::Model;
 
-/// A data type of records of at least one field.
+/// A struct type with at least one field.
 #[derive(Drop)]
 pub(crate) struct StructType {
     data_type: DataType,

@@ -1,5 +1,5 @@
--- Lists of runs of one function of places. Where two lists of runs have the same lengths, they are the same exactly where the runs that
--- they join to are.
+-- Lists of runs of one function of indices. Two lists of runs of the same lengths are equal exactly if the
+-- concatenated runs are equal.
 use Rattle.std.specs.Prelude.{◌↔◌, IsTrue}
 use Rattle.std.proofs.Common.{◌≡◌, ℕ, zero, suc, ◌+◌, ◌-◌, ◌<◌, ◌≤◌, Bool, length, ap, sym, ◌∙◌, subst, arith}
 use Rattle.nest_model.specs.Accessors.{validity_of, child_of}
@@ -13,7 +13,7 @@ use Rattle.nest_flat.specs.SameRuns.{same-at}
 use Rattle.nest_array.specs.RowSlots.{AreRows, EachValid, SameBounds, bound_of}
 use Rattle.nest_array.proofs.Counts.{nodes-split, nodes-more, same-part, same-joined}
 
--- the run from place k of some bounds to the next
+-- the run from bound k to the next bound
 abbrev part : (ℕ → Slot) → (ℕ → ℕ) → ℕ → Slots
 part f b k = seal (run f (b k) (b (suc k) - b k))
 
@@ -31,7 +31,7 @@ below : (b : ℕ → ℕ) (n k j : ℕ) → Rising b n → n ≡ k + j → b k �
 below b n k zero h e = let x : k ≡ n = omega arith in let y = ap b x in omega arith
 below b n k (suc j) h e = let x = below b n (suc k) j h (omega arith) in let y = h k (omega arith) in omega arith
 
--- as long each, so as far from the first
+-- parts of equal lengths have equal distances from the first bound
 pub far : (b c : ℕ → ℕ) (n : ℕ) → Rising b n → Rising c n → ((j : ℕ) → j < n → b (suc j) - b j ≡ c (suc j) - c j) → Shifted b c n
 far b c n h k e zero l = omega arith
 far b c n h k e (suc j) l =
@@ -41,7 +41,7 @@ far b c n h k e (suc j) l =
     let q = k j (omega arith) in
     omega arith
 
--- runs that are the same part by part are the same as a whole, and the other way round
+-- runs are equal exactly if they are equal part by part
 pub whole-same : (f g : ℕ → Slot) (b c : ℕ → ℕ) (n k : ℕ) → Rising b n → Shifted b c n → ((j : ℕ) → j < n → run f (b j) (b (suc j) - b j) ≡ run g (c j) (c (suc j) - c j)) → k ≤ n
     → run f (b 0) (b k - b 0) ≡ run g (c 0) (b k - b 0)
 whole-same f g b c n zero h s e l = let z : b 0 - b 0 ≡ 0 = omega arith in ap (run f (b 0)) z ∙ sym (ap (run g (c 0)) z)
@@ -73,7 +73,7 @@ part-same f g b c n j h s e l =
     ∙ ap (λ z. run g z (b (suc j) - b j)) v
     ∙ ap (run g (c j)) w
 
--- the nodes of lists are one each and those of the joined run
+-- the node count of lists is one each and that of the concatenated run
 list-nodes : (s : Slot) (f : ℕ → Slot) (o n : ℕ) → s ≡ slots.list (seal (run f o n)) → node_count s ≡ 1 + node_counts (run f o n)
 list-nodes s f o n e = ap node_count e ∙ ap (λ m. 1 + m) (count_within-seal (run f o n))
 
@@ -96,7 +96,7 @@ whole-nodes r f b o n (suc k) h e l =
 list-one : (xs ys : Slots) → slots.list xs ≡ slots.list ys → xs ≡ ys
 list-one xs ys e = cc
 
--- bounds from a place on
+-- bounds from an index on
 abbrev from : Layout → ℕ → ℕ → ℕ
 from a o j = bound_of a (o + j)
 
@@ -123,7 +123,7 @@ parts-same : (a b : Layout) (o p n j : ℕ) → AreRows a → AreRows b → o + 
 parts-same a b o p n j h k l m v w e i =
     seal-one _ _ (list-one _ _ (sym (from-shown a o n j h l v i) ∙ same-at (slot a) (slot b) o p n j e i ∙ from-shown b p n j k m w i))
 
--- one list more
+-- one more list
 bounds-at : (a b : Layout) (o p k j d : ℕ) → SameBounds a o b p k → bound_of a (o + (k + 1)) + bound_of b p ≡ bound_of b (p + (k + 1)) + bound_of a o → k + 1 ≡ j + d
     → bound_of a (o + j) + bound_of b p ≡ bound_of b (p + j) + bound_of a o
 bounds-at a b o p k j zero h e q =
@@ -134,7 +134,7 @@ bounds-at a b o p k j (suc d) h e q = h j (omega arith)
 pub bounds-more : (a b : Layout) (o p k : ℕ) → SameBounds a o b p k → bound_of a (o + (k + 1)) + bound_of b p ≡ bound_of b (p + (k + 1)) + bound_of a o → SameBounds a o b p (k + 1)
 bounds-more a b o p k h e j l = bounds-at a b o p k j (k + 1 - j) h e (omega arith)
 
--- lists that are the same have as many items each
+-- equal lists have equal numbers of items
 pub lists-bounds : (a b : Layout) (o p n : ℕ) → AreRows a → AreRows b → o + n ≤ len a → p + n ≤ len b → EachValid (validity_of a) o n → EachValid (validity_of b) p n
     → run (slot a) o n ≡ run (slot b) p n → SameBounds a o b p n
 lists-bounds a b o p n h k l m v w e =
@@ -147,7 +147,7 @@ lists-bounds a b o p n h k l m v w e =
 run-along : (f : ℕ → Slot) (o p n m : ℕ) → o ≡ p → n ≡ m → run f o n ≡ run f p m
 run-along f o p n m e h = λ i. run f (e i) (h i)
 
--- and lists that have as many items each are the same exactly where all their items are
+-- lists with equal numbers of items are equal exactly if all their items are
 pub lists-joined : (a b : Layout) (o p n m : ℕ) (r : Bool) → AreRows a → AreRows b → o + n ≤ len a → p + n ≤ len b → EachValid (validity_of a) o n → EachValid (validity_of b) p n
     → SameBounds a o b p n → bound_of a o + m ≡ bound_of a (o + n) → (IsTrue r ↔ (run (slot (child_of a)) (bound_of a o) m ≡ run (slot (child_of b)) (bound_of b p) m))
     → IsTrue r ↔ (run (slot a) o n ≡ run (slot b) p n)
@@ -177,7 +177,7 @@ lists-nodes a o n m h l v e =
     whole-nodes (slot a) (slot (child_of a)) (from a o) o n n (from-rising a o n h l) (λ j q. from-shown a o n j h l v q) (omega arith)
     ∙ ap (λ ss. n + node_counts ss) (run-along (slot (child_of a)) _ _ _ _ x z)
 
--- they end within the items
+-- no bound is past the last one
 rows-below : (a : Layout) (k j : ℕ) → AreRows a → len a ≡ k + j → bound_of a k ≤ bound_of a (len a)
 rows-below a k zero h e = let x : k ≡ len a = omega arith in let y = ap (bound_of a) x in omega arith
 rows-below a k (suc j) h e = let x = rows-below a (suc k) j h (omega arith) in let y = h.rises k (omega arith) in omega arith

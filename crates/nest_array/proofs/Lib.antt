@@ -18,5 +18,5 @@ pub mod ShownTypes
 pub mod Tables
 pub mod UnionChecks
 pub mod Windows
-pub mod NullFaults
+pub mod NullErrors
 pub mod NullMakes

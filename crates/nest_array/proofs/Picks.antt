@@ -1,4 +1,4 @@
--- What the slots of a union pick.
+-- The slots that a union selects.
 use Rattle.std.specs.Prelude.{◌↔◌, IsTrue, Option, Some, List as Seq, [], ◌∷◌}
 use Rattle.std.proofs.Common.{◌≡◌, ℕ, zero, suc, ◌+◌, ◌<◌, ◌≤◌, ℤ, pos, Bool, false, length, get_or, refl, ap, sym, ◌∙◌, subst, arith}
 use Rattle.nest_memory.specs.TypeTree.{TypeTree, fields_of, ids_of}
@@ -8,7 +8,7 @@ use Rattle.nest_model.specs.Facts.{IsUnion}
 use Rattle.nest_model.specs.FactLaws.{union-facts}
 use Rattle.nest_model.specs.Fits.{EachType}
 use Rattle.nest_model.specs.Layout.{Layout, Layouts, no_layouts, more_layouts, union, layout_type, count_layouts, weight, weight_all}
-use Rattle.nest_model.specs.Meaning.{len, run, slot, union_place}
+use Rattle.nest_model.specs.Meaning.{len, run, slot, union_index}
 use Rattle.nest_model.specs.Nullness.{has_keys, is_null_at}
 use Rattle.nest_model.specs.NullnessLaws.{slot-null_at}
 use Rattle.nest_model.specs.Part.{field_named}
@@ -24,11 +24,11 @@ use Rattle.nest_array.proofs.Counts.{nodes-one}
 use Rattle.nest_array.proofs.LogicalTypes.{same-fields}
 use Rattle.nest_array.proofs.SameRows.{types-same}
 
--- a union, by the parts that it shows
+-- a union, by its parts
 abbrev pub IsUnionOf : Layout → Type 0
 IsUnionOf a = a ≡ union (layout_type a) (types_of a) (children_of a) (union_offsets_of a) (start_of a)
 
--- one of some fields
+-- one of several fields
 pub child_at-layouts : (xs : Seq AnyArray) (f : ℕ) (d : AnyArray) → f < length xs → child_at (layouts_of xs) f ≡ layout_of (get_or xs f d)
 child_at-layouts [] f d h = absurd (omega arith)
 child_at-layouts (x ∷ xs) zero d h = refl
@@ -51,11 +51,11 @@ child-lighter a xs f x u e h i =
     let l = weight-at xs f x (omega (arith, n, m, h)) in
     omega (arith, v, w, k, l)
 
--- slot i picks field f
+-- slot i selects field f
 pub record PicksField (a : Layout) (i f : ℕ) : Type 0 where
   pub field_there : f < count_layouts (children_of a)
-  pub slot_there : union_place (union_offsets_of a) (start_of a) i < len (child_at (children_of a) f)
-  pub picks : slot a i ≡ slots.pick f (layout_type (child_at (children_of a) f)) (slot (child_at (children_of a) f) (union_place (union_offsets_of a) (start_of a) i))
+  pub slot_there : union_index (union_offsets_of a) (start_of a) i < len (child_at (children_of a) f)
+  pub picks : slot a i ≡ slots.pick f (layout_type (child_at (children_of a) f)) (slot (child_at (children_of a) f) (union_index (union_offsets_of a) (start_of a) i))
 
 some-one : (f g : ℕ) → Some f ≡ Some g → f ≡ g
 some-one f g e = cc
@@ -66,7 +66,7 @@ union-picks t ks cs os start i f h k e =
     let p = union-slot t ks cs os start i h k in
     let q : p.0 ≡ f = some-one p.0 f (sym p.1.means ∙ e) in
     let c = child_at cs p.0 in
-    let there = slot-place c (union_place os start i) slots.null p.1.slot_there in
+    let there = slot-place c (union_index os start i) slots.null p.1.slot_there in
     let x : PicksField (union t ks cs os start) i p.0 = record { field_there = p.1.field_there; slot_there = p.1.slot_there; picks = p.1.picks ∙ ap (slots.pick p.0 (layout_type c)) there } in
     subst (PicksField (union t ks cs os start) i) q x
 
@@ -100,7 +100,7 @@ field-types a b f h u k v e g =
     let s = types-same (fields_of (layout_type b)) (children_of a) (children_of b) (subst (λ fs. EachType fs (children_of a)) (same-fields (layout_type a) (layout_type b) e) x.each_type) y.each_type in
     type-at (children_of a) (children_of b) f s g
 
--- picks of different fields are different
+-- picks of different fields differ
 pick-field : (f g : ℕ) (t u : TypeTree) (s q : Slot) → slots.pick f t s ≡ slots.pick g u q → f ≡ g
 pick-field f g t u s q e = cc
 
@@ -110,7 +110,7 @@ pick-slot f g t u s q e = cc
 pub picks-differ : (a b : Layout) (i j f g : ℕ) → PicksField a i f → PicksField b j g → (f ≡ g → ⊥) → IsTrue false ↔ (slot a i ≡ slot b j)
 picks-differ a b i j f g p q n = (λ t. cc, λ e. absurd (n (pick-field f g _ _ _ _ (sym p.picks ∙ e ∙ q.picks))))
 
--- picks of one field are the same where their slots are
+-- picks of one field are equal if their slots are
 run-one : (s q : ℕ → Slot) (i j : ℕ) (r : Bool) → (IsTrue r ↔ (run s i 1 ≡ run q j 1)) → IsTrue r ↔ (s i ≡ q j)
 run-one s q i j r h =
     let x : i + 0 ≡ i = omega arith in
@@ -120,20 +120,20 @@ run-one s q i j r h =
     )
 
 pub picks-same : (a b : Layout) (i j f g : ℕ) (c d : Layout) (m n : ℕ) (r : Bool) → PicksField a i f → PicksField b j g → f ≡ g → layout_type (child_at (children_of a) f) ≡ layout_type (child_at (children_of b) g)
-    → child_at (children_of a) f ≡ c → child_at (children_of b) g ≡ d → m ≡ union_place (union_offsets_of a) (start_of a) i → n ≡ union_place (union_offsets_of b) (start_of b) j
+    → child_at (children_of a) f ≡ c → child_at (children_of b) g ≡ d → m ≡ union_index (union_offsets_of a) (start_of a) i → n ≡ union_index (union_offsets_of b) (start_of b) j
     → (IsTrue r ↔ (run (slot c) m 1 ≡ run (slot d) n 1)) → IsTrue r ↔ (slot a i ≡ slot b j)
 picks-same a b i j f g c d m n r p q e t x y u v h =
     let k = run-one (slot c) (slot d) m n r h in
-    let left : slot (child_at (children_of a) f) (union_place (union_offsets_of a) (start_of a) i) ≡ slot c m = λ w. slot (x w) (sym u w) in
-    let right : slot (child_at (children_of b) g) (union_place (union_offsets_of b) (start_of b) j) ≡ slot d n = λ w. slot (y w) (sym v w) in (
+    let left : slot (child_at (children_of a) f) (union_index (union_offsets_of a) (start_of a) i) ≡ slot c m = λ w. slot (x w) (sym u w) in
+    let right : slot (child_at (children_of b) g) (union_index (union_offsets_of b) (start_of b) j) ≡ slot d n = λ w. slot (y w) (sym v w) in (
       λ s. p.picks ∙ (λ w. slots.pick (e w) (t w) ((left ∙ k.0 s ∙ sym right) w)) ∙ sym q.picks,
       λ s. k.1 (sym left ∙ pick-slot f g _ _ _ _ (sym p.picks ∙ s ∙ q.picks) ∙ right),
     )
 
--- and a pick is worth one more than its slot
-pub pick-nodes : (a : Layout) (i f : ℕ) (c : Layout) (m : ℕ) → PicksField a i f → child_at (children_of a) f ≡ c → m ≡ union_place (union_offsets_of a) (start_of a) i → node_count (slot a i) ≡ 1 + node_counts (run (slot c) m 1)
+-- the node count of a pick is one more than that of its slot
+pub pick-nodes : (a : Layout) (i f : ℕ) (c : Layout) (m : ℕ) → PicksField a i f → child_at (children_of a) f ≡ c → m ≡ union_index (union_offsets_of a) (start_of a) i → node_count (slot a i) ≡ 1 + node_counts (run (slot c) m 1)
 pick-nodes a i f c m p x u =
-    let e : slot (child_at (children_of a) f) (union_place (union_offsets_of a) (start_of a) i) ≡ slot c m = λ w. slot (x w) (sym u w) in
+    let e : slot (child_at (children_of a) f) (union_index (union_offsets_of a) (start_of a) i) ≡ slot c m = λ w. slot (x w) (sym u w) in
     let n = ap node_count e in
     let o = nodes-one (slot c) m in
     let q = ap node_count p.picks in

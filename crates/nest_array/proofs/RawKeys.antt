@@ -1,4 +1,4 @@
--- Raw keys are looked at where some key is valid.
+-- Raw keys are checked if some key is valid.
 use Rattle.std.specs.Prelude.{◌↔◌, IsTrue, not, cond}
 use Rattle.std.specs.List.{count_by, range_with_len}
 use Rattle.std.proofs.Common.{◌≡◌, ℕ, zero, suc, ◌+◌, ◌<◌, ◌≤◌, Bool, true, false, refl, ap, sym, ◌∙◌, arith}
@@ -15,7 +15,7 @@ use Rattle.nest_model.specs.Part.{valid_at}
 abbrev IsNative : PrimitiveType → Layout → Type 0
 IsNative k a = a ≡ primitive k (layout_type a) (natives_of a) (validity_of a)
 
--- where all places are counted each is one, else one is none
+-- if all indices are counted, each one is, otherwise one is not
 first-counted : (b : Bool) (c n : ℕ) → cond b 1 0 + c ≡ suc n → c ≤ n → (b ≡ true) × (c ≡ n)
 first-counted true c n h l = (refl, omega (arith, h))
 first-counted false c n h l = absurd (omega (arith, h, l))
@@ -63,7 +63,7 @@ not-false : (b : Bool) → not b ≡ false → b ≡ true
 not-false true h = refl
 not-false false h = cc
 
--- where all keys are null no raw key is looked at, else each is
+-- if all keys are null no raw key is checked, otherwise each one is
 pub none-looked_at : (k : PrimitiveType) (a : Layout) (n : ℕ) → IsNative k a → null_count a ≡ len a → KeysInRange a n
 none-looked_at k a n e h s =
     let p = all-counted (is_null_at a) 0 (len a) s.0 h s.1 in

@@ -1,4 +1,4 @@
--- When rows and records are the same.
+-- Equality of rows and of structs.
 use Rattle.std.specs.Prelude.{◌↔◌, ◌⊎◌, IsTrue, Some, not, if◌then◌else◌, List as Seq, [], ◌∷◌}
 use Rattle.std.proofs.Common.{◌≡◌, ℕ, zero, suc, ◌+◌, ◌<◌, ◌≤◌, Bool, true, false, length, refl, ap, sym, ◌∙◌, subst, inl, inr, arith}
 use Rattle.nest_memory.specs.TypeTree.{TypeTree, FieldTrees, no_fields, more_fields, fields_of, logical_type}
@@ -25,14 +25,14 @@ use Rattle.nest_array.proofs.Children.{covers}
 use Rattle.nest_array.proofs.Counts.{nodes-more}
 use Rattle.nest_array.proofs.LogicalTypes.{same-fields}
 
--- lists of the same items are the same
+-- equal lists have equal items
 list-one : (xs ys : Slots) → slots.list xs ≡ slots.list ys → xs ≡ ys
 list-one xs ys e = cc
 
 pub lists-same : (xs ys : Seq Slot) (r : Bool) → (IsTrue r ↔ (xs ≡ ys)) → IsTrue r ↔ (slots.list (seal xs) ≡ slots.list (seal ys))
 lists-same xs ys r h = (λ t. ap (λ ss. slots.list (seal ss)) (h.0 t), λ e. h.1 (seal-one xs ys (list-one (seal xs) (seal ys) e)))
 
--- and have as many
+-- and equally many
 pub lists-differ : (f g : ℕ → Slot) (o n p m : ℕ) → (n ≡ m → ⊥) → IsTrue false ↔ (slots.list (seal (run f o n)) ≡ slots.list (seal (run g p m)))
 lists-differ f g o n p m d =
     (λ t. cc, λ e. absurd (d (sym (length-run f o n) ∙ ap length (seal-one (run f o n) (run g p m) (list-one _ _ e)) ∙ length-run g p m)))
@@ -49,7 +49,7 @@ types-same (more_fields f fs) no_layouts ds a b = absurd a
 types-same (more_fields f fs) (more_layouts c cs) no_layouts a b = absurd b
 types-same (more_fields f fs) (more_layouts c cs) (more_layouts d ds) a b = (a.0 ∙ sym b.0, types-same fs cs ds a.1 b.1)
 
--- records of children whose runs are the same are the same at each place
+-- structs of children with equal runs are equal at each index
 first-one : (s t : Slot) (x y : Slots) → slots.more_slots s x ≡ slots.more_slots t y → s ≡ t
 first-one s t x y e = cc
 
@@ -77,7 +77,7 @@ each-same (more_layouts c cs) (more_layouts d ds) o p n t h = (
 record-one : (x y : Slots) → slots.record_of x ≡ slots.record_of y → x ≡ y
 record-one x y e = cc
 
--- what the children's runs say of runs of records, where all of them are valid
+-- runs of valid structs are equal exactly if those of their children are
 pub records-same : (f g : ℕ → Slot) (cs ds : Layouts) (o p n : ℕ) (r : Bool) → ((i : ℕ) → i < n → f (o + i) ≡ slots.record_of (each cs (o + i))) → ((i : ℕ) → i < n → g (p + i) ≡ slots.record_of (each ds (p + i)))
     → SameTypes cs ds → (IsTrue r ↔ SameChildren cs o ds p n) → IsTrue r ↔ (run f o n ≡ run g p n)
 records-same f g cs ds o p n r a b t h = (
@@ -85,7 +85,7 @@ records-same f g cs ds o p n r a b t h = (
   λ e. h.1 (each-same cs ds o p n t (λ i k. record-one _ _ (sym (a i k) ∙ same-at f g o p n i e k ∙ b i k))),
 )
 
--- and of one record
+-- the same for one struct
 pub record-same : (s q : Slot) (cs ds : Layouts) (i j : ℕ) (r : Bool) → s ≡ slots.record_of (each cs i) → q ≡ slots.record_of (each ds j)
     → SameTypes cs ds → (IsTrue r ↔ SameChildren cs i ds j 1) → IsTrue r ↔ (s ≡ q)
 record-same s q cs ds i j r a b t h =
@@ -97,7 +97,7 @@ record-same s q cs ds i j r a b t h =
           ap (λ m. each cs (i + m)) z ∙ sym (ap (each cs) x) ∙ record-one _ _ (sym a ∙ e ∙ b) ∙ ap (each ds) y ∙ sym (ap (λ m. each ds (j + m)) z))),
     )
 
--- what is known of the children of an array of records
+-- properties of the children of a struct array
 pub struct-known : (a : Layout) (cs : Layouts) → TopFits a → a ≡ struct (layout_type a) (children_of a) (validity_of a) → cs ≡ children_of a → IsStruct (layout_type a) cs (validity_of a)
 struct-known a cs h e f = subst (λ ds. IsStruct (layout_type a) ds (validity_of a)) (sym f) (struct-facts (layout_type a) (children_of a) (validity_of a) (subst TopFits e h))
 
@@ -107,7 +107,7 @@ children-typed t u cs ds va wa f g e = types-same (fields_of u) cs ds (subst (λ
 pub children-cover : (a : Layout) (cs : Layouts) (k : ℕ) → IsStruct (layout_type a) cs (validity_of a) → a ≡ struct (layout_type a) (children_of a) (validity_of a) → cs ≡ children_of a → k ≤ len a → EachCovers cs k
 children-cover a cs k f e g h = covers cs (first_len cs) k f.each_len (omega (arith, h, ap len e, ap first_len g))
 
--- a valid record is that of its children's slots
+-- a valid struct has the slots of its children
 shown : (b : Bool) (s : Slot) → not b ≡ false → (if b then s else slots.null) ≡ s
 shown true s h = refl
 shown false s h = cc
@@ -128,7 +128,7 @@ records-shown a cs o n i e f v h =
     ∙ shown-valid (valid_at (validity_of a) (o + i)) (slots.record_of (each (children_of a) (o + i))) (v i h)
     ∙ ap (λ ds. slots.record_of (each ds (o + i))) (sym f)
 
--- the nodes of records are one each and those of the children
+-- the node count of structs is one each and that of the children
 children-more : (cs : Layouts) (o k : ℕ) → children_nodes cs o (k + 1) ≡ children_nodes cs o k + count_within (each cs (o + k))
 children-more no_layouts o k = refl
 children-more (more_layouts c cs) o k = let a = nodes-more (slot c) o k in let b = children-more cs o k in omega arith
@@ -160,7 +160,7 @@ record-nodes s cs i e =
     let v = ap (children_nodes cs i) w in
     omega arith
 
--- children that are still to be compared, where those before are the same
+-- children left to compare, where those before are equal
 pub record Left (xs ys zs ws : Seq AnyArray) (o p n : ℕ) : Type 0 where
   pub same_types : SameTypes (layouts_of zs) (layouts_of ws)
   pub within : EachCovers (layouts_of zs) (o + n)
@@ -193,7 +193,7 @@ none-left (z ∷ zs) [] o p n t e = absurd t
 none-left (z ∷ zs) (w ∷ ws) o p n t (inl e) = absurd (omega arith)
 none-left (z ∷ zs) (w ∷ ws) o p n t (inr e) = absurd (omega arith)
 
--- the slots of a window as a run of its array's
+-- the slots of a window as a run of its array
 pub window-run : (w : WindowParts) (a : Layout) (o n : ℕ) → a ≡ w.array → o ≡ w.offset → n ≡ w.count → w.offset + w.count ≤ len w.array → run (slot a) o n ≡ window_slots w
 window-run w a o n e f g h = (λ i. run (slot (e i)) (f i) (g i)) ∙ items-cut w.array w.offset w.count h
 

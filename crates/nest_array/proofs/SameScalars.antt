@@ -1,4 +1,4 @@
--- When scalars are the same.
+-- Equality of scalars.
 use Rattle.std.specs.Prelude.{List as Seq, [], ◌∷◌, Some}
 use Rattle.std.proofs.Common.{◌≡◌, ℕ, zero, suc, ◌+◌, ◌<◌, ◌≤◌, length, get_or, drop, refl, ap, sym, ◌∙◌, arith}
 use Rattle.std.proofs.lemmas.List.{drop_more, drop_all}

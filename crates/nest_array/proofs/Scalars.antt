@@ -1,7 +1,7 @@
--- Scalars of arrays, made one after another and part for part.
+-- Scalars of arrays, built one after another and part by part.
 use Rattle.std.specs.Prelude.{List as Seq, [], ◌∷◌, Some, if◌then◌else◌}
 use Rattle.std.proofs.Common.{◌≡◌, ℕ, suc, ◌+◌, ◌<◌, ◌≤◌, Bool, true, false, length, get_or, refl, ap, sym, ◌∙◌, subst, arith}
-use Rattle.nest_memory.specs.Cut.{cut}
+use Rattle.nest_memory.specs.Sublist.{sublist}
 use Rattle.nest_memory.specs.Physical.{physical_type}
 use Rattle.nest_memory.specs.TypeTree.{TypeTree, item_type, fields_of}
 use Rattle.nest_memory.specs.declared.datatypes.physical_type.PhysicalType.TheVariants as physical
@@ -43,28 +43,28 @@ made-types (p ∷ ps) (x ∷ xs) i l h =
     let b = made-types ps xs i (omega arith) (λ k d e n. h (suc k) d e (omega arith)) in
     cc
 
--- a value that is valid is the slot
+-- a valid value is the slot
 pub valid-shown : (b : Bool) (s t : Slot) → s ≡ (if b then t else slots.null) → (s ≡ slots.null → ⊥) → t ≡ s
 valid-shown true s t e h = sym e
 valid-shown false s t e h = absurd (h e)
 
--- a native value is of the kind of its array
+-- a native value has the primitive type of its array
 pub native-typed : (t : TypeTree) (k l : PrimitiveType) → physical_type t ≡ physical.Primitive k → l ≡ k → physical_type (shown_type t) ≡ physical.Primitive l
 native-typed t k l h e = shown-native t k h ∙ ap physical.Primitive (sym e)
 
--- the items of a row, cut out of a copy of all items, spell the row's slot
-pub items-spell : (c d e : Layout) (o n : ℕ) (s : Slot) → d ≡ c → slots_of e ≡ cut (slots_of d) o n → o + n ≤ len c → slots.list (seal (run (slot c) o n)) ≡ s → slots.list (seal (slots_of e)) ≡ s
-items-spell c d e o n s f g h k = ap (λ ss. slots.list (seal ss)) (g ∙ ap (λ x. cut (slots_of x) o n) f ∙ sym (items-cut c o n h)) ∙ k
+-- the items of a row, sliced from a copy of all items, represent the row's slot
+pub items-spell : (c d e : Layout) (o n : ℕ) (s : Slot) → d ≡ c → slots_of e ≡ sublist (slots_of d) o n → o + n ≤ len c → slots.list (seal (run (slot c) o n)) ≡ s → slots.list (seal (slots_of e)) ≡ s
+items-spell c d e o n s f g h k = ap (λ ss. slots.list (seal ss)) (g ∙ ap (λ x. sublist (slots_of x) o n) f ∙ sym (items-cut c o n h)) ∙ k
 
--- and have the type that the lists name
+-- and have the item type of the lists
 pub items-typed : (t : TypeTree) (c d e : Layout) → item_type t ≡ Some (layout_type c) → d ≡ c → layout_type e ≡ layout_type d → item_type (shown_type t) ≡ Some (layout_type e)
 items-typed t c d e h f g = shown-items t (layout_type e) (h ∙ ap (λ x. Some x) (sym (g ∙ ap layout_type f)))
 
--- a record's scalars have the types of its fields
+-- the scalars of a struct have the types of its fields
 pub fields-typed : (a : Layout) (cs : Layouts) (ts : Seq TypeTree) → IsStruct (layout_type a) cs (validity_of a) → ts ≡ child_types cs → field_types (fields_of (shown_type (layout_type a))) ≡ ts
 fields-typed a cs ts f e = ap field_types (shown-fields (layout_type a) f.typed) ∙ each-typed (fields_of (layout_type a)) cs f.each_type ∙ sym e
 
--- what a pick holds, and the pick again
+-- the scalar of a pick
 pub pick-held : (f i : ℕ) (s : Slot) (c d : Layout) (p : ScalarParts) → s ≡ slots.pick f (layout_type c) (slot c i) → d ≡ c → p ≡ scalar_parts (layout_type d) (slot d i) → IsPickOf s p
 pick-held f i s c d p e g h = subst (λ z. IsPickOf z p) (sym e) (h ∙ ap (λ x. scalar_parts (layout_type x) (slot x i)) g)
 

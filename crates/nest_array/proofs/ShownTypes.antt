@@ -15,7 +15,7 @@ use Rattle.nest_array.specs.SeenScalar.{shown_type, ValueFits}
 use Rattle.nest_array.specs.declared.scalar.ScalarValue.{ScalarValue}
 use Rattle.nest_array.specs.declared.scalar.ScalarValue.TheVariants.{Native, List, Struct}
 
--- a type that is no dictionary's shows what it is itself
+-- the physical type of a shown type is that of the type, unless it is a dictionary type
 pub shown-native : (t : TypeTree) (k : PrimitiveType) → physical_type t ≡ physical.Primitive k → physical_type (shown_type t) ≡ physical.Primitive k
 shown-native (types.dictionary l t b) k e = cc
 shown-native (types.extension n t m) k e = shown-native t k e
@@ -38,7 +38,7 @@ each-typed no_fields (more_layouts c cs) h = absurd h
 each-typed (more_fields f fs) no_layouts h = absurd h
 each-typed (more_fields f fs) (more_layouts c cs) h = let p = h.0 in let q = each-typed fs cs h.1 in cc
 
--- a dictionary's type shows what the type of its values does
+-- the shown type of a dictionary type is that of its value type
 shown-logical : (t : TypeTree) → shown_type (logical_type t) ≡ shown_type t
 shown-logical (types.extension n t m) = shown-logical t
 shown-logical t = refl
@@ -57,7 +57,7 @@ shown-keyed a h e =
     let x = subst TopFits e h in
     shown-kept (layout_type a) (layout_type (child_of a)) (value_type (layout_type a)) refl x.1.1.1.0
 
--- what fits a type fits one that shows the same
+-- a value that fits a type fits every type of the same shown type
 pub fits-along : (t u : TypeTree) (v : ScalarValue) → shown_type t ≡ shown_type u → ValueFits t v → ValueFits u v
 fits-along t u (Native x) e h = ap physical_type (sym e) ∙ h
 fits-along t u (List a) e h = ap item_type (sym e) ∙ h

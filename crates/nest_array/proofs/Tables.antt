@@ -8,10 +8,10 @@ use Rattle.std.proofs.lemmas.List.{get_or_past, length-take-le}
 use Rattle.std.proofs.lemmas.Option.{slice_get-get_or}
 use Rattle.nest_model.specs.Fits.{Names, EachCovers, EachNames, EachMeansField, IdsInRange, MeansField, SlotsThere, child_len}
 use Rattle.nest_model.specs.Layout.{Layouts, count_layouts}
-use Rattle.nest_model.specs.Part.{field_named, last_place}
+use Rattle.nest_model.specs.Part.{field_named, last_position}
 use Rattle.nest_array.specs.Positions.{IsTable, SlotsMeant, meant, position}
 
--- the last place of a number in a list with one number more
+-- the last index of a number in a list with one number prepended
 abbrev before : ℤ → ℤ → Option ℕ → Option ℕ
 before y z o = elim o as (λ _. Option ℕ) [ Some k ↦ Some (suc k) | None ↦ if int_eq y z then Some 0 else None ]
 
@@ -19,18 +19,18 @@ before-more : (y z : ℤ) (b : Bool) (n : ℕ) (o : Option ℕ) → before y z (
 before-more y z true n o = refl
 before-more y z false n o = refl
 
-last-more : (xs : List ℤ) (x z : ℤ) → last_place (xs ++ x ∷ []) z ≡ (if int_eq x z then Some (length xs) else last_place xs z)
+last-more : (xs : List ℤ) (x z : ℤ) → last_position (xs ++ x ∷ []) z ≡ (if int_eq x z then Some (length xs) else last_position xs z)
 last-more [] x z = refl
-last-more (y ∷ xs) x z = ap (before y z) (last-more xs x z) ∙ before-more y z (int_eq x z) (length xs) (last_place xs z)
+last-more (y ∷ xs) x z = ap (before y z) (last-more xs x z) ∙ before-more y z (int_eq x z) (length xs) (last_position xs z)
 
--- the last place of a number, if there is one
+-- p is the last index of a number, if there is one
 abbrev pub IsLast : List ℤ → ℤ → ℕ → Type 0
-IsLast ids z p = (f : ℕ) → last_place ids z ≡ Some f → f ≡ p
+IsLast ids z p = (f : ℕ) → last_position ids z ≡ Some f → f ≡ p
 
 one-place : (f p : ℕ) → Some f ≡ Some p → f ≡ p
 one-place f p e = cc
 
-last-by : (b : Bool) (ids : List ℤ) (z : ℤ) (n p q : ℕ) → (b ≡ true → n ≡ q) → (b ≡ false → p ≡ q) → IsLast ids z p → (f : ℕ) → (if b then Some n else last_place ids z) ≡ Some f → f ≡ q
+last-by : (b : Bool) (ids : List ℤ) (z : ℤ) (n p q : ℕ) → (b ≡ true → n ≡ q) → (b ≡ false → p ≡ q) → IsLast ids z p → (f : ℕ) → (if b then Some n else last_position ids z) ≡ Some f → f ≡ q
 last-by true ids z n p q t u h f e = sym (one-place n f e) ∙ t refl
 last-by false ids z n p q t u h f e = h f e ∙ u refl
 
@@ -40,9 +40,9 @@ last-on ids k p q x z d l e t u h f g =
     let y : take (k + 1) ids ≡ take k ids ++ (x ∷ []) = ap (λ j. take j ids) w ∙ take-suc ids k d l ∙ ap (λ a. take k ids ++ (a ∷ [])) e in
     let s = Decides-int_eq x z in
     let n : length (take k ids) ≡ k = length-take-le k ids (omega arith) in
-    last-by (int_eq x z) (take k ids) z (length (take k ids)) p q (λ b. n ∙ t (s.0 b)) (λ b. u (λ a. let v : false ≡ true = sym b ∙ s.1 a in cc)) h f (sym (ap (λ a. last_place a z) y ∙ last-more (take k ids) x z) ∙ g)
+    last-by (int_eq x z) (take k ids) z (length (take k ids)) p q (λ b. n ∙ t (s.0 b)) (λ b. u (λ a. let v : false ≡ true = sym b ∙ s.1 a in cc)) h f (sym (ap (λ a. last_position a z) y ∙ last-more (take k ids) x z) ∙ g)
 
--- what stands at the last place of a number
+-- the number at its last index
 holds-on : (x z : ℤ) (ids : List ℤ) (b : Bool) (o : Option ℕ) (f : ℕ) (d : ℤ) → int_eq x z ≡ b → (b ≡ true → x ≡ z) → ((g : ℕ) → o ≡ Some g → (g < length ids) × (get_or ids g d ≡ z)) → before x z o ≡ Some f → (f < length (x ∷ ids)) × (get_or (x ∷ ids) f d ≡ z)
 holds-on x z ids b (Some g) f d q t h e = let p : f ≡ suc g = cc in let k = h g refl in subst (λ j. (j < length (x ∷ ids)) × (get_or (x ∷ ids) j d ≡ z)) (sym p) (omega (arith, k.0), k.1)
 holds-on x z ids true None f d q t h e =
@@ -51,17 +51,17 @@ holds-on x z ids true None f d q t h e =
     subst (λ j. (j < length (x ∷ ids)) × (get_or (x ∷ ids) j d ≡ z)) (sym p) (omega arith, t refl)
 holds-on x z ids false None f d q t h e = let u : None ≡ Some f = sym (ap (λ c. if c then Some 0 else None) q) ∙ e in cc
 
-pub last-holds : (ids : List ℤ) (z d : ℤ) (f : ℕ) → last_place ids z ≡ Some f → (f < length ids) × (get_or ids f d ≡ z)
+pub last-holds : (ids : List ℤ) (z d : ℤ) (f : ℕ) → last_position ids z ≡ Some f → (f < length ids) × (get_or ids f d ≡ z)
 last-holds [] z d f e = cc
-last-holds (x ∷ ids) z d f e = holds-on x z ids (int_eq x z) (last_place ids z) f d refl (λ b. (Decides-int_eq x z).0 b) (λ g h. last-holds ids z d g h) e
+last-holds (x ∷ ids) z d f e = holds-on x z ids (int_eq x z) (last_position ids z) f d refl (λ b. (Decides-int_eq x z).0 b) (λ g h. last-holds ids z d g h) e
 
--- ids that stand in their places
-pub in-places : (ids : List ℤ) (d : ℤ) → ((j : ℕ) → j < length ids → get_or ids j d ≡ pos j) → (z : ℤ) (f : ℕ) → last_place ids z ≡ Some f → z ≡ pos f
+-- ids that are their own indices
+pub in-places : (ids : List ℤ) (d : ℤ) → ((j : ℕ) → j < length ids → get_or ids j d ≡ pos j) → (z : ℤ) (f : ℕ) → last_position ids z ≡ Some f → z ≡ pos f
 in-places ids d h z f e = let p = last-holds ids z d f e in sym p.1 ∙ h f p.0
 
--- a place is written
+-- the table has the last index of each id
 abbrev pub HasIds : List ℕ → List ℤ → Type 0
-HasIds table ids = (k : ℕ) → k < 128 → get_or table k 127 ≡ position (last_place ids (pos k))
+HasIds table ids = (k : ℕ) → k < 128 → get_or table k 127 ≡ position (last_position ids (pos k))
 
 written : (b : Bool) (o : Option ℕ) (n k m v : ℕ) (t : List ℕ) → (b ≡ true → k ≡ m) → (k ≡ m → b ≡ true) → v ≡ n → m < length t → get_or t k 127 ≡ position o
     → get_or (set t m v) k 127 ≡ position (if b then Some n else o)
@@ -79,15 +79,15 @@ id-written table ids i m z d l h e f b t k g =
     let q = last-more (take i ids) z (pos k) in
     let s = Decides-int_eq z (pos k) in
     let n : length (take i ids) ≡ i = length-take-le i ids (omega arith) in
-    written (int_eq z (pos k)) (last_place (take i ids) (pos k)) (length (take i ids)) k m i table (λ u. pos-one k m (sym (s.0 u) ∙ f)) (λ u. s.1 (f ∙ ap pos (sym u))) (sym n) (omega (arith, l, b)) (t k g)
-    ∙ ap position (sym q) ∙ ap (λ y. position (last_place y (pos k))) (sym x)
+    written (int_eq z (pos k)) (last_position (take i ids) (pos k)) (length (take i ids)) k m i table (λ u. pos-one k m (sym (s.0 u) ∙ f)) (λ u. s.1 (f ∙ ap pos (sym u))) (sym n) (omega (arith, l, b)) (t k g)
+    ∙ ap position (sym q) ∙ ap (λ y. position (last_position y (pos k))) (sym x)
 
 -- an id from 0 to 127
 pub named-place : (z : ℤ) → Names z 128 → (m : ℕ) × (z ≡ pos m) × (m < 128)
 named-place (pos k) h = (k, refl, h)
 named-place (negsuc k) h = absurd h
 
--- a type means the field that the table has for it
+-- a type id selects the field of its table entry
 not-named : (z : ℤ) (k : ℕ) → Names z 128 → 128 ≤ k → z ≡ pos k → ⊥
 not-named (pos j) k h l e = let q = pos-one j k e in omega arith
 not-named (negsuc j) k h l e = absurd h
@@ -96,19 +96,19 @@ past : (y z : ℤ) (b : Bool) (o : Option ℕ) → int_eq y z ≡ b → (b ≡ t
 past y z true o e n h = absurd (n refl)
 past y z false o e n h = ap (before y z) h ∙ ap (λ c. if c then Some 0 else None) e
 
-none-past : (ids : List ℤ) (k : ℕ) → EachNames ids 128 → 128 ≤ k → last_place ids (pos k) ≡ None
+none-past : (ids : List ℤ) (k : ℕ) → EachNames ids 128 → 128 ≤ k → last_position ids (pos k) ≡ None
 none-past [] k h l = refl
-none-past (z ∷ ids) k h l = past z (pos k) (int_eq z (pos k)) (last_place ids (pos k)) refl (λ t. not-named z k (h 0 z (omega arith)) l ((Decides-int_eq z (pos k)).0 t)) (none-past ids k (λ j d g. h (suc j) d (omega arith)) l)
+none-past (z ∷ ids) k h l = past z (pos k) (int_eq z (pos k)) (last_position ids (pos k)) refl (λ t. not-named z k (h 0 z (omega arith)) l ((Decides-int_eq z (pos k)).0 t)) (none-past ids k (λ j d g. h (suc j) d (omega arith)) l)
 
 negative : (z : ℤ) (k : ℕ) → Names z 128 → z ≡ negsuc k → ⊥
 negative (pos j) k h e = cc
 negative (negsuc j) k h e = absurd h
 
-none-negative : (ids : List ℤ) (k : ℕ) → EachNames ids 128 → last_place ids (negsuc k) ≡ None
+none-negative : (ids : List ℤ) (k : ℕ) → EachNames ids 128 → last_position ids (negsuc k) ≡ None
 none-negative [] k h = refl
-none-negative (z ∷ ids) k h = past z (negsuc k) (int_eq z (negsuc k)) (last_place ids (negsuc k)) refl (λ t. negative z k (h 0 z (omega arith)) ((Decides-int_eq z (negsuc k)).0 t)) (none-negative ids k (λ j d g. h (suc j) d (omega arith)))
+none-negative (z ∷ ids) k h = past z (negsuc k) (int_eq z (negsuc k)) (last_position ids (negsuc k)) refl (λ t. negative z k (h 0 z (omega arith)) ((Decides-int_eq z (negsuc k)).0 t)) (none-negative ids k (λ j d g. h (suc j) d (omega arith)))
 
--- Where the table is that of the ids, a type means by the table one of n fields exactly where it means one by the ids, and then the same.
+-- By the table of the ids, a type id selects one of n fields exactly if it does by the ids, and then the same field.
 pub record Same (table : List ℕ) (ids : Option (List ℤ)) (n : ℕ) (z : ℤ) : Type 0 where
   pub means : MeansField (meant table z) n ↔ MeansField (field_named ids z) n
   pub one : MeansField (field_named ids z) n → meant table z ≡ field_named ids z
@@ -133,8 +133,8 @@ same-high table None n k t r l h =
     record { means = (λ m. absurd (omega arith), λ m. absurd (omega arith)); one = λ m. absurd (omega arith) }
 same-high table (Some ids) n k t r l h =
     let e = get_or_past table k 127 (omega (arith, t.0)) in
-    let p : get_or table k 127 ≡ position (last_place ids (pos k)) = e ∙ sym (ap position (none-past ids k r h)) in
-    record { means = of-position (last_place ids (pos k)) (get_or table k 127) n l p; one = of-position-one (last_place ids (pos k)) (get_or table k 127) n p }
+    let p : get_or table k 127 ≡ position (last_position ids (pos k)) = e ∙ sym (ap position (none-past ids k r h)) in
+    record { means = of-position (last_position ids (pos k)) (get_or table k 127) n l p; one = of-position-one (last_position ids (pos k)) (get_or table k 127) n p }
 
 means-none : (o : Option ℕ) (n : ℕ) → o ≡ None → MeansField o n → ⊥
 means-none None n e h = h
@@ -148,7 +148,7 @@ table-same table ids n (pos k) t r l = elim (within-128 k) [ inl h ↦ same-low 
 table-same table None n (negsuc k) t r l = nothing-meant table None n k refl
 table-same table (Some ids) n (negsuc k) t r l = nothing-meant table (Some ids) n k (none-negative ids k r)
 
--- so do the checks that read it
+-- so do the checks that read the table
 pub types-mean : (table : List ℕ) (ids : Option (List ℤ)) (n : ℕ) (ks : List ℤ) → IsTable table ids → IdsInRange ids → n ≤ 127
     → All (λ k. MeansField (meant table k) n) ks ↔ EachMeansField ids ks n
 types-mean table ids n ks t r l = (
@@ -167,7 +167,7 @@ slots-meant table ids ks cs (Some os) t r l m =
       λ h i g. subst (λ o. Names (get_or os i (pos 0)) (child_len cs o)) (sym (one i g)) (h i g),
     )
 
--- what a type that means a field has in the table
+-- the table entry of a type id that selects a field
 pub record Found (table : List ℕ) (ids : Option (List ℤ)) (z : ℤ) (k : ℕ) : Type 0 where
   pub kind : z ≡ pos k
   pub within : k < 128
@@ -183,6 +183,6 @@ found table ids n (negsuc k) t r l m = absurd ((table-same table ids n (negsuc k
 some-one : (x y : ℤ) → Some x ≡ Some y → x ≡ y
 some-one x y e = cc
 
--- the type of a slot, as it is read
+-- the type id of a slot, as it is read
 pub type-read : (ks : List ℤ) (i : ℕ) (z : ℤ) → i < length ks → slice_get ks i ≡ Some z → get_or ks i (pos 0) ≡ z
 type-read ks i z l e = some-one (get_or ks i (pos 0)) z (sym (slice_get-get_or ks i (pos 0) l) ∙ e)

@@ -9,11 +9,11 @@ use Rattle.nest_memory.specs.TypeTree.{TypeTree, count_fields, fields_of, ids_of
 use Rattle.nest_memory.specs.Physical.{physical_type}
 use Rattle.nest_memory.specs.declared.datatypes.physical_type.PhysicalType.TheVariants as physical
 use Rattle.nest_model.specs.Checks.{error_number, FailsOr, FailFirst, Pass}
-use Rattle.nest_model.specs.Fits.{EachType, Fits, FirstFault, Names, OffsetsByMode, OffsetsCount}
+use Rattle.nest_model.specs.Fits.{EachType, Fits, FirstError, Names, OffsetsByMode, OffsetsCount}
 use Rattle.nest_model.specs.Layout.{Layouts, union, count_layouts}
 use Rattle.nest_array.specs.Positions.{id_checks}
 
--- a check that fails, by its test
+-- a check fails if its test does
 pub refute : (r : Bool) (P : Type 0) → r ≡ false → (P → IsTrue r) → P → ⊥
 refute r P e f p = let u : false ≡ true = sym e ∙ f p in cc
 
@@ -21,7 +21,7 @@ first-or : (b : Bool) (m n : ℕ) (p r : Type 0) → nat_eq m n ≡ b → FailsO
 first-or true m n p r e f = inl (grind arith)
 first-or false m n p r e f = inr f.1
 
--- the last checks have the errors of the numbers from 12 on
+-- the last checks have errors of numbers from 12 on
 pub id-number : (ids : Option (List ℤ)) (ks : List ℤ) (cs : Layouts) (os : Option (List ℤ)) (e : Error) → FailFirst e (id_checks ids ks cs os) → 12 ≤ error_number e
 id-number ids ks cs os e f =
     elim (first-or _ (error_number e) 12 _ _ refl f) [
@@ -38,7 +38,7 @@ id-number ids ks cs os e f =
 later : (m n : ℕ) (p r : Type 0) → n < m → p → r → FailsOr (nat_eq m n) p r
 later m n p r h x y = let e : nat_eq m n ≡ false = grind arith in subst (λ b. FailsOr b p r) (sym e) (x, y)
 
--- what the checks before those say
+-- the checks before these
 pub record First (t : TypeTree) (ks : List ℤ) (cs : Layouts) (os : Option (List ℤ)) : Type 0 where
   pub typed : physical_type t ≡ physical.Union
   pub as_many : count_layouts cs ≡ count_fields (fields_of t)
@@ -50,8 +50,8 @@ pub record First (t : TypeTree) (ks : List ℤ) (cs : Layouts) (os : Option (Lis
 pub both-fit : (t : TypeTree) (ks : List ℤ) (cs : Layouts) (os : Option (List ℤ)) → First t ks cs os → Pass (id_checks (ids_of t) ks cs os) → Fits (union t ks cs os 0)
 both-fit t ks cs os h p = (h.typed, (h.as_many, (h.few, (h.types, (h.offsets, (h.mode, p))))))
 
-pub last-fault : (t : TypeTree) (ks : List ℤ) (cs : Layouts) (os : Option (List ℤ)) (e : Error) → First t ks cs os → FailFirst e (id_checks (ids_of t) ks cs os) → FirstFault e (union t ks cs os 0)
-last-fault t ks cs os e h f =
+pub last-first_error : (t : TypeTree) (ks : List ℤ) (cs : Layouts) (os : Option (List ℤ)) (e : Error) → First t ks cs os → FailFirst e (id_checks (ids_of t) ks cs os) → FirstError e (union t ks cs os 0)
+last-first_error t ks cs os e h f =
     let n = id-number (ids_of t) ks cs os e f in
     later (error_number e) 0 _ _ (omega arith) h.typed
     (later (error_number e) 7 _ _ (omega arith) h.as_many
@@ -64,7 +64,7 @@ pub matched : {A : Type 0} (r : Option A) (F P : Type 0) (G Q : A → Type 0) �
 matched {A} None F P G Q f g h = f h
 matched {A} (Some a) F P G Q f g h = g a h
 
--- an offset that is not negative names one of so many slots
+-- an offset that is not negative is an index of n slots
 pub names-nat : (z : ℤ) (m n : ℕ) → le_z (pos 0) z ≡ true → m ≡ n → IsTrue (nat_lt (nat_abs z) m) ↔ Names z n
 names-nat (pos k) m n h e = (λ t. let u : k < m = search (rules, nat_tests) in omega arith, λ t. let u : k < m = omega arith in search (rules, nat_tests))
 names-nat (negsuc k) m n h e = absurd (let u : false ≡ true = h in cc)

@@ -1,4 +1,4 @@
--- Byte strings of one size that stand behind others, and their cuts.
+-- Concatenated fixed-size binary arrays, and their slices.
 use Rattle.std.specs.Prelude.{Option, Some, None, is_some, if◌then◌else◌}
 use Rattle.std.specs.Borrow.{Bor}
 use Rattle.std.specs.Option.{option_copied}
@@ -8,15 +8,15 @@ use Rattle.std.proofs.lemmas.Bool.Decides.{eqb_tells}
 use Rattle.std.proofs.lemmas.Nat.{div-add-mod'}
 use Rattle.std.proofs.Math.Seq.{drop-append_seam}
 use Rattle.std.proofs.Math.Nat.{add-mul, mul-div_cancel}
-use Rattle.nest_memory.specs.Cut.{cut}
+use Rattle.nest_memory.specs.Sublist.{sublist}
 use Rattle.nest_memory.specs.TypeTree.{TypeTree, size_of}
 use Rattle.nest_memory.specs.Physical.{physical_type}
 use Rattle.nest_memory.specs.declared.datatypes.physical_type.PhysicalType.TheVariants as physical
-use Rattle.nest_model.specs.Part.{Validity, valid_at, cut_validity}
+use Rattle.nest_model.specs.Part.{Validity, valid_at, sliced_validity}
 use Rattle.nest_model.specs.Slot as slots
 use Rattle.nest_model.specs.Slot.{Slot}
 use Rattle.nest_model.specs.Layout.{Layout, fixed_size_binary, layout_type}
-use Rattle.nest_model.specs.Cut.{cut_layout}
+use Rattle.nest_model.specs.Slice.{slice_layout}
 use Rattle.nest_model.specs.Meaning.{run, len, slot, slots_of}
 use Rattle.nest_model.specs.Reads.{slot-place}
 use Rattle.nest_model.specs.FitsLaws.{top-fits-cut}
@@ -29,7 +29,7 @@ use Rattle.nest_flat.specs.FlatParts.{optional}
 use Rattle.nest_flat.specs.Growth.{pushed_validity, joined_validity}
 use Rattle.nest_array.specs.FixedBytes.{sized_bytes, pushed_bytes, joined_bytes, IsOtherSize}
 
--- bits of both
+-- the concatenated validity has one bit per slot
 fits-joined : (va vb : Validity) (n m : ℕ) → ValidityFits va n → ValidityFits vb m → ValidityFits (joined_validity va n vb m) (n + m)
 fits-joined None None n m h g = tt
 fits-joined None (Some more) n m h g = omega (arith, length-append (replicate n true) more, length-replicate n true)
@@ -57,7 +57,7 @@ pushed-joined None n false = refl
 pushed-joined (Some bits) n true = refl
 pushed-joined (Some bits) n false = refl
 
--- slots one after another
+-- a run is the concatenation of its parts
 run-append : (f : ℕ → Slot) (o n m : ℕ) → run f o (n + m) ≡ run f o n ++ run f (o + n) m
 run-append f o zero m =
     let z : 0 + m ≡ m = omega arith in
@@ -80,14 +80,14 @@ slots-joined a b c n m p q e f g =
     ∙ ap (λ ss. ss ++ run (slot c) n m) (run-ext (slot c) (slot a) 0 0 n (λ i k. ap (slot c) (at-zero i) ∙ f i k ∙ ap (slot a) (sym (at-zero i))))
     ∙ ap (λ ss. run (slot a) 0 n ++ ss) (run-ext (slot c) (slot b) n 0 m (λ i k. g i k ∙ ap (slot b) (sym (at-zero i)))))
 
--- windows within the first of two lists of bytes, and within the second
-cut-left : (bs cs : List ℕ) (o n : ℕ) → o + n ≤ length bs → cut (bs ++ cs) o n ≡ cut bs o n
+-- slices within the first of two concatenated lists of bytes, and within the second
+cut-left : (bs cs : List ℕ) (o n : ℕ) → o + n ≤ length bs → sublist (bs ++ cs) o n ≡ sublist bs o n
 cut-left bs cs o n h = ap (take n) (drop-append-le o bs cs (omega arith)) ∙ take-append-le n (drop o bs) cs (omega (arith, length-drop o bs))
 
-cut-right : (bs cs : List ℕ) (o n : ℕ) → cut (bs ++ cs) (length bs + o) n ≡ cut cs o n
+cut-right : (bs cs : List ℕ) (o n : ℕ) → sublist (bs ++ cs) (length bs + o) n ≡ sublist cs o n
 cut-right bs cs o n = ap (take n) (sym (drop-drop o (length bs) (bs ++ cs)) ∙ ap (drop o) (drop-append_seam bs cs))
 
--- so many slots of s bytes each
+-- x bytes are x / s slots of s bytes each
 pub exact-count : (x s : ℕ) → x % s ≡ 0 → x ≡ x / s * s
 exact-count x s h = omega (arith, div-add-mod' x s, h)
 
@@ -131,7 +131,7 @@ module _ (t : TypeTree) (bs cs : List ℕ) (n m : ℕ) (sized : 0 < size_of t) (
     ),
   )
 
--- one slot
+-- the slots of an array of one item
 one-slot : (t : TypeTree) (xs : List ℕ) (b : Bool) → 0 < size_of t → length xs ≡ size_of t
     → slots_of (fixed_size_binary t xs (if b then None else Some (false ∷ []))) ≡ (if b then slots.bytes xs else slots.null) ∷ []
 one-slot t xs true p e =
@@ -171,7 +171,7 @@ module _ (t : TypeTree) (bs : List ℕ) (va : Validity) (a : Layout) (e : fixed_
   once : (x : Option (List ℕ)) → length (sized_bytes (size_of t) x) ≡ size_of t → length (sized_bytes (size_of t) x) ≡ 1 * size_of t
   once x l = omega (arith, l)
 
-  -- a slot more
+  -- the slots after one more item
   pub pushed-slots : (x : Option (List ℕ)) → length (sized_bytes (size_of t) x) ≡ size_of t → slots_of (pushed_bytes a x) ≡ slots_of a ++ optional slots.bytes x ∷ []
   pushed-slots x l =
       rw (← e, pushed-parts t bs va x, ← (one-item t x known.sized l))
@@ -185,7 +185,7 @@ module _ (t : TypeTree) (bs : List ℕ) (va : Validity) (a : Layout) (e : fixed_
   pub pushed-type : (x : Option (List ℕ)) → layout_type (pushed_bytes a x) ≡ layout_type a
   pushed-type x = rw (← e) refl
 
-  -- the slots of another builder
+  -- the slots after appending another builder
   module _ (cs : List ℕ) (vb : Validity) (u : TypeTree) (b : Layout) (d : fixed_size_binary u cs vb ≡ b) (g : TopFits (fixed_size_binary u cs vb)) (same : t ≡ u) where
     other : IsFixedSizeBinary t cs vb
     other = fixed_size_binary-facts t cs vb (subst (λ w. TopFits (fixed_size_binary w cs vb)) (sym same) g)
@@ -206,7 +206,7 @@ module _ (t : TypeTree) (bs : List ℕ) (va : Validity) (a : Layout) (e : fixed_
     pub joined-type : layout_type (joined_bytes a b) ≡ layout_type a
     joined-type = rw (← e, ← d) refl
 
--- the parts of joined builders, by what each call says of its own
+-- the parts after appending another builder
 pub appended-parts : (t u : TypeTree) (bs cs ws ys : List ℕ) (va vb wa : Validity) (a b : Layout) (n m : ℕ) → fixed_size_binary t bs va ≡ a → fixed_size_binary u cs vb ≡ b → ws ≡ bs ++ ys → ys ≡ cs
     → wa ≡ joined_validity va n vb m → n ≡ len a → m ≡ len b → fixed_size_binary t ws wa ≡ joined_bytes (fixed_size_binary t bs va) (fixed_size_binary u cs vb)
 appended-parts t u bs cs ws ys va vb wa a b n m e d w y v k l =
@@ -228,7 +228,7 @@ pub appended-slots : (t u : TypeTree) (bs cs : List ℕ) (va vb : Validity) (a b
 appended-slots t u bs cs va vb a b e d f g h =
     ap slots_of (λ i. joined_bytes (e i) (d i)) ∙ joined-slots t bs va a e f cs vb u b d g (same-types t u bs cs va vb a b e d h)
 
--- the same of a slot more
+-- the parts after one more item
 pub added-parts : (t : TypeTree) (bs ws : List ℕ) (va wa : Validity) (a : Layout) (n s : ℕ) (x : Option (List ℕ)) → fixed_size_binary t bs va ≡ a → s ≡ size_of t → ws ≡ bs ++ sized_bytes s x
     → wa ≡ pushed_validity va n (is_some x) → n ≡ len a → fixed_size_binary t ws wa ≡ pushed_bytes (fixed_size_binary t bs va) x
 added-parts t bs ws va wa a n s x e z w v k =
@@ -248,16 +248,16 @@ pub added-fits : (t : TypeTree) (bs : List ℕ) (va : Validity) (a : Layout) (x 
     → TopFits (pushed_bytes (fixed_size_binary t bs va) x)
 added-fits t bs va a x e f h = pushed-fits t bs va a e f x (sized-item t bs va a x e h)
 
--- the first slots
-pub cut-parts : (t : TypeTree) (bs ws : List ℕ) (va wa : Validity) (a : Layout) (n s : ℕ) → fixed_size_binary t bs va ≡ a → s ≡ size_of t → ws ≡ take (n * s) bs → wa ≡ cut_validity va 0 n → fixed_size_binary t ws wa ≡ cut_layout a 0 n
+-- the parts of the first n slots
+pub cut-parts : (t : TypeTree) (bs ws : List ℕ) (va wa : Validity) (a : Layout) (n s : ℕ) → fixed_size_binary t bs va ≡ a → s ≡ size_of t → ws ≡ take (n * s) bs → wa ≡ sliced_validity va 0 n → fixed_size_binary t ws wa ≡ slice_layout a 0 n
 cut-parts t bs ws va wa a n s e z w v =
     let o : 0 ≡ 0 * size_of t = omega arith in
-    (λ i. fixed_size_binary t (w i) (v i)) ∙ (λ i. fixed_size_binary t (cut bs (o i) (n * z i)) (cut_validity va 0 n)) ∙ ap (λ b. cut_layout b 0 n) e
+    (λ i. fixed_size_binary t (w i) (v i)) ∙ (λ i. fixed_size_binary t (sublist bs (o i) (n * z i)) (sliced_validity va 0 n)) ∙ ap (λ b. slice_layout b 0 n) e
 
-pub cut-fits : (t : TypeTree) (bs : List ℕ) (va : Validity) (a : Layout) (n : ℕ) → fixed_size_binary t bs va ≡ a → TopFits (fixed_size_binary t bs va) → n ≤ len a → TopFits (cut_layout a 0 n)
+pub cut-fits : (t : TypeTree) (bs : List ℕ) (va : Validity) (a : Layout) (n : ℕ) → fixed_size_binary t bs va ≡ a → TopFits (fixed_size_binary t bs va) → n ≤ len a → TopFits (slice_layout a 0 n)
 cut-fits t bs va a n e f l = top-fits-cut a 0 n (subst TopFits e f) (omega (arith, l))
 
--- its bytes
+-- the number of bytes
 pub bytes-counted : (t : TypeTree) (bs : List ℕ) (va : Validity) (a : Layout) → fixed_size_binary t bs va ≡ a → TopFits (fixed_size_binary t bs va) → length bs ≡ len a * size_of (layout_type a)
 bytes-counted t bs va a e f = whole t bs va a e f ∙ ap (λ b. len b * size_of (layout_type b)) e
 
@@ -271,7 +271,7 @@ pub copied-some : (x : Option (Bor (List ℕ))) → is_some (option_copied x) �
 copied-some None = refl
 copied-some (Some y) = refl
 
--- other bytes, as many
+-- other bytes of the same length fit
 pub other-bytes_fit : (t : TypeTree) (bs cs : List ℕ) (va : Validity) → length cs ≡ length bs → TopFits (fixed_size_binary t bs va) → TopFits (fixed_size_binary t cs va)
 other-bytes_fit t bs cs va e f =
     let k = fixed_size_binary-facts t bs va f in

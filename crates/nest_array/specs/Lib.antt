@@ -24,3 +24,4 @@ pub mod Total
 pub mod Types
 pub mod WindowParts
 pub mod Words
+pub mod Downcasts

@@ -1,4 +1,4 @@
--- Byte strings of one size that are made of items, one after another.
+-- Fixed-size binary arrays built from items, one after another.
 use Rattle.std.specs.Prelude.{◌⊎◌, Option, Some, None, is_some, not, ◌||◌, alloc_error}
 use Rattle.std.specs.Borrow.{Bor}
 use Rattle.std.specs.List.{All}
@@ -9,7 +9,7 @@ use Rattle.std.proofs.lemmas.List.Elements.{All-nil, All-cons, All-head, All-tai
 use Rattle.nest_memory.specs.TypeTree.{size_of}
 use Rattle.nest_memory.specs.declared.error.Error.{Error}
 use Rattle.nest_memory.specs.declared.error.Error.TheVariants.{Memory, InvalidArgumentError}
-use Rattle.nest_memory.specs.declared.error.Argument.TheVariants.{ItemSize}
+use Rattle.nest_memory.specs.declared.error.ArgumentError.TheVariants.{ItemSize}
 use Rattle.nest_model.specs.Layout.{Layout, layout_type}
 use Rattle.nest_model.specs.Meaning.{slots_of}
 use Rattle.nest_model.specs.Slot as slots
@@ -17,7 +17,7 @@ use Rattle.nest_flat.specs.FlatParts.{optional}
 use Rattle.nest_flat.specs.Growth.{is_masked}
 use Rattle.nest_array.specs.FixedBytes.{IsMadeOf, IsOtherSize, has_null}
 
--- one item more
+-- one more item
 pub taken-more : {A : Type 0} (xs : List A) (i : ℕ) (x : A) → i < length xs → x ≡ get_or xs i x → take (i + 1) xs ≡ take i xs ++ x ∷ []
 taken-more xs i x h e =
     let k : i + 1 ≡ suc i = omega arith in
@@ -47,11 +47,11 @@ pub made-more : (size : ℕ) (xs : List (Option (Bor (List ℕ)))) (x : Option (
 made-more size xs x a b k s m t n =
     subst (λ ys. IsMadeOf size ys b) (sym (map-push option_copied xs x)) (made-push size (map option_copied xs) (option_copied x) a b k s m t n)
 
--- the type of what is made so far has its size
+-- the data type of the array so far has the same size
 pub made-size : (a b : Layout) (xs : List (Option (List ℕ))) → IsMadeOf (size_of (layout_type a)) xs b → size_of (layout_type b) ≡ size_of (layout_type a)
 made-size a b xs k = ap size_of k.typed
 
--- the items that were taken are of the size
+-- the items so far have the size
 pub taken-sized : (size : ℕ) (xs : List (Option (Bor (List ℕ)))) (a : Layout) → IsMadeOf size (map option_copied xs) a → All (λ x. ¬ IsOtherSize size (option_copied x)) xs
 taken-sized size xs a k = all-mapped xs k.sized
   where

@@ -1,4 +1,4 @@
--- The parts of a scalar are smaller than it.
+-- Size bounds of scalars: the parts of a scalar are smaller than it.
 use Rattle.std.specs.Prelude.{◌+◌, ◌≤◌, List as Seq, [], ◌∷◌}
 use Rattle.std.proofs.Common.{arith}
 use denote.Param.Weighed.{most}

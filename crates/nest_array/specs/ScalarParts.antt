@@ -1,4 +1,4 @@
--- A scalar: a data type and one slot (of this project).
+-- A scalar: a data type and one slot (this library's own).
 use Rattle.std.specs.Prelude.{◌≡◌, Bool, true, false, ◌&&◌, List as Seq, [], ◌∷◌, refl}
 use Rattle.std.specs.Bool.{Decides}
 use Rattle.std.specs.Cmp.{IsEquivalence, and_equiv, on_equiv, first_so, second_so}
@@ -27,7 +27,7 @@ abbrev pub IsPickOf : Slot → ScalarParts → Type 0
 IsPickOf (pick f t s) p = p ≡ scalar_parts t s
 IsPickOf s p = ⊥
 
--- when two scalars are the same, and the test of it
+-- two scalars are the same, and the test of it
 abbrev pub IsSameScalar : ScalarParts → ScalarParts → Type 0
 IsSameScalar p q = (p.data_type ≡ q.data_type) × (p.slot ≡ q.slot)
 

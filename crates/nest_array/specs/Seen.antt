@@ -1,4 +1,4 @@
--- An array of any kind as its layout.
+-- The layout of an array of any type.
 use Rattle.std.specs.Prelude.{List as Seq, [], ◌∷◌}
 use Rattle.nest_array.specs.declared.any.AnyArray.{AnyArray}
 use Rattle.nest_array.specs.declared.any.AnyArray.TheVariants.{Null, Boolean, Primitive, Binary, LargeBinary, Utf8, LargeUtf8, FixedSizeBinary, FixedSizeList, List, LargeList, Struct, Map, Dictionary, Union}

@@ -1,4 +1,4 @@
--- Keys of any width as their layout.
+-- The layout of keys of any integer type.
 use Rattle.nest_array.specs.declared.dictionary.keys.AnyKeys.{AnyKeys}
 use Rattle.nest_array.specs.declared.dictionary.keys.AnyKeys.TheVariants.{Int8, Int16, Int32, Int64, UInt8, UInt16, UInt32, UInt64}
 use Rattle.nest_model.specs.Layout.{Layout}

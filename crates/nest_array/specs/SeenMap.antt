@@ -1,4 +1,4 @@
--- An array of maps as its layout.
+-- The layout of a map array.
 use Rattle.nest_memory.specs.TypeOf.{type_of}
 use Rattle.nest_model.specs.Layout as layouts
 use Rattle.nest_model.specs.Layout.{Layout}

@@ -1,4 +1,4 @@
--- Which slot a scalar's value spells, and which values a data type has (of this project).
+-- The slot that a scalar's value represents, and the values that fit a data type (this library's own).
 use Rattle.std.specs.Prelude.{◌≡◌, ℕ, Some, string_bytes}
 use Rattle.nest_memory.specs.Physical.{physical_type}
 use Rattle.nest_memory.specs.TypeTree as types
@@ -14,24 +14,24 @@ use Rattle.nest_array.specs.Seen.{layout_of}
 use Rattle.nest_array.specs.declared.scalar.ScalarValue.{ScalarValue}
 use Rattle.nest_array.specs.declared.scalar.ScalarValue.TheVariants.{Null, Boolean, Native, Text, Bytes, List, Struct, Pick}
 
--- the slot, part for part
+-- the slot, part by part
 abbrev pub slot_of_value : ScalarValue → Slot
 slot_of_value Null = slots.null
-slot_of_value (Boolean b) = slots.truth b
+slot_of_value (Boolean b) = slots.boolean b
 slot_of_value (Native x) = slots.number (native_numbers x)
-slot_of_value (Text s) = slots.text (string_bytes s)
+slot_of_value (Text s) = slots.utf8 (string_bytes s)
 slot_of_value (Bytes v) = slots.bytes v.items
 slot_of_value (List a) = slots.list (seal (slots_of (layout_of a)))
 slot_of_value (Struct v) = slots.record_of (slots_in v.items)
 slot_of_value (Pick f b) = slots.pick f b.value.data_type b.value.slot
 
--- the type whose values stand in the slots of a type: below extensions, and in place of a dictionary that of its values
+-- the type of the values in the slots: without extensions, and of a dictionary its value type
 abbrev pub shown_type : TypeTree → TypeTree
 shown_type (types.dictionary k t b) = shown_type t
 shown_type (types.extension n t m) = shown_type t
 shown_type t = t
 
--- the parts of a value have the types that the data type names
+-- the parts of a value have the types in the data type
 abbrev pub ValueFits : TypeTree → ScalarValue → Type 0
 ValueFits t (Native x) = physical_type (shown_type t) ≡ physical.Primitive (native_kind x)
 ValueFits t (List a) = item_type (shown_type t) ≡ Some (layout_type (layout_of a))

@@ -1,18 +1,18 @@
--- The words of this crate's contracts, by one name.
+-- The names that this crate's contracts use, in one place.
 pub use Rattle.nest_array.specs.Refusals.{RefusesOrMemory}
 pub use Rattle.nest_array.specs.RowSlots.{Alike, EachValid}
 pub use Rattle.nest_array.specs.Seen.{layout_of, layouts_of}
-pub use Rattle.nest_model.specs.Slot.{Tells, node_count, node_counts, seal}
+pub use Rattle.nest_model.specs.Slot.{CountsComparisons, node_count, node_counts, seal}
 pub use Rattle.nest_array.specs.WindowParts.{window_parts, window_slots}
-pub use Rattle.nest_memory.specs.Cut.{cut}
+pub use Rattle.nest_memory.specs.Sublist.{sublist}
 pub use Rattle.nest_memory.specs.Physical.{physical_type}
 pub use Rattle.nest_memory.specs.TypeOf.{type_of}
 pub use Rattle.nest_memory.specs.TypeTree.{item_type, size_of}
 pub use Rattle.nest_memory.specs.declared.error.Error.TheVariants.{Memory}
 pub use Rattle.nest_model.specs.Accessors.{child_of, offsets_of, validity_of, with_validity}
 pub use Rattle.nest_model.specs.Array.{Keeps, TopFits}
-pub use Rattle.nest_model.specs.Cut.{IsCut, cut_layout}
-pub use Rattle.nest_model.specs.Fits.{FirstFault, Fits, HasValidity, RefusesValidity, ValidityFault, ValidityFits}
+pub use Rattle.nest_model.specs.Slice.{IsSlice, slice_layout}
+pub use Rattle.nest_model.specs.Fits.{FirstError, Fits, HasValidity, RefusesValidity, ValidityError, ValidityFits}
 pub use Rattle.nest_model.specs.Layout.{Layout, layout_type}
 pub use Rattle.nest_model.specs.MadeNulls.{AcceptsKind, HasNone, HasNulls, RefusesKind, RefusesType}
 pub use Rattle.nest_model.specs.Meaning.{len, run, slot, slots_of, where_valid}

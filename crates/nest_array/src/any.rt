@@ -1,10 +1,11 @@
-//! An array of any kind.
+//! Arrays of any data type.
 ghost use Rattle.std.specs.Prelude.{◌≡◌, ◌+◌, ◌≤◌, ◌<◌, ◌↔◌, false, IsTrue, IfOk, IsOkUnless, MatchOption, MatchResult, option_map, alloc_error};
 ghost use Rattle.nest_memory.specs.declared.datatypes.physical_type.PhysicalType.TheVariants as physical;
 ghost use Rattle.nest_model.specs.Checks.{Pass};
 ghost use Rattle.nest_model.specs.Fits.{validity_checks};
 ghost use Rattle.nest_model.specs.Slot as slots;
-ghost use Rattle.nest_array.specs.Words.{IsCut, Memory, TopFits, ValidityFault, cut, cut_layout, has_keys, is_null_at, layout_of, layout_type, len, null_count, physical_type, slot, type_of, validity_of, with_validity};
+ghost use Rattle.nest_array.specs.Downcasts.{HasKind, IsDowncast};
+ghost use Rattle.nest_array.specs.Words.{IsSlice, Memory, TopFits, ValidityError, slice_layout, has_keys, is_null_at, layout_of, layout_type, len, null_count, physical_type, slot, type_of, validity_of, with_validity};
 
 use crate::array::Array;
 use crate::dictionary::DictionaryArray;
@@ -24,10 +25,10 @@ use nest_flat::utf8::Utf8Array;
 use nest_memory::bitmap::immutable::Bitmap;
 use nest_memory::datatypes::DataType;
 use nest_memory::datatypes::physical_type::PhysicalType;
-use nest_memory::error::{Argument, Error};
+use nest_memory::error::{ArgumentError, Error};
 use std::alloc::Global;
 
-/// An array, in the variant of its data type's physical type. It stands in the place of arrow2's `Box<dyn Array>`.
+/// An array of any data type, in the variant of its physical type. It replaces arrow2's `Box<dyn Array>`.
 #[cycle(array)]
 #[derive(Drop)]
 pub enum AnyArray {
@@ -48,7 +49,7 @@ pub enum AnyArray {
     Dictionary(DictionaryArray),
 }
 
-// The same expression over the array of each variant.
+// Evaluates the same expression for the array of any variant.
 macro_rules! each_array {
     ($any:expr, $array:ident => $body:expr) => {
         match $any {
@@ -71,7 +72,7 @@ macro_rules! each_array {
     };
 }
 
-// A new validity for an array whose kind its layout shows.
+// Replaces the validity; `known` first shows the prover the kind of the array.
 macro_rules! with_known {
     ($array:ident, $validity:ident) => {{
         $array.known();
@@ -79,7 +80,10 @@ macro_rules! with_known {
     }};
 }
 
-/// The same array, on shared memory: `AnyArray::clone`.
+/// Returns a copy that shares the buffers, as `AnyArray::clone`.
+///
+/// # Errors
+/// `Memory` where an allocation fails.
 pub fn clone(alloc: Global, array: &AnyArray) -> Result<AnyArray, Error>
     ensures ok { IfOk result (λ a. layout_of a ≡ layout_of array.now) }
     ensures err { IsOkUnless result (Memory alloc_error) }
@@ -88,35 +92,37 @@ pub fn clone(alloc: Global, array: &AnyArray) -> Result<AnyArray, Error>
 }
 
 impl AnyArray {
-    /// What holds of every array at its top level: its parts fit, so its variant is that of its data type.
+    /// Shows the prover that the top level of the array fits its data type. Does nothing at run time.
     pub fn known(&self)
         ensures { TopFits (layout_of self.now) }
     {
         each_array!(self, array => array.known())
     }
 
-    /// How many slots it has.
+    /// Returns the number of slots.
     pub fn len(&self) -> usize
         ensures { result ≡ len (layout_of self.now) }
     {
         each_array!(self, array => array.len())
     }
 
-    /// Its data type.
+    /// Returns the data type.
     pub fn data_type(&self) -> &DataType
         ensures { type_of result.now ≡ layout_type (layout_of self.now) }
     {
         each_array!(self, array => array.data_type())
     }
 
-    /// Which slots are valid, a bit a slot; without it all are.
+    /// Returns the validity bitmap, one bit per slot.
+    ///
+    /// Null and union arrays have none. Any other array without one has no null slots, or no null keys.
     pub fn validity(&self) -> Option<&Bitmap>
         ensures { option_map (λ b. b.now) result ≡ validity_of (layout_of self.now) }
     {
         each_array!(self, array => array.validity())
     }
 
-    /// Whether slot i is null; of an array whose slots are looked up by keys, whether its key is.
+    /// Returns whether slot `i` is null; for a dictionary array, whether key `i` is null.
     pub fn is_null(&self, i: usize) -> bool
         requires { i < len (layout_of self.now) }
         ensures slot { has_keys (layout_of self.now) ≡ false → (IsTrue result ↔ (slot (layout_of self.now) i ≡ slots.null)) }
@@ -125,11 +131,11 @@ impl AnyArray {
         each_array!(self, array => array.is_null(i))
     }
 
-    /// The array of such native values, where its data type is of their kind.
+    /// Returns the primitive array of native type `T`, `None` for other arrays.
     pub fn as_primitive<T: NativeArray>(&self) -> Option<&T::Array>
         ensures { MatchOption result
-            (physical_type (layout_type (layout_of self.now)) ≡ physical.Primitive T.PRIMITIVE → ⊥)
-            (λ a. (physical_type (layout_type (layout_of self.now)) ≡ physical.Primitive T.PRIMITIVE) × (T.layout_of_array a.now ≡ layout_of self.now)) }
+            (HasKind (physical.Primitive T.PRIMITIVE) (layout_of self.now) → ⊥)
+            (λ a. IsDowncast (physical.Primitive T.PRIMITIVE) (layout_of self.now) (T.layout_of_array a.now)) }
     {
         if self.data_type().to_physical_type() != PhysicalType::Primitive(T::PRIMITIVE) {
             return None;
@@ -137,11 +143,11 @@ impl AnyArray {
         Some(T::of(as_primitive(self)))
     }
 
-    /// The array of texts by offsets of 32 bits, where its data type is of their kind.
+    /// Returns the UTF-8 array with 32-bit offsets, `None` for other arrays.
     pub fn as_utf8(&self) -> Option<&Utf8Array<i32>>
         ensures { MatchOption result
             (physical_type (layout_type (layout_of self.now)) ≡ physical.Utf8 → ⊥)
-            (λ a. (physical_type (layout_type (layout_of self.now)) ≡ physical.Utf8) × (a.now ≡ layout_of self.now)) }
+            (λ a. IsDowncast physical.Utf8 (layout_of self.now) a.now) }
     {
         if self.data_type().to_physical_type() != PhysicalType::Utf8 {
             return None;
@@ -149,11 +155,11 @@ impl AnyArray {
         Some(as_utf8(self))
     }
 
-    /// The array of texts by offsets of 64 bits, where its data type is of their kind.
+    /// Returns the UTF-8 array with 64-bit offsets, `None` for other arrays.
     pub fn as_large_utf8(&self) -> Option<&Utf8Array<i64>>
         ensures { MatchOption result
             (physical_type (layout_type (layout_of self.now)) ≡ physical.LargeUtf8 → ⊥)
-            (λ a. (physical_type (layout_type (layout_of self.now)) ≡ physical.LargeUtf8) × (a.now ≡ layout_of self.now)) }
+            (λ a. IsDowncast physical.LargeUtf8 (layout_of self.now) a.now) }
     {
         if self.data_type().to_physical_type() != PhysicalType::LargeUtf8 {
             return None;
@@ -161,43 +167,47 @@ impl AnyArray {
         Some(as_large_utf8(self))
     }
 
-    /// How many slots are null.
+    /// Returns the number of slots for which `is_null` is true.
     pub fn null_count(&self) -> usize
         ensures { result ≡ null_count (layout_of self.now) }
     {
         each_array!(self, array => array.null_count())
     }
 
-    /// Keeps the n slots from place o.
+    /// Slices the array in place to the `n` slots from index `o`.
     pub fn slice(&mut self, o: usize, n: usize)
         requires { o + n ≤ len (layout_of self.old) }
-        ensures { IsCut (layout_of self.old) o n (layout_of self.new) }
+        ensures { IsSlice (layout_of self.old) o n (layout_of self.new) }
     {
         self.cut(o, n);
     }
 
-    /// The n slots from place o.
+    /// Returns the slice of `n` slots from index `o`.
     pub fn sliced(self, o: usize, n: usize) -> AnyArray
         requires { o + n ≤ len (layout_of self) }
-        ensures { IsCut (layout_of self) o n (layout_of result) }
+        ensures { IsSlice (layout_of self) o n (layout_of result) }
     {
         let mut cut = self;
         cut.slice(o, n);
         cut
     }
 
-    /// Takes a new validity. `NoValidity` for a null array and a union, `ValidityLength` where it has not a bit for each slot,
-    /// `KeyRange` where a key that is valid under it names no value; the array stays as it was then.
+    /// Replaces the validity. On error the array is unchanged.
+    ///
+    /// # Errors
+    /// - `NoValidity`: the array is a null or union array;
+    /// - `ValidityLength`: the validity has another length;
+    /// - `KeyRange`: a key that is valid under it is not an index of the values.
     pub fn set_validity(&mut self, validity: Option<Bitmap>) -> Result<(), Error>
-        ensures { MatchResult result
-            (λ _. Pass (validity_checks (layout_of self.old) validity) × (layout_of self.new ≡ with_validity (layout_of self.old) validity))
-            (λ e. ValidityFault e (layout_of self.old) validity × (layout_of self.new ≡ layout_of self.old)) }
+        ensures { let a = layout_of self.old in let b = layout_of self.new in MatchResult result
+            (λ _. Pass (validity_checks a validity) × (b ≡ with_validity a validity))
+            (λ e. ValidityError e a validity × (b ≡ a)) }
     {
         match self {
             AnyArray::Null(array) => {
                 array.known();
                 drop(validity);
-                Err(Error::InvalidArgumentError(Argument::NoValidity))
+                Err(Error::InvalidArgumentError(ArgumentError::NoValidity))
             }
             AnyArray::Boolean(array) => with_known!(array, validity),
             AnyArray::Primitive(array) => with_known!(array, validity),
@@ -214,7 +224,7 @@ impl AnyArray {
             AnyArray::Union(array) => {
                 array.known();
                 drop(validity);
-                Err(Error::InvalidArgumentError(Argument::NoValidity))
+                Err(Error::InvalidArgumentError(ArgumentError::NoValidity))
             }
             AnyArray::Dictionary(array) => with_known!(array, validity),
         }
@@ -223,7 +233,7 @@ impl AnyArray {
     #[cycle(cut)]
     pub(crate) fn cut(&mut self, o: usize, n: usize)
         requires { o + n ≤ len (layout_of self.old) }
-        ensures { layout_of self.new ≡ cut_layout (layout_of self.old) o n }
+        ensures { layout_of self.new ≡ slice_layout (layout_of self.old) o n }
     {
         match self {
             AnyArray::Null(array) => array.slice(o, n),
@@ -244,8 +254,11 @@ impl AnyArray {
         }
     }
 
-    /// The same array, on shared memory.
-    // Each kind returns at once, and where the copy is wanted: what a match or a call gives is else written once more.
+    /// Returns a copy that shares the buffers.
+    ///
+    /// # Errors
+    /// `Memory` where an allocation fails.
+    // Each arm returns directly; otherwise the result of the match or call is copied once more.
     #[cycle(clone)]
     #[inline(always)]
     pub fn clone(&self, alloc: Global) -> Result<AnyArray, Error>
@@ -282,11 +295,11 @@ impl AnyArray {
         }
     }
 
-    /// The n slots from place o, on shared memory.
-    // Kinds without children are cut before they stand in their variant.
+    /// Returns a copy of the slice of `n` slots from index `o`, which shares the buffers.
+    // Arrays without children are sliced before they are wrapped in their variant.
     pub(crate) fn part(&self, alloc: Global, o: usize, n: usize) -> Result<AnyArray, Error>
         requires { o + n ≤ len (layout_of self.now) }
-        ensures ok { IfOk result (λ a. IsCut (layout_of self.now) o n (layout_of a)) }
+        ensures ok { IfOk result (λ a. IsSlice (layout_of self.now) o n (layout_of a)) }
         ensures err { IsOkUnless result (Memory alloc_error) }
     {
         match self {
@@ -336,11 +349,11 @@ impl AnyArray {
     }
 }
 
-// Out of line, as the room for its copy would be cleared for each other kind.
+// Not inlined: the stack space for its copy would be cleared for every other kind.
 #[inline(never)]
 fn copied_part(alloc: Global, array: &AnyArray, o: usize, n: usize) -> Result<AnyArray, Error>
     requires { o + n ≤ len (layout_of array.now) }
-    ensures ok { IfOk result (λ a. IsCut (layout_of array.now) o n (layout_of a)) }
+    ensures ok { IfOk result (λ a. IsSlice (layout_of array.now) o n (layout_of a)) }
     ensures err { IsOkUnless result (Memory alloc_error) }
 {
     let mut part = array.clone(alloc);
@@ -350,7 +363,7 @@ fn copied_part(alloc: Global, array: &AnyArray, o: usize, n: usize) -> Result<An
     part
 }
 
-// Copies of kinds whose children are copied too, each out of line: else the room for all of them would be cleared for each.
+// Not inlined, as are the other copies of kinds with children: the stack space for all would be cleared for each.
 #[cycle(clone)]
 #[inline(never)]
 fn boxed_fixed_size_list(alloc: Global, array: &FixedSizeListArray) -> Result<AnyArray, Error>
@@ -369,7 +382,7 @@ fn boxed_struct(alloc: Global, array: &StructArray) -> Result<AnyArray, Error>
     Ok(array.clone(alloc)?.boxed())
 }
 
-// It copies the fields itself, so that `clone` of a union stands outside the cycle.
+// Copies the fields itself, so that `clone` of a union is outside the cycle.
 #[cycle(clone)]
 #[inline(never)]
 fn boxed_union(alloc: Global, array: &UnionArray) -> Result<AnyArray, Error>

@@ -1,26 +1,26 @@
-//! Flat arrays in their variants. Arrays that nest have these calls of their own.
+//! Conversions of flat arrays to `AnyArray`. The arrays of this crate have methods of the same names.
 ghost use Rattle.std.specs.Prelude.{◌≡◌, IfOk, IsOkUnless, alloc_error};
 ghost use Rattle.nest_array.specs.Words.{Memory, layout_of};
 
 use crate::any::AnyArray;
-use crate::array::Variant;
+use crate::array::ArrayVariant;
 use nest_memory::error::Error;
 use std::alloc::Global;
 use std::rc::Rc;
 
-/// Arrays of one kind as arrays of any kind, by value. arrow2's `boxed` and `arced`; `to_boxed` is the trait `Array`'s.
-pub trait Boxed: Variant + Sized {
-    /// The same array in its variant.
+/// Conversions to `AnyArray` by value: arrow2's `boxed` and `arced`. `to_boxed` is a method of `Array`.
+pub trait Boxed: ArrayVariant + Sized {
+    /// Returns the array in its variant.
     final fn boxed(self) -> AnyArray
         ensures { layout_of result ≡ Self.parts self }
     {
         self.into_any()
     }
 
-    /// The same array, owned by what shares it.
+    /// Returns the array in its variant, in an `Rc`.
     ///
     /// # Errors
-    /// `Memory`.
+    /// `Memory` where an allocation fails.
     final fn arced(self, alloc: Global) -> Result<Rc<AnyArray>, Error>
         ensures ok { IfOk result (λ r. layout_of r.value ≡ Self.parts self) }
         ensures err { IsOkUnless result (Memory alloc_error) }
@@ -29,4 +29,4 @@ pub trait Boxed: Variant + Sized {
     }
 }
 
-impl<A: Variant> Boxed for A {}
+impl<A: ArrayVariant> Boxed for A {}

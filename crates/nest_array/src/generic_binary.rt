@@ -1,4 +1,4 @@
-//! What arrays of bytes have in common: their bytes, and where each slot lies in them.
+//! Traits of binary arrays: their bytes, and the offsets or the size of their slots.
 ghost use Rattle.std.specs.Prelude.{◌≡◌, ◌≤◌, ◌<◌, ◌%◌, length};
 ghost use Rattle.nest_memory.specs.Rising.{numbers};
 ghost use Rattle.nest_model.specs.Accessors.{bytes_of};
@@ -12,13 +12,13 @@ use nest_flat::binary::BinaryArray;
 use nest_flat::utf8::Utf8Array;
 use nest_memory::offset::Offset;
 
-/// Arrays of bytes or of texts, which lie between offsets. arrow2's `GenericBinaryArray`.
+/// Arrays of the Variable-size Binary Layout: bytes or UTF-8 strings, by offsets. arrow2's `GenericBinaryArray`.
 pub trait GenericBinaryArray<O: Offset>: Array {
-    /// The bytes, also those of no slot.
+    /// Returns the bytes, including those of no slot.
     fn values(&self) -> &[u8]
         ensures { result.now ≡ bytes_of (Self.layout self.now) };
 
-    /// Where the bytes of each slot begin and end: at least one offset. They never fall, and the last one is within the bytes.
+    /// Returns the offsets, one more than slots. They never decrease, and the last one is at most the number of bytes.
     fn offsets(&self) -> &[O]
         ensures shown { numbers O.value result.now ≡ offsets_of (Self.layout self.now) }
         ensures rising { AreOffsets (offsets_of (Self.layout self.now)) }
@@ -69,17 +69,17 @@ impl GenericBinaryArray<i64> for Utf8Array<i64> {
     }
 }
 
-/// Arrays of byte strings of one size, one after another. arrow2's `FixedSizeBinaryValues`.
+/// Fixed-size binary arrays, whose values are contiguous. arrow2's `FixedSizeBinaryValues`.
 pub trait FixedSizeBinaryValues {
-    /// The array.
+    /// The layout of the array.
     ghost layout: { Self → Layout };
 
-    /// The bytes of all slots, also those under nulls.
+    /// Returns the bytes of all slots, including null slots.
     fn values(&self) -> &[u8]
         ensures bytes { result.now ≡ bytes_of (layout self.now) }
         ensures whole { length result.now % size_of (layout_type (layout self.now)) ≡ 0 };
 
-    /// How many bytes each slot has.
+    /// Returns the number of bytes per slot.
     fn size(&self) -> usize
         ensures typed { result ≡ size_of (layout_type (layout self.now)) }
         ensures some { 0 < result };

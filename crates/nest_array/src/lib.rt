@@ -1,7 +1,7 @@
-//! Arrays of any nesting in the Arrow format.
+//! Arrow arrays of any nesting.
 //!
-//! A statement whose value is never read (`let _len = ..`, `x.known()`) shows the prover a fact that the next step needs, and does
-//! nothing when it runs.
+//! Statements such as `let _len = ..` and `x.known()` show the prover a fact that the next step needs.
+//! They do nothing at run time.
 #![tactic(auto)]
 
 pub mod any;

@@ -1,19 +1,19 @@
-//! Arrays of nulls.
+//! Null arrays.
 ghost use Rattle.std.specs.Prelude.{◌≡◌, ◌+◌, ◌≤◌, ◌<◌, ◌↔◌, IsTrue, IfOk, IsOkUnless, MatchResult, option_map, alloc_error};
 ghost use Rattle.nest_model.specs.Layout as layouts;
 ghost use Rattle.nest_model.specs.Slot as slots;
-ghost use Rattle.nest_array.specs.Words.{FirstFault, Fits, IsCut, Memory, TopFits, cut, is_null_at, layout_of, layout_type, len, null_count, slot, type_of, validity_of};
+ghost use Rattle.nest_array.specs.Words.{FirstError, Fits, IsSlice, Memory, TopFits, sublist, is_null_at, layout_of, layout_type, len, null_count, slot, type_of, validity_of};
 
 use crate::any::AnyArray;
 use nest_memory::bitmap::immutable::Bitmap;
 use nest_memory::datatypes::DataType;
 use nest_memory::datatypes::physical_type::PhysicalType;
-use nest_memory::error::{Error, Spec};
+use nest_memory::error::{Error, SpecError};
 use std::alloc::Global;
 use std::marker::Model;
 use std::rc::Rc;
 
-/// An array whose every slot is null: the Null Layout of the Arrow format. It has no buffer.
+/// An array of nulls: the Null Layout of the Arrow format. It has no buffers.
 #[derive(Drop)]
 pub struct NullArray {
     data_type: DataType,
@@ -38,14 +38,17 @@ impl Model for NullArray {
 }
 
 impl NullArray {
-    /// The array of `length` nulls. Refused where the physical type isn't `Null` (`WrongType`).
+    /// Returns an array of `length` nulls.
+    ///
+    /// # Errors
+    /// `WrongType` if the physical type is not `Null`.
     pub fn try_new(data_type: DataType, length: usize) -> Result<NullArray, Error>
         ensures { let parts = layouts.null (type_of data_type) length in
-            MatchResult result (λ a. Fits parts × (a ≡ parts)) (λ e. FirstFault e parts) }
+            MatchResult result (λ a. Fits parts × (a ≡ parts)) (λ e. FirstError e parts) }
     {
         if data_type.to_physical_type() != PhysicalType::Null {
             drop(data_type);
-            return Err(Error::OutOfSpec(Spec::WrongType));
+            return Err(Error::OutOfSpec(SpecError::WrongType));
         }
         Ok(NullArray {
             data_type,
@@ -53,7 +56,7 @@ impl NullArray {
         })
     }
 
-    /// The array of `length` nulls, of a type that fits.
+    /// Returns an array of `length` nulls.
     pub fn new(data_type: DataType, length: usize) -> NullArray
         requires { Fits (layouts.null (type_of data_type) length) }
         ensures { result ≡ layouts.null (type_of data_type) length }
@@ -64,7 +67,7 @@ impl NullArray {
         }
     }
 
-    /// What holds of every such array.
+    /// States the invariant of every such array. It does nothing at run time.
     pub fn known(&self)
         ensures fits { TopFits self.now }
         ensures kind { self.now ≡ layouts.null (layout_type self.now) (len self.now) }
@@ -72,21 +75,21 @@ impl NullArray {
         let _ = &self.data_type;
     }
 
-    /// How many slots it has.
+    /// Returns the number of slots.
     pub fn len(&self) -> usize
         ensures { result ≡ len self.now }
     {
         self.count
     }
 
-    /// Its data type.
+    /// Returns the data type.
     pub fn data_type(&self) -> &DataType
         ensures { type_of result.now ≡ layout_type self.now }
     {
         &self.data_type
     }
 
-    /// A null array has no validity.
+    /// Returns `None`: a null array has no validity.
     pub fn validity(&self) -> Option<&Bitmap>
         ensures { option_map (λ b. b.now) result ≡ validity_of self.now }
     {
@@ -94,7 +97,7 @@ impl NullArray {
         None
     }
 
-    /// Whether slot i is null, as each is.
+    /// Returns whether slot `i` is null: always true.
     pub fn is_null(&self, i: usize) -> bool
         requires { i < len self.now }
         ensures slot { IsTrue result ↔ (slot self.now i ≡ slots.null) }
@@ -103,32 +106,35 @@ impl NullArray {
         i < self.count
     }
 
-    /// How many slots are null: all.
+    /// Returns the number of null slots: all of them.
     pub fn null_count(&self) -> usize
         ensures { result ≡ null_count self.now }
     {
         self.count
     }
 
-    /// Keeps the n slots from place o.
+    /// Keeps `n` slots from index `o`.
     pub fn slice(&mut self, o: usize, n: usize)
         requires { o + n ≤ len self.old }
-        ensures { IsCut self.old o n self.new }
+        ensures { IsSlice self.old o n self.new }
     {
         self.count = n;
     }
 
-    /// The n slots from place o.
+    /// Returns the slice of `n` slots from index `o`.
     pub fn sliced(self, o: usize, n: usize) -> NullArray
         requires { o + n ≤ len self }
-        ensures { IsCut self o n result }
+        ensures { IsSlice self o n result }
     {
         let mut cut = self;
         cut.slice(o, n);
         cut
     }
 
-    /// The same array.
+    /// Returns a copy of the array.
+    ///
+    /// # Errors
+    /// `Memory` if an allocation fails.
     pub fn clone(&self, alloc: Global) -> Result<NullArray, Error>
         ensures ok { IfOk result (λ a. a ≡ self.now) }
         ensures err { IsOkUnless result (Memory alloc_error) }
@@ -139,14 +145,17 @@ impl NullArray {
         })
     }
 
-    /// The same array in its variant.
+    /// Returns the array as an `AnyArray`.
     pub fn boxed(self) -> AnyArray
         ensures { layout_of result ≡ self }
     {
         AnyArray::Null(self)
     }
 
-    /// The same array, owned by what shares it.
+    /// Returns the array as an `AnyArray` in an `Rc`.
+    ///
+    /// # Errors
+    /// `Memory` if the allocation fails.
     pub fn arced(self, alloc: Global) -> Result<Rc<AnyArray>, Error>
         ensures ok { IfOk result (λ r. layout_of r.value ≡ self) }
         ensures err { IsOkUnless result (Memory alloc_error) }

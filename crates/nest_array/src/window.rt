@@ -1,12 +1,12 @@
-//! A part of an array, borrowed.
+//! Borrowed slices of arrays.
 ghost use Rattle.std.specs.Prelude.{◌≡◌, ◌+◌, ◌≤◌, ◌<◌, ◌↔◌, false, IsTrue};
 ghost use Rattle.nest_model.specs.Slot as slots;
-ghost use Rattle.nest_array.specs.Words.{cut, has_keys, is_null_at, layout_of, len, slot, slots_of, window_parts, window_slots};
+ghost use Rattle.nest_array.specs.Words.{sublist, has_keys, is_null_at, layout_of, len, slot, slots_of, window_parts, window_slots};
 
 use crate::any::AnyArray;
 use std::marker::Model;
 
-/// Some slots of an array that stand side by side. No call takes memory.
+/// A borrowed slice: an array, an offset and a length. No method allocates.
 #[derive(Drop)]
 pub struct Window<'a> {
     array: &'a AnyArray,
@@ -32,11 +32,11 @@ impl<'a> Model for Window<'a> {
 }
 
 impl<'a> Window<'a> {
-    /// The n slots from place o.
+    /// Returns the window over `n` slots of an array from index `o`.
     pub fn new(array: &'a AnyArray, o: usize, n: usize) -> Window<'a>
         requires { o + n ≤ len (layout_of array.now) }
         ensures parts { result ≡ window_parts (layout_of array.now) o n }
-        ensures slots { window_slots result ≡ cut (slots_of (layout_of array.now)) o n }
+        ensures slots { window_slots result ≡ sublist (slots_of (layout_of array.now)) o n }
     {
         Window {
             array,
@@ -45,7 +45,7 @@ impl<'a> Window<'a> {
         }
     }
 
-    /// All slots of an array.
+    /// Returns the window over all slots of an array.
     pub fn of(array: &'a AnyArray) -> Window<'a>
         ensures parts { result ≡ window_parts (layout_of array.now) 0 (len (layout_of array.now)) }
         ensures slots { window_slots result ≡ slots_of (layout_of array.now) }
@@ -57,42 +57,42 @@ impl<'a> Window<'a> {
         }
     }
 
-    /// What holds of every window: it lies within its array.
+    /// States the invariant of every window: it is within its array. It does nothing at run time.
     pub fn known(&self)
         ensures { self.now.offset + self.now.count ≤ len self.now.array }
     {
         let _ = &self.array;
     }
 
-    /// The array, whole.
+    /// Returns the array that this is a window over.
     pub fn array(&self) -> &'a AnyArray
         ensures { layout_of result.now ≡ self.now.array }
     {
         self.array
     }
 
-    /// Where it begins in the array.
+    /// Returns the index of the first slot in the array.
     pub fn offset(&self) -> usize
         ensures { result ≡ self.now.offset }
     {
         self.offset
     }
 
-    /// How many slots it has.
+    /// Returns the number of slots.
     pub fn len(&self) -> usize
         ensures { result ≡ self.now.count }
     {
         self.count
     }
 
-    /// Whether it has no slot.
+    /// Returns whether there are no slots.
     pub fn is_empty(&self) -> bool
         ensures { IsTrue result ↔ (self.now.count ≡ 0) }
     {
         self.count == 0
     }
 
-    /// Whether its slot i is null; of an array whose slots are looked up by keys, whether its key is.
+    /// Returns whether slot `i` is null; in a dictionary array, whether its key is null.
     pub fn is_null(&self, i: usize) -> bool
         requires { i < self.now.count }
         ensures slot { has_keys self.now.array ≡ false → (IsTrue result ↔ (slot self.now.array (self.now.offset + i) ≡ slots.null)) }
@@ -102,11 +102,11 @@ impl<'a> Window<'a> {
         self.array.is_null(self.offset + i)
     }
 
-    /// Its n slots from place o.
+    /// Returns the window over `n` slots from index `o`.
     pub fn cut(&self, o: usize, n: usize) -> Window<'a>
         requires { o + n ≤ self.now.count }
         ensures parts { result ≡ window_parts self.now.array (self.now.offset + o) n }
-        ensures slots { window_slots result ≡ cut (window_slots self.now) o n }
+        ensures slots { window_slots result ≡ sublist (window_slots self.now) o n }
     {
         let _end = self.array.len();
         Window {

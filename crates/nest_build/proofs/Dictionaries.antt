@@ -1,4 +1,4 @@
--- Builders of dictionaries as trees.
+-- Dictionary builders as trees.
 use Rattle.std.specs.Prelude.{IfOk, IsNone, IsOk, MatchOption, ◌↔◌, ◌⊎◌, Option, Some, None, Result, Ok, Err, OnOk, OnErr, IfErr, IsTrue, is_some, map, alloc_error}
 use Rattle.std.proofs.Common.{◌≡◌, ◌≢◌, ℕ, zero, suc, ◌+◌, ◌<◌, ◌≤◌, Bool, true, false, List, [], ◌∷◌, ◌++◌, length, get_or, take, refl, sym, ap, subst, ◌∙◌, inl, inr, arith}
 use Rattle.std.proofs.lemmas.Bool.{cases_lt, le-leb}
@@ -7,7 +7,7 @@ use Rattle.nest_memory.specs.TypeTree as types
 use Rattle.nest_memory.specs.TypeTree.{TypeTree, key_type, value_type}
 use Rattle.nest_memory.specs.Physical.{physical_type}
 use Rattle.nest_memory.specs.declared.datatypes.IntegerType.{IntegerType}
-use Rattle.nest_memory.specs.declared.error.Argument.TheVariants.{ItemType}
+use Rattle.nest_memory.specs.declared.error.ArgumentError.TheVariants.{ItemType}
 use Rattle.nest_memory.specs.declared.error.Error.{Error}
 use Rattle.nest_memory.specs.declared.error.Error.TheVariants.{InvalidArgumentError, Memory, Overflow}
 use Rattle.nest_model.specs.Part.{Validity}
@@ -21,13 +21,13 @@ use Rattle.nest_model.specs.Slot as slots
 use Rattle.nest_model.specs.Slot.{Slot}
 use Rattle.nest_model.specs.BuilderAppend.{Accepted}
 use Rattle.nest_model.specs.BuilderAcceptLaws.{plain-none}
-use Rattle.nest_model.specs.BuilderAppendLaws.{dictionary_took_null, len-accepted}
-use Rattle.nest_model.specs.BuilderCutLaws.{len-cut, own-emptied}
-use Rattle.nest_model.specs.BuilderFreeze.{SpellsBits, SpellsKeys}
+use Rattle.nest_model.specs.BuilderAppendLaws.{dictionary_null_accepted, len-accepted}
+use Rattle.nest_model.specs.BuilderTruncateLaws.{len-cut, own-emptied}
+use Rattle.nest_model.specs.BuilderFreeze.{EncodesBits, EncodesKeys}
 use Rattle.nest_model.specs.BuilderFreezeLaws.{dictionary-frozen}
 use Rattle.nest_model.specs.BuilderItem as items
-use Rattle.nest_model.specs.BuilderItem.{PlainValue, slot_of_plain, takes, place_of, Holds, Stands, Lacks}
-use Rattle.nest_model.specs.BuilderKeyLaws.{known-stands, stands-known, place-lacks, place-stands, dictionary_knew, dictionary_took, keys_within, keys_within-null}
+use Rattle.nest_model.specs.BuilderItem.{PlainValue, slot_of_plain, takes, position_of, Holds, IsValueAt, Lacks}
+use Rattle.nest_model.specs.BuilderKeyLaws.{known-stands, stands-known, place-lacks, place-stands, dictionary_key_added, dictionary_accepted, keys_within, keys_within-null}
 use Rattle.nest_model.specs.BuilderLevelLaws.{own-length}
 use Rattle.nest_model.specs.BuilderLevels.{value_at, own_slots}
 use Rattle.nest_model.specs.BuilderRefusalLaws.{below, within}
@@ -35,10 +35,10 @@ use Rattle.nest_model.specs.BuilderRefusals.{is_known, value_refusal, plain_refu
 use Rattle.nest_model.specs.BuilderRow.{values_needed}
 use Rattle.nest_model.specs.BuilderRowLaws.{values_needed-above}
 use Rattle.nest_model.specs.BuilderTree.{BuilderTree, dictionary, builder_len, builder_type, key_count}
-use Rattle.nest_model.specs.BuilderWhole.{IsWhole, AreDifferent, cut_builder, emptied}
+use Rattle.nest_model.specs.BuilderComplete.{IsComplete, AreDifferent, truncate_builder, emptied}
 use Rattle.nest_model.specs.Checks.{first_of, is_past, refuse_if, largest_length}
 use Rattle.nest_build.specs.Keyed.{AreFull}
-use Rattle.nest_build.specs.Told.{own_slot, TellsNulls}
+use Rattle.nest_build.specs.Shown.{own_slot, ShowsNulls}
 use Rattle.nest_build.proofs.Keyed.{value_full, plain_taken}
 
 module _ (i : IntegerType) (t : TypeTree) (keys : List (Option ℕ)) (c : BuilderTree) where
@@ -70,9 +70,9 @@ module _ (i : IntegerType) (t : TypeTree) (keys : List (Option ℕ)) (c : Builde
   some_there : (ks : List (Option ℕ)) (n : ℕ) → n < length ks → get_or (map is_some ks) n true ≡ is_some (get_or ks n None)
   some_there ks n l = get_or-map is_some ks n None true l
 
-  pub rows_told : (va : Validity) → AreFull c → values_needed keys ≤ builder_len c → SpellsBits va (map is_some keys) → TellsNulls va (dictionary i t keys c)
-  rows_told None f h v = inr (λ n l. (row_valid n true f h l (sym (v n (let m = length-map keys is_some in omega arith)) ∙ some_there keys n l)).0 refl)
-  rows_told (Some bits) f h v = (
+  pub encoded_rows : (va : Validity) → AreFull c → values_needed keys ≤ builder_len c → EncodesBits va (map is_some keys) → ShowsNulls va (dictionary i t keys c)
+  encoded_rows None f h v = inr (λ n l. (row_valid n true f h l (sym (v n (let m = length-map keys is_some in omega arith)) ∙ some_there keys n l)).0 refl)
+  encoded_rows (Some bits) f h v = (
     ap length v ∙ length-map keys is_some,
     λ n l.
         let bit = ap (λ bs. get_or bs n true) v ∙ some_there keys n l in (
@@ -85,7 +85,7 @@ module _ (i : IntegerType) (t : TypeTree) (keys : List (Option ℕ)) (c : Builde
       by_bit n l false g u = refl
       by_bit n l true g u = absurd ((row_valid n true f h l g).0 refl u)
 
-  -- what a row holds
+  -- the value of a row
   pub row_holds : (n k : ℕ) (v : PlainValue) (r : Bool) → n < length keys → get_or keys n None ≡ Some k → (IsTrue r ↔ Holds c k v) → IsTrue r ↔ Holds (dictionary i t keys c) n v
   row_holds n k v r l e h =
       let there : own_slot (dictionary i t keys c) n ≡ own_slot c k = slot_there n l ∙ ap (value_at (own_slots c)) e in
@@ -105,7 +105,7 @@ module _ (i : IntegerType) (t : TypeTree) (keys : List (Option ℕ)) (c : Builde
   room : length keys + 1 ≤ largest_length → refuse_if (is_past (length keys + 1)) Overflow None ≡ None
   room l = rw (within (length keys + 1) l) refl
 
-  known_bit : (v : PlainValue) (k : ℕ) → Stands c v k → is_known c v ≡ true
+  known_bit : (v : PlainValue) (k : ℕ) → IsValueAt c v k → is_known c v ≡ true
   known_bit v k s = stands-known c v k s
 
   unknown_bit : (v : PlainValue) → Lacks c v → is_known c v ≡ false
@@ -115,7 +115,7 @@ module _ (i : IntegerType) (t : TypeTree) (keys : List (Option ℕ)) (c : Builde
       by_bit true e = absurd (let p = known-stands c v e in f p.0 p.1)
       by_bit false e = e
 
-  pub known_unrefused : (v : PlainValue) (k : ℕ) → Stands c v k → length keys + 1 ≤ largest_length → value_refusal v (dictionary i t keys c) ≡ None
+  pub known_unrefused : (v : PlainValue) (k : ℕ) → IsValueAt c v k → length keys + 1 ≤ largest_length → value_refusal v (dictionary i t keys c) ≡ None
   known_unrefused v k s l = rw (known_bit v k s, within (length keys + 1) l) refl
 
   pub full_refused : (v : PlainValue) → Lacks c v → key_count i ≤ builder_len c → value_refusal v (dictionary i t keys c) ≡ Some Overflow
@@ -127,19 +127,19 @@ module _ (i : IntegerType) (t : TypeTree) (keys : List (Option ℕ)) (c : Builde
   pub new_unrefused : (v : PlainValue) → Lacks c v → builder_len c < key_count i → plain_refusal v c ≡ None → length keys + 1 ≤ largest_length → value_refusal v (dictionary i t keys c) ≡ None
   new_unrefused v f l h m = rw (unknown_bit v f, below (key_count i) (builder_len c) l, h, within (length keys + 1) m) refl
 
-  -- the same where the kind comes first
+  -- the same where the kind is checked first
   pub of_kind : (v : PlainValue) → takes c v ≡ true → plain_refusal v (dictionary i t keys c) ≡ value_refusal v (dictionary i t keys c)
   of_kind v e = rw e refl
 
   pub of_other_kind : (v : PlainValue) → takes c v ≡ false → plain_refusal v (dictionary i t keys c) ≡ Some (InvalidArgumentError ItemType)
   of_other_kind v e = rw e refl
 
-  -- the first place where a value stands is the only one
-  pub knew : (v : PlainValue) (k : ℕ) (new : List (Option ℕ)) → place_of v (own_slots c) ≡ Some k → new ≡ keys ++ Some k ∷ [] → IsWhole (dictionary i t keys c) → Accepted (items.plain v) (dictionary i t keys c) (dictionary i t new c)
-  knew v k new e f w = dictionary_knew i t keys new c v k e f w
+  -- a value is at one index only: the first
+  pub knew : (v : PlainValue) (k : ℕ) (new : List (Option ℕ)) → position_of v (own_slots c) ≡ Some k → new ≡ keys ++ Some k ∷ [] → IsComplete (dictionary i t keys c) → Accepted (items.plain v) (dictionary i t keys c) (dictionary i t new c)
+  knew v k new e f w = dictionary_key_added i t keys new c v k e f w
 
-  pub took : (v : PlainValue) (d : BuilderTree) (new : List (Option ℕ)) → takes c v ≡ true → Lacks c v → new ≡ keys ++ Some (builder_len c) ∷ [] → IsWhole (dictionary i t keys c) → Accepted (items.plain v) c d → Accepted (items.plain v) (dictionary i t keys c) (dictionary i t new d)
-  took v d new e f g w a = dictionary_took i t keys new c d v (place-lacks c v e f) g w a
+  pub took : (v : PlainValue) (d : BuilderTree) (new : List (Option ℕ)) → takes c v ≡ true → Lacks c v → new ≡ keys ++ Some (builder_len c) ∷ [] → IsComplete (dictionary i t keys c) → Accepted (items.plain v) c d → Accepted (items.plain v) (dictionary i t keys c) (dictionary i t new d)
+  took v d new e f g w a = dictionary_accepted i t keys new c d v (place-lacks c v e f) g w a
 
   -- a value of any kind
   by_kind : (v : PlainValue) (e : Error) (b : Bool) → takes c v ≡ b → Lacks c v → builder_len c < key_count i → plain_refusal v c ≡ Some e → plain_refusal v (dictionary i t keys c) ≡ Some e
@@ -179,14 +179,14 @@ same_err {T} r e x p q = let a : ◌≡◌ {A = Result T Error} (Err e) (Err x) 
 pub at_err : {T : Type 0} (r : Result T Error) (e x : Error) (B : Type 0) → r ≡ Err e → ((r ≡ Err x) ↔ B) → ((e ≡ x) ↔ B)
 at_err r e x B p q = (λ h. q.0 (p ∙ ap Err h), λ b. same_err r e x p (q.1 b))
 
--- the place where a value stands is the first one
-pub place_only : (c : BuilderTree) (v : PlainValue) (k : ℕ) → Stands c v k → AreDifferent (own_slots c) → place_of v (own_slots c) ≡ Some k
+-- the index of a value is the first one
+pub place_only : (c : BuilderTree) (v : PlainValue) (k : ℕ) → IsValueAt c v k → AreDifferent (own_slots c) → position_of v (own_slots c) ≡ Some k
 place_only c v k s d = place-stands c v k s (λ j m t.
     let n = own-length c in
     let e = d j k (omega (arith, n, t.0)) (omega (arith, n, s.0)) (t.1.1 ∙ sym s.1.1) in
     omega (arith, e, m))
 
--- keys stay below the number of values
+-- keys are less than the number of values
 pub covered_push : {T E : Type 0} (r : Result T E) (old new : List (Option ℕ)) (k n : ℕ) → OnOk r (new ≡ old ++ Some k ∷ []) → OnErr r (new ≡ old) → values_needed old ≤ n → k < n → values_needed new ≤ n
 covered_push (Ok x) old new k n a b h l = keys_within old new k n a h l
 covered_push (Err e) old new k n a b h l = rw b h
@@ -201,13 +201,13 @@ covered_new old new v c d n a e f h = let m = len-accepted (items.plain v) c d a
 pub fits_new : (v : PlainValue) (c d : BuilderTree) (n : ℕ) → Accepted (items.plain v) c d → builder_len c < n → builder_len d ≤ n
 fits_new v c d n a l = let m = len-accepted (items.plain v) c d a in omega (arith, m, l)
 
-pub cut_len : (c d : BuilderTree) (m : ℕ) → m ≤ builder_len c → d ≡ cut_builder c m → builder_len d ≡ m
-cut_len c d m l e = ap builder_len e ∙ len-cut c m l
+pub slice_len : (c d : BuilderTree) (m : ℕ) → m ≤ builder_len c → d ≡ truncate_builder c m → builder_len d ≡ m
+slice_len c d m l e = ap builder_len e ∙ len-cut c m l
 
 pub emptied_len : (c d : BuilderTree) → d ≡ emptied c → builder_len d ≡ 0
 emptied_len c d e = sym (own-length d) ∙ ap length (ap own_slots e ∙ own-emptied c)
 
--- a test of less
+-- a comparison
 pub is_less : (r : Bool) (n k : ℕ) → r ≡ true → (IsTrue r ↔ (n < k)) → n < k
 is_less r n k e h = h.0 e
 
@@ -221,12 +221,12 @@ on_ok_so (Err e) f a = tt
 pub plain_none : (v : PlainValue) (t : BuilderTree) → value_refusal v t ≡ None → plain_refusal v t ≡ None
 plain_none v t h = plain-none v t h
 
--- what keys and values freeze to
+-- freezing the keys and the values
 pub if_both : {T E : Type 0} {A B C : T → Type 0} (r : Result T E) → ((x : T) → A x → B x → C x) → IfOk r A → IfOk r B → IfOk r C
 if_both (Ok x) f a b = f x a b
 if_both (Err e) f a b = tt
 
-pub frozen_fits : (i : IntegerType) (t u : TypeTree) (keys : List (Option ℕ)) (c : BuilderTree) (ks a : Layout) → t ≡ u → IsTrue (is_dictionary u) → key_type u ≡ Some i → IsWhole (dictionary i u keys c) → slots_of a ≡ own_slots c
+pub frozen_fits : (i : IntegerType) (t u : TypeTree) (keys : List (Option ℕ)) (c : BuilderTree) (ks a : Layout) → t ≡ u → IsTrue (is_dictionary u) → key_type u ≡ Some i → IsComplete (dictionary i u keys c) → slots_of a ≡ own_slots c
     → layout_type a ≡ builder_type c → key_type_of ks ≡ Some i → KeysInRange ks (values_needed keys) → Fits (layouts.dictionary t ks a)
 frozen_fits i t u keys c ks a e d k w f g h r =
     let n : len a ≡ values_needed keys = sym (slots-length a) ∙ (ap length f ∙ (own-length c ∙ w.2)) in (
@@ -234,19 +234,19 @@ frozen_fits i t u keys c ks a e d k w f g h r =
       (ap key_type e ∙ (k ∙ sym h), (subst (λ x. IsLogically (value_type x) (layout_type a)) (sym e) (subst (λ x. IsLogically (value_type u) x) (sym g) w.1), (subst (λ m. KeysInRange ks m) (sym n) r, tt))),
     )
 
-pub frozen_slots : {A E F : Type 0} (view : A → Layout) (r : Result Layout E) (ks : Result A F) (i : IntegerType) (t u : TypeTree) (keys : List (Option ℕ)) (c : BuilderTree) (v : Layout) → t ≡ u → IsWhole (dictionary i u keys c) → slots_of v ≡ own_slots c
-    → IfOk ks (λ k. SpellsKeys (view k) keys) → OnOk r (IsOk ks) → IfOk r (λ a. IfOk ks (λ k. a ≡ layouts.dictionary t (view k) v)) → IfOk r (λ a. slots_of a ≡ own_slots (dictionary i u keys c))
-frozen_slots view (Ok a) (Ok k) i t u keys c v e w f s o h = ap slots_of h ∙ dictionary-frozen i t keys c v (view k) (subst (λ x. IsWhole (dictionary i x keys c)) (sym e) w) f s
+pub frozen_slots : {A E F : Type 0} (view : A → Layout) (r : Result Layout E) (ks : Result A F) (i : IntegerType) (t u : TypeTree) (keys : List (Option ℕ)) (c : BuilderTree) (v : Layout) → t ≡ u → IsComplete (dictionary i u keys c) → slots_of v ≡ own_slots c
+    → IfOk ks (λ k. EncodesKeys (view k) keys) → OnOk r (IsOk ks) → IfOk r (λ a. IfOk ks (λ k. a ≡ layouts.dictionary t (view k) v)) → IfOk r (λ a. slots_of a ≡ own_slots (dictionary i u keys c))
+frozen_slots view (Ok a) (Ok k) i t u keys c v e w f s o h = ap slots_of h ∙ dictionary-frozen i t keys c v (view k) (subst (λ x. IsComplete (dictionary i x keys c)) (sym e) w) f s
 frozen_slots view (Ok a) (Err x) i t u keys c v e w f s o h = absurd (let q : false ≡ true = o in cc)
 frozen_slots view (Err x) ks i t u keys c v e w f s o h = tt
 
--- a data type with a type of keys is one of dictionaries
+-- a data type with a key type is a dictionary type
 pub keyed-type : (t : TypeTree) (k : IntegerType) → key_type t ≡ Some k → is_dictionary t ≡ true
 keyed-type (types.dictionary k u b) i h = refl
 keyed-type (types.extension n t m) i h = keyed-type t i h
 keyed-type t i h = cc
 
--- a value that stands there has a key, so it is not lacking
-pub not_lacking : {K : Type 0} (o : Option K) (most n : ℕ) (P : K → Type 0) (c : BuilderTree) (v w : PlainValue) → MatchOption o (most ≤ n) P → Stands c w n → w ≡ v → builder_len c ≤ most → IsNone o ↔ Lacks c v
+-- an existing value has a key
+pub not_lacking : {K : Type 0} (o : Option K) (most n : ℕ) (P : K → Type 0) (c : BuilderTree) (v w : PlainValue) → MatchOption o (most ≤ n) P → IsValueAt c w n → w ≡ v → builder_len c ≤ most → IsNone o ↔ Lacks c v
 not_lacking None most n P c v w m s e l = absurd (let k = s.0 in omega (arith, m, k, l))
-not_lacking (Some key) most n P c v w m s e l = (λ h. absurd (let p : true ≡ false = h in cc), λ h. absurd (h n (subst (λ u. Stands c u n) e s)))
+not_lacking (Some key) most n P c v w m s e l = (λ h. absurd (let p : true ≡ false = h in cc), λ h. absurd (h n (subst (λ u. IsValueAt c u n) e s)))

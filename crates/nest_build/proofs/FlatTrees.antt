@@ -1,4 +1,4 @@
--- Builders of flat arrays as trees of one level.
+-- Flat builders as trees of one level.
 use Rattle.std.specs.Prelude.{◌⊎◌, ◌≢◌, ◌↔◌, ℤ, Option, Some, None, not, IsTrue, Result, Ok, Err, OnOk, IfErr, alloc_error, option_map, nat_eq, slice_get, map, IsErrOf}
 use Rattle.std.proofs.Common.{◌≡◌, ℕ, suc, ◌+◌, ◌<◌, ◌≤◌, Bool, true, false, List, [], ◌∷◌, ◌++◌, length, get_or, refl, sym, ap, subst, ◌∙◌, inl, inr, arith}
 use Rattle.std.proofs.lemmas.List.{length-append, length-map, get_or-map}
@@ -12,13 +12,13 @@ use Rattle.nest_memory.specs.declared.datatypes.physical_type.PhysicalType.TheVa
 use Rattle.nest_memory.specs.declared.datatypes.physical_type.PrimitiveType.{PrimitiveType}
 use Rattle.nest_memory.specs.declared.error.Error.{Error}
 use Rattle.nest_memory.specs.declared.error.Error.TheVariants.{Memory, InvalidArgumentError, Overflow}
-use Rattle.nest_memory.specs.declared.error.Argument.TheVariants.{ItemType}
+use Rattle.nest_memory.specs.declared.error.ArgumentError.TheVariants.{ItemType}
 use Rattle.nest_flat.specs.FlatParts.{optional}
 use Rattle.nest_flat.specs.NullSlots.{NullsByValidity, slot-invalid, slot-null}
 use Rattle.nest_model.specs.Part.{Validity, valid_at}
 use Rattle.nest_model.specs.Slot as slots
 use Rattle.nest_model.specs.Slot.{Slot}
-use Rattle.nest_model.specs.Layout.{Layout, null, boolean, primitive, binary, text, fixed_size_binary, fixed_size_list, list, map as entries, struct, union, dictionary, layout_type}
+use Rattle.nest_model.specs.Layout.{Layout, null, boolean, primitive, binary, utf8, fixed_size_binary, fixed_size_list, list, map as entries, struct, union, dictionary, layout_type}
 use Rattle.nest_model.specs.Accessors.{validity_of, natives_of, bits_of}
 use Rattle.nest_model.specs.Meaning.{len, slot, slots_of}
 use Rattle.nest_model.specs.Reads.{slots-length, slot-place}
@@ -31,15 +31,15 @@ use Rattle.nest_model.specs.BuilderTree.{flat, builder_len}
 use Rattle.nest_model.specs.BuilderItem as items
 use Rattle.nest_model.specs.BuilderItem.{PlainValue, Holds, native_number, slot_of_plain, takes}
 use Rattle.nest_model.specs.BuilderAppend.{Accepted}
-use Rattle.nest_model.specs.BuilderAppendLaws.{flat_took, flat_took_null}
-use Rattle.nest_model.specs.BuilderRefusals.{asked_item, asked_refusal, item_refusal, plain_refusal, value_refusal}
+use Rattle.nest_model.specs.BuilderAppendLaws.{flat_accepted, flat_null_accepted}
+use Rattle.nest_model.specs.BuilderRefusals.{required_item, requirement_refusal, item_refusal, plain_refusal, value_refusal}
 use Rattle.nest_model.specs.BuilderRefusalLaws.{within, same_number}
 use Rattle.nest_model.specs.BuilderJoin.{join_checks, join_passes}
-use Rattle.nest_model.specs.BuilderReading.{whole, ReadsValue, Took, Refused}
+use Rattle.nest_model.specs.BuilderReading.{complete, ReadsValue, Consumed, Refused}
 use Rattle.nest_build.specs.FlatTree.{flat_tree}
-use Rattle.nest_build.specs.Told.{own_slot, TellsNulls}
+use Rattle.nest_build.specs.Shown.{own_slot, ShowsNulls}
 
--- lengths and places
+-- lengths and indices
 pub flat-within : (a : Layout) (i : ℕ) → i < builder_len (flat_tree a) → i < len a
 flat-within a i l = let e = slots-length a in omega (arith, l, e)
 
@@ -67,7 +67,7 @@ pub flat-bits : (a : Layout) → TopFits a → NullsByValidity a → ValidityFit
 flat-bits (boolean t bs va) f k = f.1.0
 flat-bits (primitive p t vs va) f k = f.1.0
 flat-bits (binary w t os bs va) f k = let x = binary-facts w t os bs va f in x.bits
-flat-bits (text w t os bs va) f k = let x = text-facts w t os bs va f in x.bits
+flat-bits (utf8 w t os bs va) f k = let x = text-facts w t os bs va f in x.bits
 flat-bits (fixed_size_binary t bs va) f k = let x = fixed_size_binary-facts t bs va f in x.bits
 flat-bits (fixed_size_list t c va) f k = let x = fixed_size_list-facts t c va f in x.bits
 flat-bits (list w t os c va) f k = let x = list-facts w t os c va f in x.bits
@@ -77,7 +77,7 @@ flat-bits (null t n) f k = absurd k
 flat-bits (union t ks cs os start) f k = absurd k
 flat-bits (dictionary t ks c) f k = absurd k
 
-tells-by : (va : Validity) (a : Layout) → va ≡ validity_of a → ValidityFits va (len a) → NullsByValidity a → TellsNulls va (flat_tree a)
+tells-by : (va : Validity) (a : Layout) → va ≡ validity_of a → ValidityFits va (len a) → NullsByValidity a → ShowsNulls va (flat_tree a)
 tells-by None a e f k =
     inr (λ i l n. let h : valid_at None i ≡ false = ap (λ v. valid_at v i) e ∙ slot-null a i k (sym (flat-place a i l) ∙ n) in cc)
 tells-by (Some bits) a e f k = (
@@ -88,10 +88,10 @@ tells-by (Some bits) a e f k = (
   ),
 )
 
-pub flat-tells : (a : Layout) (va : Validity) → va ≡ validity_of a → TopFits a → NullsByValidity a → TellsNulls va (flat_tree a)
+pub flat-tells : (a : Layout) (va : Validity) → va ≡ validity_of a → TopFits a → NullsByValidity a → ShowsNulls va (flat_tree a)
 flat-tells a va e f k = tells-by va a e (subst (λ v. ValidityFits v (len a)) (sym e) (flat-bits a f k)) k
 
--- a value asked for by its kind, and by its type
+-- the kind of a value is checked once or twice
 twice : (b : Bool) (e : Error) (o : Option Error) → refuse_if (not b) e (refuse_if (not b) e o) ≡ refuse_if (not b) e o
 twice true e o = refl
 twice false e o = refl
@@ -100,25 +100,25 @@ pub plain-value : (v : PlainValue) (t : TypeTree) (xs : List Slot) → plain_ref
 plain-value v t xs = twice (takes (flat t xs) v) (InvalidArgumentError ItemType) _
 
 pub value-took : {A : Type 0} (value : A → PlainValue) (item : Option A) (x : A) (v : PlainValue) (a b : Layout) → item ≡ Some x → v ≡ value x
-    → Accepted (items.plain v) (flat_tree a) (flat_tree b) → plain_refusal v (flat_tree a) ≡ None → Took (ReadsValue value) item (flat_tree a) (flat_tree b)
-value-took value item x v a b h e k n = rw h (items.plain v, ap (λ w. whole (items.plain w)) e, k, sym (plain-value v (layout_type a) (slots_of a)) ∙ n)
+    → Accepted (items.plain v) (flat_tree a) (flat_tree b) → plain_refusal v (flat_tree a) ≡ None → Consumed (ReadsValue value) item (flat_tree a) (flat_tree b)
+value-took value item x v a b h e k n = rw h (items.plain v, ap (λ w. complete (items.plain w)) e, k, sym (plain-value v (layout_type a) (slots_of a)) ∙ n)
 
 pub null-took : {A : Type 0} (value : A → PlainValue) (item : Option A) (a b : Layout) → item ≡ None
-    → Accepted items.null (flat_tree a) (flat_tree b) → item_refusal items.null (flat_tree a) ≡ None → Took (ReadsValue value) item (flat_tree a) (flat_tree b)
+    → Accepted items.null (flat_tree a) (flat_tree b) → item_refusal items.null (flat_tree a) ≡ None → Consumed (ReadsValue value) item (flat_tree a) (flat_tree b)
 null-took value item a b h k n = rw h (items.null, refl, k, n)
 
 pub value-refused : {A : Type 0} (value : A → PlainValue) (item : Option A) (x : A) (v : PlainValue) (a : Layout) → item ≡ Some x → v ≡ value x → (e : Error)
     → (e ≡ Memory alloc_error) ⊎ (plain_refusal v (flat_tree a) ≡ Some e) → Refused (ReadsValue value) item (flat_tree a) e
 value-refused value item x v a h f e (inl m) = inl m
 value-refused value item x v a h f e (inr k) =
-    inr (rw h (whole (items.plain v), ap (λ w. whole (items.plain w)) f, sym (plain-value v (layout_type a) (slots_of a)) ∙ k))
+    inr (rw h (complete (items.plain v), ap (λ w. complete (items.plain w)) f, sym (plain-value v (layout_type a) (slots_of a)) ∙ k))
 
--- two facts of a call that answers Ok
+-- combines two facts of an Ok result
 pub on_ok_both : {T E : Type 0} {A B C : Type 0} (r : Result T E) → (A → B → C) → OnOk r A → OnOk r B → OnOk r C
 on_ok_both (Ok x) f a b = f a b
 on_ok_both (Err e) f a b = tt
 
--- a fact of what a call refuses
+-- maps a fact of an Err result
 pub on_err_so : {T E : Type 0} {A B : E → Type 0} (r : Result T E) → ((e : E) → A e → B e) → IfErr r A → IfErr r B
 on_err_so (Ok x) f a = tt
 on_err_so (Err e) f a = f e a
@@ -132,12 +132,12 @@ native-nulls p a e = subst NullsByValidity (sym e) tt
 
 pub native-accepted : {T : Type 0} (p : PrimitiveType) (num : T → List ℤ) (a b : Layout) (x : Option T)
     → layout_type b ≡ layout_type a → slots_of b ≡ slots_of a ++ optional (λ y. slots.number (num y)) x ∷ []
-    → Accepted (asked_item (option_map (λ y. items.native p (num y)) x)) (flat_tree a) (flat_tree b)
-native-accepted p num a b None t s = rw t (flat_took_null (layout_type a) (slots_of a) (slots_of b) s)
-native-accepted p num a b (Some y) t s = rw t (flat_took (layout_type a) (slots_of a) (slots_of b) (items.native p (num y)) s)
+    → Accepted (required_item (option_map (λ y. items.native p (num y)) x)) (flat_tree a) (flat_tree b)
+native-accepted p num a b None t s = rw t (flat_null_accepted (layout_type a) (slots_of a) (slots_of b) s)
+native-accepted p num a b (Some y) t s = rw t (flat_accepted (layout_type a) (slots_of a) (slots_of b) (items.native p (num y)) s)
 
 pub native-fits : {T : Type 0} (p : PrimitiveType) (num : T → List ℤ) (a : Layout) (x : Option T) → TopFits a → a ≡ primitive p (layout_type a) (natives_of a) (validity_of a)
-    → length (slots_of a) + 1 ≤ largest_length → asked_refusal (option_map (λ y. items.native p (num y)) x) (flat_tree a) ≡ None
+    → length (slots_of a) + 1 ≤ largest_length → requirement_refusal (option_map (λ y. items.native p (num y)) x) (flat_tree a) ≡ None
 native-fits p num a None f e l = rw (native-physical p a f e, within (length (slots_of a) + 1) l) refl
 native-fits p num a (Some y) f e l =
     rw (native-physical p a f e, same_number (native_number p) (native_number p) refl, within (length (slots_of a) + 1) l) refl
@@ -157,13 +157,13 @@ truth-physical a f e = (subst TopFits e f).1.1.0
 pub truth-nulls : (a : Layout) → a ≡ boolean (layout_type a) (bits_of a) (validity_of a) → NullsByValidity a
 truth-nulls a e = subst NullsByValidity (sym e) tt
 
-pub truth-accepted : (a b : Layout) (x : Option Bool) → layout_type b ≡ layout_type a → slots_of b ≡ slots_of a ++ optional slots.truth x ∷ []
-    → Accepted (asked_item (option_map items.truth x)) (flat_tree a) (flat_tree b)
-truth-accepted a b None t s = rw t (flat_took_null (layout_type a) (slots_of a) (slots_of b) s)
-truth-accepted a b (Some y) t s = rw t (flat_took (layout_type a) (slots_of a) (slots_of b) (items.truth y) s)
+pub truth-accepted : (a b : Layout) (x : Option Bool) → layout_type b ≡ layout_type a → slots_of b ≡ slots_of a ++ optional slots.boolean x ∷ []
+    → Accepted (required_item (option_map items.boolean x)) (flat_tree a) (flat_tree b)
+truth-accepted a b None t s = rw t (flat_null_accepted (layout_type a) (slots_of a) (slots_of b) s)
+truth-accepted a b (Some y) t s = rw t (flat_accepted (layout_type a) (slots_of a) (slots_of b) (items.boolean y) s)
 
 pub truth-fits : (a : Layout) (x : Option Bool) → TopFits a → a ≡ boolean (layout_type a) (bits_of a) (validity_of a)
-    → length (slots_of a) + 1 ≤ largest_length → asked_refusal (option_map items.truth x) (flat_tree a) ≡ None
+    → length (slots_of a) + 1 ≤ largest_length → requirement_refusal (option_map items.boolean x) (flat_tree a) ≡ None
 truth-fits a None f e l = rw (truth-physical a f e, within (length (slots_of a) + 1) l) refl
 truth-fits a (Some y) f e l = rw (truth-physical a f e, within (length (slots_of a) + 1) l) refl
 
@@ -171,13 +171,13 @@ past : (n : ℕ) → largest_length < n → is_past n ≡ true
 past n l = le-leb (suc largest_length) n (omega (arith, l))
 
 pub truth-past : (a : Layout) (x : Option Bool) → TopFits a → a ≡ boolean (layout_type a) (bits_of a) (validity_of a)
-    → largest_length < len a + 1 → asked_refusal (option_map items.truth x) (flat_tree a) ≡ Some Overflow
+    → largest_length < len a + 1 → requirement_refusal (option_map items.boolean x) (flat_tree a) ≡ Some Overflow
 truth-past a None f e l = rw (truth-physical a f e, past (length (slots_of a) + 1) (omega (arith, slots-length a, l))) refl
 truth-past a (Some y) f e l = rw (truth-physical a f e, past (length (slots_of a) + 1) (omega (arith, slots-length a, l))) refl
 
 pub truth-refused : (a : Layout) (x : Option Bool) (e : Error) → TopFits a → a ≡ boolean (layout_type a) (bits_of a) (validity_of a)
     → (e ≡ Overflow) ⊎ (e ≡ Memory alloc_error) → (e ≡ Overflow → largest_length < len a + 1)
-    → (e ≡ Memory alloc_error) ⊎ ((e ≡ Overflow) × (asked_refusal (option_map items.truth x) (flat_tree a) ≡ Some e))
+    → (e ≡ Memory alloc_error) ⊎ ((e ≡ Overflow) × (requirement_refusal (option_map items.boolean x) (flat_tree a) ≡ Some e))
 truth-refused a x e f k (inl o) p = inr (o, truth-past a x f k (p o) ∙ ap Some (sym o))
 truth-refused a x e f k (inr m) p = inl m
 
@@ -186,9 +186,9 @@ never : IsTrue false → ⊥
 never t = cc
 
 no-value : (v : PlainValue) → slot_of_plain v ≡ slots.null → ⊥
-no-value (items.truth b) e = cc
+no-value (items.boolean b) e = cc
 no-value (items.native q zs) e = cc
-no-value (items.text t) e = cc
+no-value (items.utf8 t) e = cc
 no-value (items.bytes b) e = cc
 
 pub null-holds : (a : Layout) (i : ℕ) (v : PlainValue) (r : Bool) → i < len a → r ≡ valid_at (validity_of a) i → r ≡ false → IsTrue r ↔ Holds (flat_tree a) i v
@@ -200,20 +200,20 @@ pub value-holds : (a : Layout) (i : ℕ) (v : PlainValue) (s : Slot) (r : Bool) 
 value-holds a i v s r l t e k =
     (λ h. (t, slot-place a i slots.null l ∙ e ∙ k.0 h), λ h. k.1 (sym e ∙ sym (slot-place a i slots.null l) ∙ h.1))
 
-truth-same : (r t : Bool) → IsTrue (beq r t) ↔ (slots.truth r ≡ slots.truth t)
+truth-same : (r t : Bool) → IsTrue (beq r t) ↔ (slots.boolean r ≡ slots.boolean t)
 truth-same true true = (λ h. refl, λ e. refl)
 truth-same true false = (λ h. absurd (never h), λ e. cc)
 truth-same false true = (λ h. absurd (never h), λ e. cc)
 truth-same false false = (λ h. refl, λ e. refl)
 
-truth-at : (a : Layout) (i : ℕ) (r : Bool) → a ≡ boolean (layout_type a) (bits_of a) (validity_of a) → valid_at (validity_of a) i ≡ true → slice_get (bits_of a) i ≡ Some r → slot a i ≡ slots.truth r
+truth-at : (a : Layout) (i : ℕ) (r : Bool) → a ≡ boolean (layout_type a) (bits_of a) (validity_of a) → valid_at (validity_of a) i ≡ true → slice_get (bits_of a) i ≡ Some r → slot a i ≡ slots.boolean r
 truth-at a i r e k g = ap (λ b. slot b i) e ∙ rw (k, get_or_from_slice_get (bits_of a) i r false g) refl
 
-pub truth-holds : (a : Layout) (i : ℕ) (v : PlainValue) (t r : Bool) → TopFits a → a ≡ boolean (layout_type a) (bits_of a) (validity_of a) → i < len a → v ≡ items.truth t → valid_at (validity_of a) i ≡ true
+pub truth-holds : (a : Layout) (i : ℕ) (v : PlainValue) (t r : Bool) → TopFits a → a ≡ boolean (layout_type a) (bits_of a) (validity_of a) → i < len a → v ≡ items.boolean t → valid_at (validity_of a) i ≡ true
     → slice_get (bits_of a) i ≡ Some r → IsTrue (beq r t) ↔ Holds (flat_tree a) i v
 truth-holds a i v t r f e l q k g =
     subst (λ w. IsTrue (beq r t) ↔ Holds (flat_tree a) i w) (sym q)
-    (value-holds a i (items.truth t) (slots.truth r) (beq r t) l (rw (truth-physical a f e) refl) (truth-at a i r e k g) (truth-same r t))
+    (value-holds a i (items.boolean t) (slots.boolean r) (beq r t) l (rw (truth-physical a f e) refl) (truth-at a i r e k g) (truth-same r t))
 
 number-same : (r : Bool) (ws zs : List ℤ) → (IsTrue r ↔ (ws ≡ zs)) → IsTrue r ↔ (slots.number ws ≡ slots.number zs)
 number-same r ws zs k = (λ h. ap slots.number (k.0 h), λ e. k.1 (let q : ws ≡ zs = cc in q))

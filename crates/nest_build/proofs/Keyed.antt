@@ -1,4 +1,4 @@
--- Values of dictionaries by their hashes.
+-- Values of dictionaries and their hashes.
 use Rattle.std.specs.Prelude.{◌↔◌, ◌⊎◌, Option, Some, None, IfSome, IfNone, MatchOption, IsTrue, not, slice_get}
 use Rattle.std.proofs.Common.{◌≡◌, ◌≢◌, ℕ, zero, suc, ℤ, ◌+◌, ◌<◌, ◌≤◌, Bool, true, false, List, [], ◌∷◌, ◌++◌, length, get_or, take, refl, sym, ap, subst, ◌∙◌, inl, inr, arith}
 use Rattle.std.proofs.lemmas.Bool.{cases_lt}
@@ -10,9 +10,9 @@ use Rattle.nest_model.specs.Slot as slots
 use Rattle.nest_model.specs.Slot.{Slot}
 use Rattle.nest_model.specs.BuilderAppend.{Accepted, appended}
 use Rattle.nest_model.specs.BuilderAppendLaws.{len-accepted}
-use Rattle.nest_model.specs.BuilderCutLaws.{len-cut, own-cut, own-emptied, AreDifferent-take}
+use Rattle.nest_model.specs.BuilderTruncateLaws.{len-cut, own-cut, own-emptied, AreDifferent-take}
 use Rattle.nest_model.specs.BuilderItem as items
-use Rattle.nest_model.specs.BuilderItem.{PlainValue, truth, native, text, bytes, native_number, slot_of_plain, takes, Holds, Stands, Lacks}
+use Rattle.nest_model.specs.BuilderItem.{PlainValue, boolean, native, utf8, bytes, native_number, slot_of_plain, takes, Holds, IsValueAt, Lacks}
 use Rattle.nest_model.specs.BuilderKeyLaws.{AreDifferent-took, place-lacks}
 use Rattle.nest_model.specs.BuilderLevelLaws.{own-length, length-front}
 use Rattle.nest_model.specs.BuilderLevels.{own_slots}
@@ -20,14 +20,14 @@ use Rattle.nest_model.specs.BuilderTakesLaws.{takes-appended, takes-cut, takes-o
 use Rattle.nest_model.specs.BuilderTree.{BuilderTree, builder_len}
 use Rattle.nest_model.specs.BuilderRefusals.{plain_refusal, value_refusal}
 use Rattle.nest_model.specs.Decide.{refuse-none, not-false}
-use Rattle.nest_memory.specs.declared.error.Argument.TheVariants.{ItemType}
+use Rattle.nest_memory.specs.declared.error.ArgumentError.TheVariants.{ItemType}
 use Rattle.nest_memory.specs.declared.error.Error.TheVariants.{InvalidArgumentError}
-use Rattle.nest_model.specs.BuilderWhole.{IsWhole, AreDifferent, cut_builder, emptied}
+use Rattle.nest_model.specs.BuilderComplete.{IsComplete, AreDifferent, truncate_builder, emptied}
 use Rattle.nest_build.specs.Hashes.{value_hash}
 use Rattle.nest_build.specs.Keyed.{AreHashed, AreFull, AreKeyed}
-use Rattle.nest_build.specs.Told.{own_slot}
+use Rattle.nest_build.specs.Shown.{own_slot}
 
--- a kind is told by its number
+-- a native type is determined by its number
 kind_at : ℕ → PrimitiveType
 kind_at n =
     get_or (primitives.Int8 ∷ primitives.Int16 ∷ primitives.Int32 ∷ primitives.Int64 ∷ primitives.Int128 ∷ primitives.Int256 ∷ primitives.UInt8 ∷ primitives.UInt16 ∷ primitives.UInt32 ∷ primitives.UInt64
@@ -57,41 +57,41 @@ same_kind p q e = sym (kind_again p) ∙ (ap kind_at e ∙ kind_again q)
 same_native : (p q : PrimitiveType) (zs ws : List ℤ) → p ≡ q → slots.number zs ≡ slots.number ws → native p zs ≡ native q ws
 same_native p q zs ws e f = let g : zs ≡ ws = cc in cc
 
--- of the values that one builder takes, no two are one slot
+-- two values that one builder accepts and that have equal slots are equal
 pub same_value : (c : BuilderTree) (v w : PlainValue) → takes c v ≡ true → takes c w ≡ true → slot_of_plain v ≡ slot_of_plain w → v ≡ w
-same_value c (truth a) (truth b) s t e = let f : slots.truth a ≡ slots.truth b = e in let g : a ≡ b = cc in ap truth g
-same_value c (truth a) (native p zs) s t e = absurd (let f : slots.truth a ≡ slots.number zs = e in cc)
-same_value c (truth a) (text b) s t e = absurd (let f : slots.truth a ≡ slots.text b = e in cc)
-same_value c (truth a) (bytes b) s t e = absurd (let f : slots.truth a ≡ slots.bytes b = e in cc)
-same_value c (native p zs) (truth b) s t e = absurd (let f : slots.number zs ≡ slots.truth b = e in cc)
+same_value c (boolean a) (boolean b) s t e = let f : slots.boolean a ≡ slots.boolean b = e in let g : a ≡ b = cc in ap boolean g
+same_value c (boolean a) (native p zs) s t e = absurd (let f : slots.boolean a ≡ slots.number zs = e in cc)
+same_value c (boolean a) (utf8 b) s t e = absurd (let f : slots.boolean a ≡ slots.utf8 b = e in cc)
+same_value c (boolean a) (bytes b) s t e = absurd (let f : slots.boolean a ≡ slots.bytes b = e in cc)
+same_value c (native p zs) (boolean b) s t e = absurd (let f : slots.number zs ≡ slots.boolean b = e in cc)
 same_value c (native p zs) (native q ws) s t e = same_native p q zs ws (same_kind p q (takes-one_kind c p q zs ws s t)) e
-same_value c (native p zs) (text b) s t e = absurd (let f : slots.number zs ≡ slots.text b = e in cc)
+same_value c (native p zs) (utf8 b) s t e = absurd (let f : slots.number zs ≡ slots.utf8 b = e in cc)
 same_value c (native p zs) (bytes b) s t e = absurd (let f : slots.number zs ≡ slots.bytes b = e in cc)
-same_value c (text a) (truth b) s t e = absurd (let f : slots.text a ≡ slots.truth b = e in cc)
-same_value c (text a) (native q ws) s t e = absurd (let f : slots.text a ≡ slots.number ws = e in cc)
-same_value c (text a) (text b) s t e = let f : slots.text a ≡ slots.text b = e in let g : a ≡ b = cc in ap text g
-same_value c (text a) (bytes b) s t e = absurd (let f : slots.text a ≡ slots.bytes b = e in cc)
-same_value c (bytes a) (truth b) s t e = absurd (let f : slots.bytes a ≡ slots.truth b = e in cc)
+same_value c (utf8 a) (boolean b) s t e = absurd (let f : slots.utf8 a ≡ slots.boolean b = e in cc)
+same_value c (utf8 a) (native q ws) s t e = absurd (let f : slots.utf8 a ≡ slots.number ws = e in cc)
+same_value c (utf8 a) (utf8 b) s t e = let f : slots.utf8 a ≡ slots.utf8 b = e in let g : a ≡ b = cc in ap utf8 g
+same_value c (utf8 a) (bytes b) s t e = absurd (let f : slots.utf8 a ≡ slots.bytes b = e in cc)
+same_value c (bytes a) (boolean b) s t e = absurd (let f : slots.bytes a ≡ slots.boolean b = e in cc)
 same_value c (bytes a) (native q ws) s t e = absurd (let f : slots.bytes a ≡ slots.number ws = e in cc)
-same_value c (bytes a) (text b) s t e = absurd (let f : slots.bytes a ≡ slots.text b = e in cc)
+same_value c (bytes a) (utf8 b) s t e = absurd (let f : slots.bytes a ≡ slots.utf8 b = e in cc)
 same_value c (bytes a) (bytes b) s t e = let f : slots.bytes a ≡ slots.bytes b = e in let g : a ≡ b = cc in ap bytes g
 
 pub value_full : (v : PlainValue) → slot_of_plain v ≢ slots.null
-value_full (truth a) e = absurd (let f : slots.truth a ≡ slots.null = e in cc)
+value_full (boolean a) e = absurd (let f : slots.boolean a ≡ slots.null = e in cc)
 value_full (native p zs) e = absurd (let f : slots.number zs ≡ slots.null = e in cc)
-value_full (text a) e = absurd (let f : slots.text a ≡ slots.null = e in cc)
+value_full (utf8 a) e = absurd (let f : slots.utf8 a ≡ slots.null = e in cc)
 value_full (bytes a) e = absurd (let f : slots.bytes a ≡ slots.null = e in cc)
 
 pub plain_taken : (v : PlainValue) (t : BuilderTree) → plain_refusal v t ≡ None → takes t v ≡ true
 plain_taken v t h = not-false (takes t v) (refuse-none (not (takes t v)) (InvalidArgumentError ItemType) (value_refusal v t) h).0
 
--- no value
+-- no values
 pub keyed_none : (c : BuilderTree) → builder_len c ≡ 0 → AreKeyed [] c
 keyed_none c e =
     let n = own-length c in
     (sym e, (λ v k s. absurd (omega (arith, e, s.0))), (λ i j l m f. absurd (omega (arith, e, n, l))), (λ k l. absurd (omega (arith, e, l))))
 
--- a value more, which stood nowhere
+-- one new value
 module _ (hashes : List ℕ) (c d : BuilderTree) (v : PlainValue) (h : AreKeyed hashes c) (t : takes c v ≡ true) (a : Accepted (items.plain v) c d) where
   before : (k : ℕ) → k < builder_len c → own_slot d k ≡ own_slot c k
   before k l = let n = own-length c in ap (λ xs. get_or xs k slots.null) a.last ∙ get_or_append_left (own_slots c) (slot_of_plain v ∷ []) slots.null k (omega (arith, n, l))
@@ -126,7 +126,7 @@ module _ (hashes : List ℕ) (c d : BuilderTree) (v : PlainValue) (h : AreKeyed 
       (omega (arith, n, m, h.0), hashed_more, AreDifferent-took c d v (place-lacks c v t f) a.last h.2, full_more)
 
 -- the first values
-module _ (hashes : List ℕ) (c d : BuilderTree) (n : ℕ) (w : IsWhole c) (l : n ≤ builder_len c) (h : AreKeyed hashes c) (e : d ≡ cut_builder c n) where
+module _ (hashes : List ℕ) (c d : BuilderTree) (n : ℕ) (w : IsComplete c) (l : n ≤ builder_len c) (h : AreKeyed hashes c) (e : d ≡ truncate_builder c n) where
   len_cut : builder_len d ≡ n
   len_cut = ap builder_len e ∙ len-cut c n l
 
@@ -143,12 +143,12 @@ module _ (hashes : List ℕ) (c d : BuilderTree) (n : ℕ) (w : IsWhole c) (l : 
         (λ k m f. h.3 k (inside k m) (sym (at_front k (below k m)) ∙ f)),
       )
 
--- no value any more
+-- all values removed
 pub keyed_emptied : (c d : BuilderTree) → d ≡ emptied c → AreKeyed [] d
 keyed_emptied c d e = keyed_none d (sym (own-length d) ∙ ap length (ap own_slots e ∙ own-emptied c))
 
--- what a search finds
-pub found : (hashes : List ℕ) (c : BuilderTree) (v : PlainValue) (k hash : ℕ) → AreKeyed hashes c → slice_get hashes k ≡ Some hash → (IsTrue true ↔ Holds c k v) → Stands c v k
+-- the result of a search
+pub found : (hashes : List ℕ) (c : BuilderTree) (v : PlainValue) (k hash : ℕ) → AreKeyed hashes c → slice_get hashes k ≡ Some hash → (IsTrue true ↔ Holds c k v) → IsValueAt c v k
 found hashes c v k hash h e f = (let l = slice_get_within hashes k hash e in omega (arith, l, h.0), f.0 refl)
 
 pub not_found : (hashes : List ℕ) (c : BuilderTree) (v : PlainValue) (hash : ℕ) → AreKeyed hashes c → hash ≡ value_hash v → ((k : ℕ) → slice_get hashes k ≡ Some hash → IsTrue false ↔ Holds c k v) → Lacks c v
@@ -158,11 +158,11 @@ not_found hashes c v hash h e f = λ k s.
     let q : false ≡ true = (f k there).1 s.1 in
     cc
 
--- the same values under the same tree
+-- equal trees
 pub keyed_same : (hashes : List ℕ) (c d : BuilderTree) → d ≡ c → AreKeyed hashes c → AreKeyed hashes d
 keyed_same hashes c d e h = subst (AreKeyed hashes) (sym e) h
 
 pub found_place : (r : Option ℕ) (hashes : List ℕ) (c : BuilderTree) (v : PlainValue) (hash : ℕ) → AreKeyed hashes c → hash ≡ value_hash v
-    → IfSome r (λ k. (slice_get hashes k ≡ Some hash) × (IsTrue true ↔ Holds c k v)) → IfNone r ((k : ℕ) → slice_get hashes k ≡ Some hash → IsTrue false ↔ Holds c k v) → MatchOption r (Lacks c v) (Stands c v)
+    → IfSome r (λ k. (slice_get hashes k ≡ Some hash) × (IsTrue true ↔ Holds c k v)) → IfNone r ((k : ℕ) → slice_get hashes k ≡ Some hash → IsTrue false ↔ Holds c k v) → MatchOption r (Lacks c v) (IsValueAt c v)
 found_place None hashes c v hash h e f g = not_found hashes c v hash h e g
 found_place (Some k) hashes c v hash h e f g = found hashes c v k hash h f.0 f.1

@@ -1,4 +1,4 @@
--- Nulls that are pushed one after another.
+-- A sequence of pushed nulls.
 use Rattle.std.specs.Prelude.{◌⊎◌, None, Some, alloc_error}
 use Rattle.std.proofs.Common.{◌≡◌, ℕ, zero, suc, ◌+◌, ◌<◌, true, false, replicate, sym, ap, ◌∙◌, inl, inr, arith}
 use Rattle.nest_memory.specs.declared.error.Error.{Error}
@@ -10,7 +10,7 @@ use Rattle.nest_model.specs.BuilderAppendLaws.{nulls-zero, nulls-all}
 use Rattle.nest_model.specs.BuilderRefusals.{nulls_pass, item_refusal}
 use Rattle.nest_model.specs.BuilderRefusalLaws.{nulls-more_fit, nulls-then_pass, null_passes, null_fits}
 
--- nulls that were accepted so far, and one more
+-- the nulls accepted so far, and one more
 so_far : (t u : BuilderTree) (i : ℕ) → AcceptedAll (replicate i items.null) t u → u ≡ nulls_appended i t
 so_far t u i a = a.exact ∙ nulls-all i t
 

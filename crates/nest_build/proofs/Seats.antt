@@ -1,4 +1,4 @@
--- Places of numbers in an open table.
+-- The hash table of dictionary values: entries of indices.
 use Rattle.std.proofs.Common.{◌≡◌, ◌≢◌, ℕ, zero, suc, ◌+◌, ◌-◌, ◌*◌, ◌<◌, ◌≤◌, ◌⊎◌, inl, inr, Bool, true, false, cond, ltb, List, [], ◌∷◌, ◌++◌, length, get_or, set, take, replicate, refl, sym, ap, ◌∙◌, arith, rules, Some, slice_get}
 use Rattle.std.specs.Int.Bits.{bit_and}
 use Rattle.std.proofs.lemmas.Bool.Decides.{nat_tests}
@@ -12,7 +12,7 @@ use Rattle.nest_build.specs.Seats.{around, place_on, seat_at, free_places, IsFre
 pub home_below : (hash n : ℕ) → 0 < n → bit_and hash (n - 1) < n
 home_below hash n h = omega (arith, and_le_r hash (n - 1))
 
--- each place is some steps on
+-- each position is on the probe sequence
 pub record Reach (hash p n : ℕ) : Type 0 where
   pub step : ℕ
   pub within : step < n
@@ -54,7 +54,7 @@ pub place_far : (hash step n : ℕ) → step < n → n - bit_and hash (n - 1) �
 unfolding place_on
 place_far hash step n s l = far (bit_and hash (n - 1)) step n (home_below hash n (omega arith)) l
 
--- how many are free
+-- the number of free entries
 pub free_taken : (xs : List ℕ) (p v : ℕ) → p < length xs → get_or xs p 0 ≡ 0 → free_places (set xs p (suc v)) + 1 ≡ free_places xs
 free_taken [] p v l e = absurd (omega arith)
 free_taken (zero ∷ xs) zero v l e = omega arith
@@ -83,7 +83,7 @@ free_within [] = omega arith
 free_within (zero ∷ xs) = omega (arith, free_within xs)
 free_within (suc k ∷ xs) = omega (arith, free_within xs)
 
--- A search that met numbers alone goes on inside the table.
+-- A probe that met no free entry continues inside the table.
 all_taken : (places : List ℕ) (hash : ℕ) → ((d : ℕ) → d < length places → 0 < seat_at places hash d) → free_places places ≡ 0
 all_taken places hash h = free_none places (λ p l. taken_at p (reached hash p (length places) l))
   where
@@ -97,7 +97,7 @@ step_within places hash step f l h = by_end (cases_lt (step + 1) (length places)
     by_end (inl a) = a
     by_end (inr b) = absurd (omega (arith, f, all_taken places hash (λ d m. h d (omega arith))))
 
--- a search on its way to a free place
+-- the invariant of a search for a free entry
 pub record Probing (places : List ℕ) (hash step : ℕ) : Type 0 where
   pub within : step < length places
   pub free : 0 < free_places places
@@ -115,7 +115,7 @@ probing_next places hash step p n =
 pub probing_last : (places : List ℕ) (hash step p : ℕ) → Probing places hash step → p ≡ place_on hash step (length places) → p < length places → seat_at places hash step ≡ 0 → IsFree places hash p
 probing_last places hash step p h e l z = record { inside = l; free = rw (e, z) refl; step = step; within = h.within; there = sym e; taken = h.taken }
 
--- Writing one place.
+-- Writing one entry.
 seat_other : (places : List ℕ) (p v hash d : ℕ) → seat_at places hash d ≢ get_or places p 0 → seat_at (set places p v) hash d ≡ seat_at places hash d
 seat_other places p v hash d h =
     rw (length-set places p v) (get_or-set_other places p (place_on hash d (length places)) v 0 (λ e. h (ap (λ q. get_or places q 0) e)))
@@ -123,7 +123,7 @@ seat_other places p v hash d h =
 seat_same : (places : List ℕ) (p v hash d : ℕ) → p < length places → place_on hash d (length places) ≡ p → seat_at (set places p v) hash d ≡ v
 seat_same places p v hash d l e = rw (length-set places p v, e) (get_or-set_same places p v 0 l)
 
--- a number stays seated where another place is written
+-- an index stays on its probe sequence if another entry is written
 seat_kept : (places : List ℕ) (p v hash k : ℕ) → ((x : ℕ) → 0 < x → x ≤ suc k → x ≢ get_or places p 0) → IsSeated places hash k → IsSeated (set places p v) hash k
 seat_kept places p v hash k apart s =
     let same : (d : ℕ) → d < s.step → seat_at (set places p v) hash d ≡ seat_at places hash d = λ d l. seat_other places p v hash d (apart (seat_at places hash d) (s.taken d l) (omega (arith, s.older d l))) in
@@ -142,7 +142,7 @@ at_written places p q v P l a b = by_place (cases_eq q p)
     by_place (inl e) = rw (e, get_or-set_same places p v 0 l) (a e)
     by_place (inr n) = rw (get_or-set_other places p q v 0 n) (b n)
 
--- one number more
+-- one more index
 pub seats_more : (hashes places : List ℕ) (hash p v : ℕ) → AreSeats hashes places → IsFree places hash p → v ≡ length hashes + 1 → AreSeats (hashes ++ hash ∷ []) (set places p v)
 seats_more hashes places hash p v s f e =
     let len : length (hashes ++ hash ∷ []) ≡ length hashes + 1 = length_push hashes hash in
@@ -185,7 +185,7 @@ seats_more hashes places hash p v s f e =
         (λ ea. at_written places p b v (λ y. 0 < v → v ≡ y → a ≡ b) f.inside (λ eb _ _. ea ∙ sym eb) (λ nb _ q. absurd (omega (arith, q, e, s.below b (omega (arith, wide, lb))))))
         (λ na. at_written places p b v (λ y. 0 < get_or places a 0 → get_or places a 0 ≡ y → a ≡ b) f.inside (λ eb _ q. absurd (omega (arith, q, e, s.below a (omega (arith, wide, la))))) (λ nb z q. s.single a b (omega (arith, wide, la)) (omega (arith, wide, lb)) z q))
 
--- the last number less
+-- the last index removed
 pub seats_less : (hashes places : List ℕ) (hash p : ℕ) → AreSeats (hashes ++ hash ∷ []) places → p < length places → get_or places p 0 ≡ length hashes + 1 → AreSeats hashes (set places p 0)
 seats_less hashes places hash p s l e =
     let len : length (hashes ++ hash ∷ []) ≡ length hashes + 1 = length_push hashes hash in
@@ -213,7 +213,7 @@ seats_less hashes places hash p s l e =
         (λ ea z _. absurd (omega (arith, z)))
         (λ na. at_written places p b 0 (λ y. 0 < get_or places a 0 → get_or places a 0 ≡ y → a ≡ b) l (λ eb z q. absurd (omega (arith, z, q))) (λ nb z q. s.single a b (omega (arith, wide, la)) (omega (arith, wide, lb)) z q))
 
--- no number, in a table of zeros
+-- no indices, in a table of zeros
 pub seats_none : (n : ℕ) → AreSeats [] (replicate n 0)
 seats_none n =
     let wide : length (replicate n (zero)) ≡ n = length-replicate {A = ℕ} n 0 in
@@ -231,7 +231,7 @@ table_new old new n m e z h =
     let c : new ≡ replicate n 0 = h ∙ rw (a, b) refl in
     rw c (seats_none n, length-replicate {A = ℕ} n 0)
 
--- A search that met no number of the hash that passes, up to the end or to a free place: there is none.
+-- A probe up to a free entry or to the end that met no index that passes: there is none.
 pub none_found : (hashes places : List ℕ) (hash n : ℕ) (No : ℕ → Type 0) → AreSeats hashes places → ((d j : ℕ) → d < n → seat_at places hash d ≡ suc j → slice_get hashes j ≡ Some hash → No j) → (length places ≤ n) ⊎ (seat_at places hash n ≡ 0)
     → (k : ℕ) → slice_get hashes k ≡ Some hash → No k
 none_found hashes places hash n No s f stop k h = at_seat (rw (get_or_from_slice_get hashes k hash 0 h) at (s.seated k (slice_get_within hashes k hash h)))
@@ -251,7 +251,7 @@ none_found hashes places hash n No s f stop k h = at_seat (rw (get_or_from_slice
         by_step (inl l) = f t.step k l t.there h
         by_step (inr l) = absurd (behind t l stop)
 
--- a search on its way to a number
+-- the invariant of a search for an index
 pub record Seeking (places : List ℕ) (hash k step : ℕ) : Type 0 where
   pub seated : IsSeated places hash k
   pub before : step ≤ seated.step
@@ -271,7 +271,7 @@ sought places hash k step p h e n =
     let apart : seat_at places hash step ≢ k + 1 = rw e at n in
     seeking_next places hash k step h (λ q. apart (omega (arith, q)))
 
--- the steps of the calls
+-- the steps of the functions
 pub seats_step : (hashes places : List ℕ) (i p : ℕ) → AreSeats (take i hashes) places → i < length hashes → IsFree places (get_or hashes i 0) p → AreSeats (take (i + 1) hashes) (set places p (i + 1))
 seats_step hashes places i p s l f = rw (take_more hashes i 0 l) (seats_more (take i hashes) places (get_or hashes i 0) p (i + 1) s f (omega (arith, length-take-le i hashes (omega arith))))
 

@@ -1,4 +1,4 @@
--- The kind of the values of a builder of native values of any kind.
+-- The native type of a primitive builder of any native type.
 use Rattle.nest_memory.specs.declared.datatypes.physical_type.PrimitiveType.{PrimitiveType}
 use Rattle.nest_memory.specs.declared.datatypes.physical_type.PrimitiveType.TheVariants as primitives
 use Rattle.nest_flat.specs.declared.any_primitive.mutable.AnyMutablePrimitive.{AnyMutablePrimitive}

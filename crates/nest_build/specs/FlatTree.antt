@@ -1,4 +1,4 @@
--- A builder of a flat array as the tree of its one level, and the values of one native type.
+-- The tree of a flat builder, which has one level, and the values of one native type.
 use Rattle.nest_model.specs.Layout.{Layout, layout_type}
 use Rattle.nest_model.specs.Meaning.{slots_of}
 use Rattle.nest_model.specs.BuilderTree as builders

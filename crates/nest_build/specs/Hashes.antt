@@ -1,4 +1,4 @@
--- The hash by which a value of a dictionary is found: what is fed to std's hasher, and what it answers.
+-- The hash of a dictionary value: what is written to std's hasher, and its result.
 use Rattle.std.specs.Prelude.{ℕ, ℤ, pos, List, [], ◌∷◌, ◌++◌, fold}
 use Rattle.std.specs.Hash as fed
 use Rattle.std.specs.Hash.DefaultHasher as sip
@@ -7,7 +7,7 @@ use Rattle.nest_memory.specs.declared.datatypes.physical_type.PrimitiveType.TheV
 use Rattle.nest_model.specs.BuilderItem as items
 use Rattle.nest_model.specs.BuilderItem.{PlainValue}
 
--- a native value: its whole numbers, one after another
+-- a native value: its integers, in order
 abbrev pub native_writes : PrimitiveType → List ℤ → List (List ℕ)
 native_writes primitives.Int8 (z ∷ []) = fed.i8 z
 native_writes primitives.Int16 (z ∷ []) = fed.i16 z
@@ -24,9 +24,9 @@ native_writes primitives.MonthDayNano (z ∷ w ∷ u ∷ []) = fed.i32 z ++ fed.
 native_writes _ _ = []
 
 abbrev pub value_writes : PlainValue → List (List ℕ)
-value_writes (items.truth b) = fed.bool b
+value_writes (items.boolean b) = fed.bool b
 value_writes (items.native p zs) = native_writes p zs
-value_writes (items.text t) = fed.str t
+value_writes (items.utf8 t) = fed.str t
 value_writes (items.bytes b) = fed.slice fed.u8 b
 
 unfoldable pub value_hash : PlainValue → ℕ

@@ -10,5 +10,5 @@ pub mod NumberRows
 pub mod Rows
 pub mod Seats
 pub mod Slices
-pub mod Told
+pub mod Shown
 pub mod Words

@@ -1,4 +1,4 @@
--- Which rows of numbers a builder of lists refuses, and what an accepted one adds.
+-- When a list builder refuses a row of numbers, and what an accepted row adds.
 use Rattle.std.specs.Prelude.{Option, Some, None, ltb, ◌||◌}
 use Rattle.std.proofs.Common.{◌≡◌, ℕ, ◌+◌, ◌<◌, ◌≤◌, Bool, false, true, List, [], ◌∷◌, ◌++◌, length, map, refl, ap, sym, ◌∙◌, inl, inr, arith, length-append}
 use Rattle.std.proofs.lemmas.Bool.{cases_lt, lt-ltb, ltb-true}
@@ -14,7 +14,7 @@ use Rattle.nest_model.specs.BuilderItem.{PlainValue, seal_items, holds_kind}
 use Rattle.nest_model.specs.BuilderRefusals.{item_refusal, items_refusal}
 use Rattle.nest_model.specs.BuilderRefusalLaws.{within}
 use Rattle.nest_model.specs.BuilderRow.{Row}
-use Rattle.nest_model.specs.BuilderSpells.{value_item}
+use Rattle.nest_model.specs.BuilderInput.{value_item}
 use Rattle.nest_model.specs.BuilderTree.{BuilderTree, flat, list, builder_len}
 use Rattle.nest_model.specs.Checks.{first_of, refuse_if, is_past, largest_length}
 use Rattle.nest_model.specs.Slot as slots
@@ -38,7 +38,7 @@ module _ {A : Type 0} (value : A → PlainValue) (p : PrimitiveType) (kind : (x 
   one_past ss None l = rw (is, past (length ss + 1) l) refl
   one_past ss (Some z) l = rw (is, kind z, past (length ss + 1) l) refl
 
-  -- a slot more
+  -- one more slot
   one_more : (ss : List Slot) (x : Option A) → (s : Slot) × (appended (value_item value x) (flat u ss) ≡ flat u (ss ++ s ∷ []))
   one_more ss None = (slots.null, refl)
   one_more ss (Some z) = (_, refl)
@@ -69,7 +69,7 @@ module _ {A : Type 0} (value : A → PlainValue) (p : PrimitiveType) (kind : (x 
     | inr ge ↦ ap (λ o. first_of o (items_refusal (seal_items (map (value_item value) xs)) (appended (value_item value x) (flat u ss)))) (one_past ss x (omega arith))
   ]
 
-  -- a row of numbers is refused just where rows or items have no place
+  -- a row of numbers is refused exactly if the number of rows or of items exceeds its limit
   pub number_row_refusal : (large : Bool) (t : TypeTree) (rows : List Row) (ss : List Slot) (xs : List (Option A)) → length ss ≤ largest_length
       → item_refusal (row_item value (Some xs)) (list large t rows (flat u ss)) ≡ refuse_if (is_past (length rows + 1) || ltb (largest_offset large) (length ss + length xs)) Overflow None
   number_row_refusal large t rows ss xs l = elim (cases_lt largest_length (length ss + length xs)) [
@@ -86,12 +86,12 @@ module _ {A : Type 0} (value : A → PlainValue) (p : PrimitiveType) (kind : (x 
       or_true false b h = h
       or_true true b h = refl
 
-  -- a row that was accepted adds its values to the child
+  -- an accepted row appends its values to the child
   pub number_row_items : (large : Bool) (t : TypeTree) (rows : List Row) (ss : List Slot) (r : Option (List (Option A))) (new : BuilderTree) → Accepted (row_item value r) (list large t rows (flat u ss)) new → builder_len (list_child new) ≡ length ss + row_len r
   number_row_items large t rows ss None new a = ap (λ t. builder_len (list_child t)) a.exact ∙ omega arith
   number_row_items large t rows ss (Some xs) new a = let more = all_more xs ss in ap (λ t. builder_len (list_child t)) a.exact ∙ ap builder_len more.1 ∙ more.2
 
-  -- a row that nothing refuses has a place for its values
+  -- after an accepted row the number of items is at most the largest offset
   pub number_row_fits : (large : Bool) (t : TypeTree) (rows : List Row) (ss : List Slot) (r : Option (List (Option A))) → length ss ≤ largest_offset large → item_refusal (row_item value r) (list large t rows (flat u ss)) ≡ None → length ss + row_len r ≤ largest_offset large
   number_row_fits large t rows ss None l h = omega (arith, l)
   number_row_fits large t rows ss (Some xs) l h = elim (cases_lt (largest_offset large) (length ss + length xs)) [
@@ -103,7 +103,7 @@ module _ {A : Type 0} (value : A → PlainValue) (p : PrimitiveType) (kind : (x 
       none_past false b h e = elim b as (λ x. x ≡ true → ◌≡◌ {A = Option Error} (refuse_if x Overflow None) None → ⊥) [ true ↦ λ p q. cc | false ↦ λ p q. cc ] h e
       none_past true b h e = cc
 
-  -- what refuses a row, while rows have their place, is that its values have none
+  -- if the number of rows is within its limit, the only error is Overflow of the number of items
   pub number_row_past : (large : Bool) (t : TypeTree) (rows : List Row) (ss : List Slot) (r : Option (List (Option A))) (e : Error) → length rows + 1 ≤ largest_length → length ss ≤ largest_length
       → item_refusal (row_item value r) (list large t rows (flat u ss)) ≡ Some e → (e ≡ Overflow) × (largest_offset large < length ss + row_len r)
   number_row_past large t rows ss None e n l h = absurd (let k : ◌≡◌ {A = Option Error} None (Some e) = sym (ap (λ b. refuse_if b Overflow None) (within (length rows + 1) n)) ∙ h in cc)

@@ -1,26 +1,27 @@
--- Where an open table has the numbers of some hashes: in a place stands one more than its number, or 0.
+-- The hash table of dictionary values: open addressing, linear probing. An entry is an index plus one, or 0 if it is
+-- free.
 use Rattle.std.specs.Prelude.{◌≡◌, ℕ, zero, suc, ◌+◌, ◌-◌, ◌<◌, ◌≤◌, List, [], ◌∷◌, length, get_or, cond, ltb}
 use Rattle.std.specs.Int.Bits.{bit_and}
 
--- the place so many steps on from another, around the end
+-- the position a number of steps after another, modulo the length
 unfoldable pub around : ℕ → ℕ → ℕ → ℕ
 around home step places = cond (ltb (home + step) places) (home + step) (home + step - places)
 
--- the same from the place at which the search for a hash begins
+-- the position that a probe for a hash visits at a step
 unfoldable pub place_on : ℕ → ℕ → ℕ → ℕ
 place_on hash step places = around (bit_and hash (places - 1)) step places
 
--- what stands there
+-- the entry at that position
 abbrev pub seat_at : List ℕ → ℕ → ℕ → ℕ
 seat_at places hash step = get_or places (place_on hash step (length places)) 0
 
--- how many places have no number
+-- the number of free entries
 abbrev pub free_places : List ℕ → ℕ
 free_places [] = 0
 free_places (zero ∷ xs) = suc (free_places xs)
 free_places (suc k ∷ xs) = free_places xs
 
--- p is the first place without a number that a search for the hash comes by
+-- p is the first free entry on the probe sequence of the hash
 pub record IsFree (places : List ℕ) (hash p : ℕ) : Type 0 where
   pub inside : p < length places
   pub free : get_or places p 0 ≡ 0
@@ -29,7 +30,7 @@ pub record IsFree (places : List ℕ) (hash p : ℕ) : Type 0 where
   pub there : place_on hash step (length places) ≡ p
   pub taken : (d : ℕ) → d < step → 0 < seat_at places hash d
 
--- number k stands where a search for its hash comes by, behind lower numbers alone
+-- index k is on the probe sequence of its hash, after smaller indices only
 pub record IsSeated (places : List ℕ) (hash k : ℕ) : Type 0 where
   pub step : ℕ
   pub within : step < length places
@@ -37,7 +38,7 @@ pub record IsSeated (places : List ℕ) (hash k : ℕ) : Type 0 where
   pub taken : (d : ℕ) → d < step → 0 < seat_at places hash d
   pub older : (d : ℕ) → d < step → seat_at places hash d ≤ k
 
--- each number of the hashes has its one place
+-- each index is in exactly one entry
 pub record AreSeats (hashes places : List ℕ) : Type 0 where
   pub room : free_places places + length hashes ≡ length places
   pub below : (p : ℕ) → p < length places → get_or places p 0 ≤ length hashes

@@ -1,4 +1,4 @@
-//! A box of any builder is a builder: a call goes to the one inside.
+//! `MutableArray` for a box of any builder.
 use crate::array::MutableArray;
 use nest_array::AnyArray;
 use nest_flat::plain::Plain;
@@ -33,8 +33,8 @@ impl MutableArray for Box<dyn MutableArray> {
         (**self).is_valid(i)
     }
 
-    fn is_whole(&self) -> bool {
-        (**self).is_whole()
+    fn is_complete(&self) -> bool {
+        (**self).is_complete()
     }
 
     fn holds(&self, i: usize, value: &Plain<'_>) -> bool {

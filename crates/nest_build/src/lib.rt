@@ -1,7 +1,7 @@
 //! Builders of nested arrays in the Arrow format.
 //!
-//! A statement whose value is never read (`let _len = ..`, `x.known()`) shows the prover a fact that the next step needs, and does
-//! nothing when it runs.
+//! A statement whose value is never read (`let _len = ..`, `x.known()`) shows the prover a fact that the next step
+//! needs. It does nothing at run time.
 #![tactic(auto)]
 
 pub mod array;

@@ -1,48 +1,49 @@
 //! Pushing items of one type: arrow2's `TryPush`, `TryExtend` and `TryExtendFromSelf`.
 ghost use Rattle.std.specs.Prelude.{◌≡◌, ◌<◌, ◌⊎◌, false, true, OnOk, OnErr, IfErr, replicate, alloc_error};
 ghost use Rattle.nest_model.specs.BuilderItem.{null as null_item};
-ghost use Rattle.nest_build.specs.Words.{AcceptedAll, CanRead, FailFirst, IsWhole, Joined, Memory, Overflow, Pass, Read, Refused, RefusedSome, Took, TookAll, join_checks, nulls_pass};
+ghost use Rattle.nest_build.specs.Words.{AcceptedAll, CanRead, FailFirst, IsComplete, Joined, Memory, Overflow, Pass, Read, Refused, RefusedSome, Consumed, ConsumedAll, join_checks, nulls_pass};
 
 use crate::array::MutableArray;
 use nest_memory::error::Error;
 
-/// A builder that takes items of one type.
+/// A builder that accepts items of one type.
 pub trait TryPush<A>: MutableArray {
-    /// Which items may be read: an iterator may be called and ends.
+    /// The items that can be read: an iterator's `next` may be called, and it ends.
     ghost can_push: { A → Type 0 };
 
-    /// What a push reads of an item: all of it, or a beginning.
+    /// What a push reads of an item: all of it, or a prefix.
     ghost reads: { A → Read → Type 0 };
 
-    /// Adds a row: what the item spells.
+    /// Appends a row: the value that the item represents.
     ///
     /// # Errors
-    /// The first check that fails, here or at a level below: `ItemType`, `ItemSize`, `Overflow`. `Memory`.
+    /// The first failed check of this level or one below: `ItemType`, `ItemSize`, `Overflow`. `Memory` if an allocation
+    /// fails.
     fn try_push(&mut self, item: A) -> Result<(), Error>
-        requires whole { IsWhole (Self.model self.old) }
+        requires complete { IsComplete (Self.model self.old) }
         requires can { can_push item }
-        ensures ok { OnOk result (Took reads item (Self.model self.old) (Self.model self.new)) }
+        ensures ok { OnOk result (Consumed reads item (Self.model self.old) (Self.model self.new)) }
         ensures err { OnErr result (Self.model self.new ≡ Self.model self.old) }
         ensures cause { IfErr result (λ e. Refused reads item (Self.model self.old) e) };
 }
 
-/// A builder that takes all items or none.
+/// A builder that accepts all of several items or none.
 pub trait TryExtend<A>: MutableArray {
-    /// Which items may be read.
+    /// The items that can be read.
     ghost can_extend: { A → Type 0 };
 
-    /// What is read of an item: all of it, or a beginning.
+    /// What is read of an item: all of it, or a prefix.
     ghost reads_each: { A → Read → Type 0 };
 
-    /// Adds a row for each item, all of them or none.
+    /// Appends a row per item, all of them or none.
     ///
     /// # Errors
-    /// The first check that fails of the first item that is refused, here or at a level below, as `try_push` answers it:
-    /// `ItemType`, `ItemSize`, `Overflow`. `Memory`.
+    /// The error of `try_push` for the first item that is refused: `ItemType`, `ItemSize`, `Overflow`. `Memory` if an
+    /// allocation fails.
     fn try_extend<I: IntoIterator<Item = A>>(&mut self, items: I) -> Result<(), Error>
-        requires whole { IsWhole (Self.model self.old) }
+        requires complete { IsComplete (Self.model self.old) }
         requires can { CanRead (record { becomes = I.into_iter_gives; can = I.IntoIter.can_next; left = I.IntoIter.remaining; steps = I.IntoIter.next_gives }) can_extend items }
-        ensures ok { OnOk result (TookAll
+        ensures ok { OnOk result (ConsumedAll
             (record { becomes = I.into_iter_gives; steps = I.IntoIter.next_gives; reads = reads_each }) items
             (Self.model self.old) (Self.model self.new)) }
         ensures err { OnErr result (Self.model self.new ≡ Self.model self.old) }
@@ -51,29 +52,30 @@ pub trait TryExtend<A>: MutableArray {
             (Self.model self.old) e) };
 }
 
-/// A builder that takes all rows of another one of its type, or none.
+/// A builder that accepts all rows of another builder of its type or none.
 pub trait TryExtendFromSelf: MutableArray {
-    /// Adds the other's rows, at each level.
+    /// Appends the rows of `other` at each level.
     ///
     /// # Errors
-    /// `ItemType` where the data types differ; then `Overflow` where a level would pass its limit; `Memory`.
+    /// `ItemType` if the data types differ; then `Overflow` if a level would exceed its limit; `Memory` if an
+    /// allocation fails.
     fn try_extend_from_self(&mut self, other: &Self) -> Result<(), Error>
-        requires whole { IsWhole (Self.model self.old) }
-        requires other_whole { IsWhole (Self.model other.now) }
+        requires complete { IsComplete (Self.model self.old) }
+        requires other_whole { IsComplete (Self.model other.now) }
         ensures joined { OnOk result (Joined (Self.model other.now) (Self.model self.old) (Self.model self.new)) }
         ensures unrefused { OnOk result (Pass (join_checks (Self.model self.old) (Self.model other.now))) }
         ensures err { OnErr result (Self.model self.new ≡ Self.model self.old) }
         ensures cause { IfErr result (λ e. (e ≡ Memory alloc_error) ⊎ FailFirst e (join_checks (Self.model self.old) (Self.model other.now))) };
 }
 
-/// Pushes each item, and takes all of them back where one is refused.
+/// Pushes each item. Removes all of them again if one is refused.
 pub fn extend_by_push<A, B: TryPush<A>, I: IntoIterator<Item = A>>(
     builder: &mut B,
     items: I,
 ) -> Result<(), Error>
-    requires whole { IsWhole (B.model builder.old) }
+    requires complete { IsComplete (B.model builder.old) }
     requires can { CanRead (record { becomes = I.into_iter_gives; can = I.IntoIter.can_next; left = I.IntoIter.remaining; steps = I.IntoIter.next_gives }) B.can_push items }
-    ensures ok { OnOk result (TookAll
+    ensures ok { OnOk result (ConsumedAll
         (record { becomes = I.into_iter_gives; steps = I.IntoIter.next_gives; reads = B.reads }) items
         (B.model builder.old) (B.model builder.new)) }
     ensures err { OnErr result (B.model builder.new ≡ B.model builder.old) }
@@ -94,9 +96,9 @@ pub fn extend_by_push<A, B: TryPush<A>, I: IntoIterator<Item = A>>(
     Ok(())
 }
 
-/// Pushes n nulls, and takes all of them back where one is refused.
+/// Pushes `n` nulls. Removes all of them again if one is refused.
 pub fn extend_nulls<B: MutableArray>(builder: &mut B, n: usize) -> Result<(), Error>
-    requires whole { IsWhole (B.model builder.old) }
+    requires complete { IsComplete (B.model builder.old) }
     requires some { 0 < n }
     ensures ok { OnOk result (AcceptedAll (replicate n null_item) (B.model builder.old) (B.model builder.new) × (nulls_pass n (B.model builder.old) ≡ false)) }
     ensures err { OnErr result (B.model builder.new ≡ B.model builder.old) }

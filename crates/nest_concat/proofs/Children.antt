@@ -25,7 +25,7 @@ pub count-of : (xs : Seq AnyArray) → count_layouts (layouts_of xs) ≡ length 
 count-of [] = refl
 count-of (x ∷ xs) = ap suc (count-of xs)
 
--- children from field k on, each joined
+-- children from field k on, each concatenated
 pub all-joined : (cs : Layouts) (k : ℕ) (ws : Seq WindowParts) (ys : Seq AnyArray) → length ys ≡ count_layouts cs
     → ((f : ℕ) (d : AnyArray) → f < count_layouts cs → IsJoined (layout_type (child_at cs f)) (map (field_of (k + f)) ws) (layout_of (get_or ys f d))) → EachJoined cs k ws (layouts_of ys)
 all-joined no_layouts k ws [] e h = tt
@@ -44,7 +44,7 @@ pub each-joined : (cs : Layouts) (ws : Seq WindowParts) (ys : Seq AnyArray) → 
     → ((f : ℕ) (d : AnyArray) → f < count_layouts cs → IsJoined (layout_type (child_at cs f)) (map (field_of f) ws) (layout_of (get_or ys f d))) → EachJoined cs 0 ws (layouts_of ys)
 each-joined cs ws ys e h = all-joined cs 0 ws ys e (λ f d l. let z : f ≡ 0 + f = omega arith in subst (λ n. IsJoined (layout_type (child_at cs f)) (map (field_of n) ws) (layout_of (get_or ys f d))) z (h f d l))
 
--- one more child that is joined
+-- one more concatenated child
 before-last : (ys : Seq AnyArray) (y d : AnyArray) (k : ℕ) → k < length ys → get_or (ys ++ y ∷ []) k d ≡ get_or ys k d
 before-last [] y d k h = absurd (omega arith)
 before-last (z ∷ zs) y d zero h = refl
@@ -81,6 +81,6 @@ each-more P n f t k m = go (last-or-before k n m)
     go (inl b) = f k b
     go (inr e) = subst P (sym e) t
 
--- a window more over an array
+-- one more window over an array
 pub fit-more : (ws : Seq WindowParts) (w : WindowParts) → AreArrays ws → TopFits w.array → AreArrays (ws ++ w ∷ [])
 fit-more ws w h f = All-append (λ x. TopFits x.array) ws (w ∷ []) h (All-cons (λ x. TopFits x.array) w [] f (All-nil (λ x. TopFits x.array)))

@@ -1,11 +1,11 @@
--- Flat arrays that are made of joined values and bits.
+-- Flat arrays with concatenated values and bits.
 use Rattle.std.specs.Prelude.{List, map, length, get_or}
 use Rattle.std.specs.List.{All, flat_map, sum_by}
 use Rattle.std.proofs.Common.{◌≡◌, ℕ, ◌+◌, ◌*◌, ◌/◌, ◌%◌, ◌<◌, ◌≤◌, ℤ, Bool, false, [], ◌∷◌, refl, ap, sym, ◌∙◌, subst, arith, take, drop, ◌++◌}
 use Rattle.std.proofs.Math.Nat.{mul-div_cancel, add-mul}
 use Rattle.std.proofs.lemmas.List.{drop-map, map-append, take-map}
 use Rattle.std.proofs.lemmas.List.Sums.{sum_by-cons}
-use Rattle.nest_memory.specs.Cut.{cut}
+use Rattle.nest_memory.specs.Sublist.{sublist}
 use Rattle.nest_memory.specs.Physical.{physical_type}
 use Rattle.nest_memory.specs.TypeTree.{TypeTree, logical_type, size_of}
 use Rattle.nest_memory.specs.declared.datatypes.physical_type.PhysicalType.TheVariants as physical
@@ -20,7 +20,7 @@ use Rattle.nest_model.specs.Runs.{cut-cut, length-cut, product-end, product-exac
 use Rattle.nest_model.specs.Slot as slots
 use Rattle.nest_array.specs.WindowParts.{WindowParts}
 use Rattle.nest_concat.specs.Joined.{AreWithin, IsJoined}
-use Rattle.nest_concat.specs.Windows.{blocks_in, count_of, count_slots, joined_validity, natives_in, truths_in}
+use Rattle.nest_concat.specs.Windows.{blocks_in, count_of, count_slots, joined_validity, natives_in, booleans_in}
 use Rattle.nest_concat.proofs.Logical.{kind-alike, size-alike}
 use Rattle.nest_concat.proofs.Pieces.{AreLong, cut-flat, flat-length}
 use Rattle.nest_concat.proofs.Shapes.{null-shape, boolean-shape, primitive-shape, fixed_size_binary-shape}
@@ -39,31 +39,31 @@ null-joined t u ws n h p e c = (
   },
 )
 
--- native values of a window lie within those of its array
+-- native values of a window are within those of its array
 pub natives-within : (k : PrimitiveType) (w : WindowParts) → TopFits w.array → physical_type (layout_type w.array) ≡ physical.Primitive k → w.offset + w.count ≤ len w.array → w.offset + w.count ≤ length (natives_of w.array)
 natives-within k w f p h = omega (arith, h, ap len (primitive-shape k w.array f p))
 
--- of values of a native type, by their numbers, a part is added
-pub natives-more : {T : Type 0} (f : T → List ℤ) (w : WindowParts) (a : Layout) (old new vs xs : List T) (o n : ℕ) → new ≡ old ++ xs → xs ≡ cut vs o n → map f vs ≡ natives_of a → a ≡ w.array → o ≡ w.offset → n ≡ w.count
+-- a part of native values is appended, by their numbers
+pub natives-more : {T : Type 0} (f : T → List ℤ) (w : WindowParts) (a : Layout) (old new vs xs : List T) (o n : ℕ) → new ≡ old ++ xs → xs ≡ sublist vs o n → map f vs ≡ natives_of a → a ≡ w.array → o ≡ w.offset → n ≡ w.count
     → map f new ≡ map f old ++ natives_in w
 natives-more f w a old new vs xs o n e x v h p q =
-    let c : map f xs ≡ cut (natives_of w.array) w.offset w.count =
+    let c : map f xs ≡ sublist (natives_of w.array) w.offset w.count =
     ap (map f) x
     ∙ sym (ap (take n) (drop-map f o vs) ∙ take-map f n (drop o vs))
-    ∙ ap (λ z. cut z o n) (v ∙ ap natives_of h)
-    ∙ ap (λ z. cut (natives_of w.array) z n) p
-    ∙ ap (cut (natives_of w.array) w.offset) q in
+    ∙ ap (λ z. sublist z o n) (v ∙ ap natives_of h)
+    ∙ ap (λ z. sublist (natives_of w.array) z n) p
+    ∙ ap (sublist (natives_of w.array) w.offset) q in
     ap (map f) e ∙ map-append f old xs ∙ ap (λ z. map f old ++ z) c
 
--- so many items for each slot lie within all
+-- a fixed number of items for each slot is within all items
 pub blocks-within : (w : WindowParts) (n s t : ℕ) → w.offset + w.count ≤ len w.array → len w.array ≡ n / t → s ≡ t → w.offset * s + w.count * s ≤ n
 blocks-within w n s t h e z = product-fits w.offset w.count n s (subst (λ y. w.offset + w.count ≤ n / y) (sym z) (omega (arith, h, e)))
 
 -- booleans
 boolean-core : (t : TypeTree) (ws : List WindowParts) → AreWithin t ws → physical_type t ≡ physical.Boolean
-    → Fits (boolean t (flat_map truths_in ws) (joined_validity ws)) × IsJoined t ws (boolean t (flat_map truths_in ws) (joined_validity ws))
+    → Fits (boolean t (flat_map booleans_in ws) (joined_validity ws)) × IsJoined t ws (boolean t (flat_map booleans_in ws) (joined_validity ws))
 boolean-core t ws h p =
-    let bs = flat_map truths_in ws in
+    let bs = flat_map booleans_in ws in
     let v = joined_validity ws in
     let shape : (w : WindowParts) → TopFits w.array → logical_type (layout_type w.array) ≡ logical_type t → w.array ≡ boolean (layout_type w.array) (bits_of w.array) (validity_of w.array)
     = λ w f e. boolean-shape w.array f (kind-alike (layout_type w.array) t _ e p) in
@@ -76,16 +76,16 @@ boolean-core t ws h p =
         slots = joined-slots t (boolean t bs v) ws h n (λ k j l m.
             let w = window ws k in
             let f = h k nowhere l in
-            same-slot _ _ _ _ (validity-at t ws k j h l m) (ap slots.truth (values-at (λ (x : WindowParts). bits_of x.array) ws k j false inside l m))
+            same-slot _ _ _ _ (validity-at t ws k j h l m) (ap slots.boolean (values-at (λ (x : WindowParts). bits_of x.array) ws k j false inside l m))
             ∙ sym (ap (λ z. slot z (w.offset + j)) (shape w f.is_array f.same_type)));
         same_type = refl;
       },
     )
 
 pub boolean-joined : (t u : TypeTree) (ws : List WindowParts) (bs : List Bool) (v : Validity) → AreWithin t ws → physical_type t ≡ physical.Boolean → u ≡ t
-    → bs ≡ flat_map truths_in ws → v ≡ joined_validity ws → Fits (boolean u bs v) × IsJoined t ws (boolean u bs v)
+    → bs ≡ flat_map booleans_in ws → v ≡ joined_validity ws → Fits (boolean u bs v) × IsJoined t ws (boolean u bs v)
 boolean-joined t u ws bs v h p e f g =
-    let y : boolean t (flat_map truths_in ws) (joined_validity ws) ≡ boolean u bs v = cc in
+    let y : boolean t (flat_map booleans_in ws) (joined_validity ws) ≡ boolean u bs v = cc in
     subst (λ z. Fits z × IsJoined t ws z) y (boolean-core t ws h p)
 
 -- native values
@@ -117,7 +117,7 @@ primitive-joined q t u ws vs v h p e f g =
     let y : primitive q t (flat_map natives_in ws) (joined_validity ws) ≡ primitive q u vs v = cc in
     subst (λ z. Fits z × IsJoined t ws z) y (primitive-core q t ws h p)
 
--- blocks of one size
+-- fixed-size blocks
 abbrev pub block_count : ℕ → WindowParts → ℕ
 block_count s w = w.count * s
 
@@ -131,26 +131,26 @@ sum-blocks s (w ∷ ws) =
 
 -- item by item: blocks of a list for each window
 pub block-at : {A : Type 0} (s : ℕ) (xs : WindowParts → List A) (ws : List WindowParts) (k j : ℕ) → All (λ w. w.offset * s + w.count * s ≤ length (xs w)) ws → k < length ws → j < count_of (window ws k)
-    → cut (flat_map (λ w. cut (xs w) (w.offset * s) (w.count * s)) ws) (place_of ws k j * s) s ≡ cut (xs (window ws k)) (((window ws k).offset + j) * s) s
+    → sublist (flat_map (λ w. sublist (xs w) (w.offset * s) (w.count * s)) ws) (place_of ws k j * s) s ≡ sublist (xs (window ws k)) (((window ws k).offset + j) * s) s
 block-at {A} s xs ws k j h l m =
     let w = window ws k in
-    let f : WindowParts → List A = λ x. cut (xs x) (x.offset * s) (x.count * s) in
+    let f : WindowParts → List A = λ x. sublist (xs x) (x.offset * s) (x.count * s) in
     let long : AreLong f (block_count s) ws = λ i d q. let x = get_or ws i d in length-cut (xs x) (x.offset * s) (x.count * s) (h i d q) in
     let a : place_of ws k j * s ≡ sum_by (block_count s) (take k ws) + j * s = add-mul (sum_by count_of (take k ws)) j s ∙ ap (λ z. z + j * s) (sym (sum-blocks s (take k ws))) in
     let b = product-end j w.count s m in
-    ap (λ z. cut (flat_map f ws) z s) a
+    ap (λ z. sublist (flat_map f ws) z s) a
     ∙ cut-flat f (block_count s) ws k (j * s) s nowhere long l b
     ∙ cut-cut (xs w) (w.offset * s) (w.count * s) (j * s) s b
-    ∙ ap (λ z. cut (xs w) z s) (sym (add-mul w.offset j s))
+    ∙ ap (λ z. sublist (xs w) z s) (sym (add-mul w.offset j s))
 
 pub blocks-count : {A : Type 0} (s : ℕ) (xs : WindowParts → List A) (ws : List WindowParts) → All (λ w. w.offset * s + w.count * s ≤ length (xs w)) ws
-    → length (flat_map (λ w. cut (xs w) (w.offset * s) (w.count * s)) ws) ≡ count_slots ws * s
+    → length (flat_map (λ w. sublist (xs w) (w.offset * s) (w.count * s)) ws) ≡ count_slots ws * s
 blocks-count {A} s xs ws h =
-    let f : WindowParts → List A = λ x. cut (xs x) (x.offset * s) (x.count * s) in
+    let f : WindowParts → List A = λ x. sublist (xs x) (x.offset * s) (x.count * s) in
     let long : AreLong f (block_count s) ws = λ i d q. let x = get_or ws i d in length-cut (xs x) (x.offset * s) (x.count * s) (h i d q) in
     flat-length f (block_count s) ws long ∙ sum-blocks s ws
 
--- byte strings of one size
+-- fixed-size binary
 fixed-core : (t : TypeTree) (ws : List WindowParts) → AreWithin t ws → physical_type t ≡ physical.FixedSizeBinary → 0 < size_of t
     → Fits (fixed_size_binary t (flat_map (blocks_in (size_of t)) ws) (joined_validity ws)) × IsJoined t ws (fixed_size_binary t (flat_map (blocks_in (size_of t)) ws) (joined_validity ws))
 fixed-core t ws h p z =
@@ -173,7 +173,7 @@ fixed-core t ws h p z =
             let w = window ws k in
             let f = h k nowhere l in
             same-slot _ _ _ _ (validity-at t ws k j h l q) (ap slots.bytes (block-at s (λ (x : WindowParts). bytes_of x.array) ws k j inside l q))
-            ∙ sym (ap (λ n. where_valid (validity_of w.array) (w.offset + j) (slots.bytes (cut (bytes_of w.array) ((w.offset + j) * n) n))) (size-alike (layout_type w.array) t f.same_type))
+            ∙ sym (ap (λ n. where_valid (validity_of w.array) (w.offset + j) (slots.bytes (sublist (bytes_of w.array) ((w.offset + j) * n) n))) (size-alike (layout_type w.array) t f.same_type))
             ∙ sym (ap (λ y. slot y (w.offset + j)) (shape w f.is_array f.same_type)));
         same_type = refl;
       },

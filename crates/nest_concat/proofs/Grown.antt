@@ -1,4 +1,4 @@
--- What one window, or one row, more adds.
+-- One more window, or one more row.
 use Rattle.std.specs.Prelude.{ℤ, pos, ◌⊎◌, IfErr, IfOk, IsOkUnless, Some, slice_get, List, [], ◌∷◌, ◌++◌, ◌||◌, is_some, map, length, get_or}
 use Rattle.std.specs.List.{flat_map, sum_by}
 use Rattle.std.proofs.lemmas.Bool.{le-leb}
@@ -6,7 +6,7 @@ use Rattle.std.proofs.Common.{inl, inr, leb, ◌≡◌, ℕ, Result, Ok, Err, su
 use Rattle.std.proofs.lemmas.List.{map-append, drop_all, drop_more, flat_map_more, get_or-drop, map_more, take_all, take_more}
 use Rattle.std.proofs.lemmas.List.Sums.{sum_by-append, sum_by-cons, sum_by_more, sum_by_more_le}
 use Rattle.std.proofs.lemmas.Option.{get_or_from_slice_get}
-use Rattle.nest_memory.specs.Cut.{cut}
+use Rattle.nest_memory.specs.Sublist.{sublist}
 use Rattle.nest_memory.specs.Rising.{are_offsets, ends_from, numbers, rises_from, to_nat}
 use Rattle.nest_model.specs.Array.{AreOffsets}
 use Rattle.nest_model.specs.Part.{begin, extent, count_rows}
@@ -52,7 +52,7 @@ extents-all os o n h l =
     let f = ap sum (take_all n (extents os o n) (omega (arith, extents-length os o n))) in
     omega (arith, e, f)
 
--- the end of one row more
+-- the end of one more row
 pub ends-row : (a : ℕ) (os : List ℕ) (o i n : ℕ) → AreOffsets os → o + i + 1 ≤ count_rows os → n + begin os o ≡ a + begin os (o + i + 1) → ends_from a (extents os o (i + 1)) ≡ ends_from a (extents os o i) ++ n ∷ []
 ends-row a os o i n h l e =
     let one : List ℕ = extent os (o + i) ∷ [] in
@@ -63,7 +63,7 @@ ends-row a os o i n h l e =
     let b : a + sum (extents os o i) + extent os (o + i) ≡ n = omega (arith, all, ap (begin os) place, parts, last, e) in
     ap (ends_from a) (extents-more os o i) ∙ from-append a (extents os o i) one ∙ ap (λ z. ends_from a (extents os o i) ++ z ∷ []) b
 
--- a window's rows have as many items as it has
+-- the rows of a window have all its items
 pub rows-sum : (w : WindowParts) (os : List ℕ) (o n : ℕ) → AreOffsets os → o + n ≤ count_rows os → os ≡ offsets_of w.array → o ≡ w.offset → n ≡ w.count → count_items w ≡ sum (extents_in w)
 rows-sum w os o n h l e f k =
     let all = extents-all os o n h l in
@@ -71,7 +71,7 @@ rows-sum w os o n h l e f k =
     let rows : sum (extents os o n) ≡ sum (extents_in w) = ap (λ s. sum (extents s o n)) e ∙ ap (λ z. sum (extents (offsets_of w.array) z n)) f ∙ ap (λ z. sum (extents (offsets_of w.array) w.offset z)) k in
     omega (arith, all, items, rows)
 
--- the end of a row lies within what its window ends with
+-- the end of a row is at most the end of its window
 pub end-within : (os : List ℕ) (o i n a b base largest : ℕ) → AreOffsets os → i < n → o + n ≤ count_rows os → a ≡ begin os o → begin os (o + i + 1) ≡ b → base + begin os (o + n) ≤ largest + begin os o
     → (a ≤ b) × (base + (b - a) ≤ largest)
 end-within os o i n a b base largest h l m e f r =
@@ -81,7 +81,7 @@ end-within os o i n a b base largest h l m e f r =
     let end : o + i + 1 + (n - i - 1) ≡ o + n = omega arith in
     (omega (arith, before, ap (begin os) place, e, f), omega (arith, before, ap (begin os) place, behind, ap (begin os) end, e, f, r))
 
--- offsets behind others, and one more behind them
+-- one more offset after others
 pub offset-more : {A : Type 0} (f : A → ℤ) (old es new : List A) (x : A) (ns ms : List ℕ) (n : ℕ) → map f es ≡ map f old ++ map (λ k. pos k) ns → new ≡ es ++ x ∷ [] → f x ≡ pos n → ms ≡ ns ++ n ∷ []
     → map f new ≡ map f old ++ map (λ k. pos k) ms
 offset-more f old es new x ns ms n h e k m =
@@ -92,7 +92,7 @@ offset-more f old es new x ns ms n h e k m =
     ∙ append_assoc (map f old) (map (λ k. pos k) ns) (pos n ∷ [])
     ∙ ap (λ zs. map f old ++ zs) (sym (map-append (λ k. pos k) ns (n ∷ [])) ∙ ap (map (λ k. pos k)) (sym m))
 
--- the rows of one window more
+-- the rows of one more window
 pub ends-more : {A : Type 0} (f : A → ℤ) (ws : List WindowParts) (es new : List A) (i a : ℕ) (w : WindowParts) → i < length ws → w ≡ get_or ws i w → map f es ≡ map (λ k. pos k) (ends (flat_map extents_in (take i ws)))
     → a ≡ sum (flat_map extents_in (take i ws)) → map f new ≡ map f es ++ map (λ k. pos k) (ends_from a (extents_in w)) → map f new ≡ map (λ k. pos k) (ends (flat_map extents_in (take (i + 1) ws)))
 ends-more f ws es new i a w h s e g k =
@@ -105,7 +105,7 @@ ends-more f ws es new i a w h s e g k =
     ∙ sym (map-append (λ k. pos k) (ends ls) (ends_from a (extents_in w)))
     ∙ ap (map (λ k. pos k)) (sym more)
 
--- offsets that are ends of rows, from 0 on, never fall
+-- the ends of rows, from 0, never decrease
 ends-rise : (low a : ℕ) (ls : List ℕ) → low ≤ a → rises_from low (map (λ k. pos k) (ends_from a ls)) ≡ true
 ends-rise low a [] h = refl
 ends-rise low a (l ∷ ls) h =
@@ -140,13 +140,13 @@ have-more ws i w b h e f g =
 pub have-none : (ws : List WindowParts) (i : ℕ) → length ws ≤ i → have_bits (drop i ws) ≡ have_bits ws → false ≡ have_bits ws
 have-none ws i h f = sym (ap have_bits (drop_all i ws h)) ∙ f
 
--- one bit more of a run of bits
-pub cut-more : {A : Type 0} (xs : List A) (o n : ℕ) (x : A) → o + n < length xs → slice_get xs (o + n) ≡ Some x → cut xs o (n + 1) ≡ cut xs o n ++ x ∷ []
+-- one more bit of a run of bits
+pub cut-more : {A : Type 0} (xs : List A) (o n : ℕ) (x : A) → o + n < length xs → slice_get xs (o + n) ≡ Some x → sublist xs o (n + 1) ≡ sublist xs o n ++ x ∷ []
 cut-more xs o n x h e =
     take_more (drop o xs) n x (omega (arith, length-drop o xs))
     ∙ ap (λ y. take n (drop o xs) ++ y ∷ []) (get_or-drop o xs n x ∙ get_or_from_slice_get xs (o + n) x x e)
 
--- the offset at a place that was read
+-- the value of an offset that was read
 pub read-offset : (os : List ℕ) (i n : ℕ) → slice_get os i ≡ Some n → begin os i ≡ n
 read-offset os i n e = get_or_from_slice_get os i n 0 e
 
@@ -154,7 +154,7 @@ pub if-ok : {A E : Type 0} (r : Result A E) (P Q : A → Type 0) → ((x : A) �
 if-ok (Ok x) P Q f h = f x h
 if-ok (Err e) P Q f h = tt
 
--- of two errors the one that can't come
+-- one of two errors is impossible
 pub one-error : {A E : Type 0} (r : Result A E) (a b : E) → (r ≡ Err a → ⊥) → IfErr r (λ e. (e ≡ a) ⊎ (e ≡ b)) → IsOkUnless r b
 one-error (Ok x) a b n h = tt
 one-error (Err e) a b n (inl h) = absurd (n (ap Err h))

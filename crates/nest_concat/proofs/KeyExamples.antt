@@ -14,7 +14,7 @@ use Rattle.nest_concat.specs.Limits.{PassesLimits}
 use Rattle.nest_concat.specs.Lookups.{HaveValues, KeyPasses, KeysPass}
 use Rattle.nest_concat.proofs.Windows.{nowhere}
 
--- its one key passes only if it is valid and too large
+-- its one key does not fit only if it is valid and too large
 one-passes : (valid : Bool) (k n m s : ℕ) → KeyPasses m s (whole (one_key valid k n)) → (valid ≡ true) × (m ≤ s + k)
 one-passes valid k n m s (zero, (l, (v, p))) = (v, p)
 one-passes valid k n m s (suc j, (l, r)) = absurd (omega (arith, l))

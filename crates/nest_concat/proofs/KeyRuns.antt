@@ -1,4 +1,4 @@
--- Keys that are added to others, and when one has no room.
+-- Appending moved keys, and keys that do not fit.
 use Rattle.std.specs.Prelude.{◌⊎◌, Bool, Some, IfErr, IfOk, MatchResult, List, [], ◌∷◌, ◌++◌, alloc_error, map, length, get_or}
 use Rattle.std.specs.List.{sum_by}
 use Rattle.std.proofs.Common.{◌≡◌, ℕ, ℤ, Result, Ok, Err, zero, suc, ◌+◌, ◌<◌, ◌≤◌, ◌^◌, true, false, take, drop, inl, inr, refl, ap, sym, ◌∙◌, subst, arith, append-nil, append_assoc}
@@ -14,11 +14,11 @@ use Rattle.nest_memory.specs.TypeTree.{TypeTree}
 use Rattle.nest_memory.specs.Physical.{physical_type}
 use Rattle.nest_memory.specs.declared.error.Error.{Error}
 use Rattle.nest_memory.specs.declared.error.Error.TheVariants.{Memory, Overflow}
-use Rattle.nest_model.specs.Accessors.{validity_of, keys_of, key_kind, key_type_of, natives_of, whole as number_of}
+use Rattle.nest_model.specs.Accessors.{validity_of, keys_of, key_kind, key_type_of, natives_of, as_integer as number_of}
 use Rattle.nest_model.specs.Array.{TopFits}
 use Rattle.nest_model.specs.BuilderTree.{key_count}
-use Rattle.nest_model.specs.Decide.{pass-no_fault}
-use Rattle.nest_model.specs.Fits.{Fits, FirstFault, ValidityFits, checks}
+use Rattle.nest_model.specs.Decide.{pass-no_error}
+use Rattle.nest_model.specs.Fits.{Fits, FirstError, ValidityFits, checks}
 use Rattle.nest_model.specs.Layout.{Layout, primitive, dictionary, layout_type}
 use Rattle.nest_model.specs.Part.{Validity, valid_at}
 use Rattle.nest_array.specs.WindowParts.{WindowParts}
@@ -34,7 +34,7 @@ use Rattle.nest_concat.proofs.Pieces.{flat-length}
 use Rattle.nest_concat.proofs.Windows.{joined-fits}
 use Rattle.nest_concat.proofs.Shapes.{dictionary-shape}
 
--- no type of keys has more than numbers of 64 bits
+-- a key type has at most 2^64 keys
 pub keys-at-most : (k : IntegerType) → key_count k ≤ 2 ^ 64
 keys-at-most integers.Int8 = omega arith
 keys-at-most integers.Int16 = omega arith
@@ -52,14 +52,14 @@ run-more s ks o (suc n) =
     let y : o + 1 + n ≡ o + suc n = omega arith in
     ap (moved_run s ks o) z ∙ ap (λ zs. moved_key s ks o ∷ zs) (run-more s ks (o + 1) n ∙ ap (λ i. moved_run s ks (o + 1) n ++ moved_key s ks i ∷ []) y)
 
--- the raw keys that native values are
+-- the raw keys of native values
 abbrev pub numbers_in : {T : Type 0} → (T → List ℤ) → List T → List ℤ
 numbers_in f xs = map number_of (map f xs)
 
 numbers-append : {T : Type 0} (f : T → List ℤ) (xs ys : List T) → numbers_in f (xs ++ ys) ≡ numbers_in f xs ++ numbers_in f ys
 numbers-append f xs ys = ap (map number_of) (map-append f xs ys) ∙ map-append number_of (map f xs) (map f ys)
 
--- one key more
+-- one more key
 pub keys-more : {T : Type 0} (f : T → List ℤ) (s : ℕ) (ks : Layout) (o n : ℕ) (first old new : List T) (x : T) → new ≡ old ++ x ∷ [] → numbers_in f old ≡ numbers_in f first ++ moved_run s ks o n
     → number_of (f x) ≡ moved_key s ks (o + n) → numbers_in f new ≡ numbers_in f first ++ moved_run s ks o (n + 1)
 keys-more f s ks o n first old new x e g h =
@@ -73,7 +73,7 @@ keys-more f s ks o n first old new x e g h =
 pub some-past : (n s : ℕ) (ks : Layout) (o m j : ℕ) → j < m → IsPast n s ks (o + j) → SomePast n s ks o m
 some-past n s ks o m j h p = (j, (h, p))
 
--- so it is in the window
+-- the same for the window
 pub past-window : (k : IntegerType) (n s : ℕ) (w : WindowParts) (ks : Layout) (o m : ℕ) → TopFits w.array → physical_type (layout_type w.array) ≡ physical.Dictionary k → ks ≡ keys_of w.array → o ≡ w.offset → m ≡ w.count
     → SomePast n s ks o m → (0 < s) × KeyPasses n s w
 past-window k n s w ks o m f p e g h past =
@@ -83,7 +83,7 @@ past-window k n s w ks o m f p e g h past =
     let r = here.1.1 in
     (r.0, (j, (here.1.0, (ap (λ va. valid_at va (w.offset + j)) v ∙ r.1.0, r.1.1))))
 
--- keys of the windows that are left
+-- keys of the remaining windows
 pub keys-left : (ws : List WindowParts) (s i : ℕ) (w : WindowParts) → i < length ws → w ≡ get_or ws i w → moved_keys s (drop i ws) ≡ keys_in s w ++ moved_keys (s + count_values w) (drop (i + 1) ws)
 keys-left ws s i w h e = ap (moved_keys s) (drop_more ws i w h) ∙ ap (λ x. keys_in s x ++ moved_keys (s + count_values x) (drop (i + 1) ws)) (sym e)
 
@@ -99,11 +99,11 @@ gathered-more f ws s i t w old new h e z n g =
 pub gathered-all : {T : Type 0} (f : T → List ℤ) (ws : List WindowParts) (s i : ℕ) (xs : List T) → length ws ≤ i → numbers_in f xs ++ moved_keys s (drop i ws) ≡ moved_keys 0 ws → numbers_in f xs ≡ moved_keys 0 ws
 gathered-all f ws s i xs h g = sym (append-nil (numbers_in f xs)) ∙ ap (λ vs. numbers_in f xs ++ moved_keys s vs) (sym (drop_all i ws h)) ∙ g
 
--- a key that passes in one of the windows that are left
+-- a key of the remaining windows that does not fit
 pub pass-left : (n : ℕ) (ws : List WindowParts) (s i : ℕ) (w : WindowParts) → i < length ws → w ≡ get_or ws i w → KeyPasses n s w ⊎ KeysPass n (s + count_values w) (drop (i + 1) ws) → KeysPass n s (drop i ws)
 pass-left n ws s i w h e p = subst (KeysPass n s) (sym (drop_more ws i w h)) (subst (λ x. KeyPasses n s x ⊎ KeysPass n (s + count_values x) (drop (i + 1) ws)) e p)
 
--- values that are more than a length can be
+-- values past the largest length
 pub sum-values : (ws : List WindowParts) → count_slots (map values_in ws) ≡ sum_by count_values ws
 sum-values [] = refl
 sum-values (w ∷ ws) = omega (arith, sum_by-cons count_of (values_in w) (map values_in ws), sum_by-cons count_values w ws, sum-values ws)
@@ -111,7 +111,7 @@ sum-values (w ∷ ws) = omega (arith, sum_by-cons count_of (values_in w) (map va
 pub values-past : (ws : List WindowParts) (i s : ℕ) (w : WindowParts) → i < length ws → w ≡ get_or ws i w → s ≡ sum_by count_values (take i ws) → 2 ^ 64 ≤ s + count_values w → PassesLength (map values_in ws)
 values-past ws i s w h e z p = omega (arith, sum-within count_values ws i w h e, z, p, sum-values ws)
 
--- nothing stands before the first values
+-- nothing precedes the first values
 pub none-before : (e : Error) (P : Type 0) → (e ≡ Memory alloc_error) ⊎ ((e ≡ Overflow) × ((0 < 0) × P)) → e ≡ Memory alloc_error
 none-before e P (inl h) = h
 none-before e P (inr h) = absurd (omega (arith, h.1.0))
@@ -131,33 +131,33 @@ keys-fit moved q t u ws vs va h p e v =
     (subst (λ z. ValidityFits z (length vs)) (sym v) (subst (ValidityFits (joined_validity ws)) (sym n) (joined-fits u ws h)), (p, tt))
 
 pub keys-made : (r : Result Layout Error) (moved : Bool) (q : PrimitiveType) (t : TypeTree) (ks : Layout) (ws : List WindowParts) (vs : List (List ℤ)) (va : Validity)
-    → MatchResult r (λ a. Fits (primitive q t vs va) × (a ≡ primitive q t vs va)) (λ e. FirstFault e (primitive q t vs va)) → key_kind q ≡ key_type_of ks → map number_of vs ≡ joined_keys moved ws → va ≡ joined_validity ws
+    → MatchResult r (λ a. Fits (primitive q t vs va) × (a ≡ primitive q t vs va)) (λ e. FirstError e (primitive q t vs va)) → key_kind q ≡ key_type_of ks → map number_of vs ≡ joined_keys moved ws → va ≡ joined_validity ws
     → IfOk r (λ k. AreJoinedKeys moved ks ws k)
 keys-made (Ok a) moved q t ks ws vs va m k e v =
     let made : AreJoinedKeys moved ks ws (primitive q t vs va) = record { same_width = k; count = values-count moved ws vs e; validity = v; raw = e } in
     subst (AreJoinedKeys moved ks ws) (sym m.1) made
 keys-made (Err x) moved q t ks ws vs va m k e v = tt
 
-keys-none : (r : Result Layout Error) (p : Layout) (P : Error → Type 0) → MatchResult r (λ a. Fits p × (a ≡ p)) (λ e. FirstFault e p) → Fits p → IfErr r P
+keys-none : (r : Result Layout Error) (p : Layout) (P : Error → Type 0) → MatchResult r (λ a. Fits p × (a ≡ p)) (λ e. FirstError e p) → Fits p → IfErr r P
 keys-none (Ok a) p P m f = tt
-keys-none (Err e) p P m f = absurd (pass-no_fault (checks p) e f m)
+keys-none (Err e) p P m f = absurd (pass-no_error (checks p) e f m)
 
 -- the type of native values and that of keys
 pub primitive-keys : (q : PrimitiveType) (a : Layout) → TopFits a → a ≡ primitive q (layout_type a) (natives_of a) (validity_of a) → (physical_type (layout_type a) ≡ physical.Primitive q) × (key_kind q ≡ key_type_of a)
 primitive-keys q a f e = ((subst TopFits e f).1.1.0, sym (ap key_type_of e))
 
 pub keys-unmade : (r : Result Layout Error) (moved : Bool) (q : PrimitiveType) (t u : TypeTree) (ws : List WindowParts) (vs : List (List ℤ)) (va : Validity) (P : Error → Type 0)
-    → MatchResult r (λ a. Fits (primitive q t vs va) × (a ≡ primitive q t vs va)) (λ e. FirstFault e (primitive q t vs va)) → AreWithin u ws → physical_type t ≡ physical.Primitive q → map number_of vs ≡ joined_keys moved ws
+    → MatchResult r (λ a. Fits (primitive q t vs va) × (a ≡ primitive q t vs va)) (λ e. FirstError e (primitive q t vs va)) → AreWithin u ws → physical_type t ≡ physical.Primitive q → map number_of vs ≡ joined_keys moved ws
     → va ≡ joined_validity ws → IfErr r P
 keys-unmade r moved q t u ws vs va P m h p e v = keys-none r (primitive q t vs va) P m (keys-fit moved q t u ws vs va h p e v)
 
--- a key of a window that is none of its type
+-- a key of a window that does not fit its type
 pub pushed-refuse : (e : Error) (n : ℕ) (ws : List WindowParts) (s i : ℕ) (w : WindowParts) → i < length ws → w ≡ get_or ws i w → (KeysPass n s (drop i ws) → KeysPass n 0 ws)
     → (e ≡ Memory alloc_error) ⊎ ((e ≡ Overflow) × ((0 < s) × KeyPasses n s w)) → RefusesKeys true e n ws
 pushed-refuse e n ws s i w h k f (inl m) = inl m
 pushed-refuse e n ws s i w h k f (inr (o, (b, p))) = inr (o, (refl, inl (f (pass-left n ws s i w h k (inl p)))))
 
--- a key more that its type has, and no key of the window that it hasn't
+-- one more key that fits, and no key of the window that does not
 pub fit-key-more : (n s : ℕ) (ks : Layout) (o m : ℕ) → KeysFit n s ks o m → KeyFits n s ks (o + m) → KeysFit n s ks o (m + 1)
 fit-key-more n s ks o m f k = each-more (λ j. KeyFits n s ks (o + j)) m f k
 
@@ -175,7 +175,7 @@ fit-window k n s w ks o m p e g h fit past =
     let q = r.1.1 in
     omega (arith, l, q)
 
--- a key that passes does so in a window that is left
+-- a key that does not fit is in a remaining window
 pub pass-behind : (n : ℕ) (ws : List WindowParts) (s i t : ℕ) (w : WindowParts) → i < length ws → w ≡ get_or ws i w → t ≡ s + count_values w → (KeyPasses n s w → ⊥) → (KeysPass n 0 ws → KeysPass n s (drop i ws)) → KeysPass n 0 ws
     → KeysPass n t (drop (i + 1) ws)
 pass-behind n ws s i t w h e z f g p = go (subst (λ x. KeyPasses n s x ⊎ KeysPass n (s + count_values x) (drop (i + 1) ws)) (sym e) (subst (KeysPass n s) (drop_more ws i w h) (g p)))
@@ -204,7 +204,7 @@ singles f h [] = refl
 singles f h (x ∷ xs) = ap (λ y. y ∷ map f xs) (single (f x) (h x)) ∙ ap (λ ys. (number_of (f x) ∷ []) ∷ ys) (singles f h xs)
 
 pub keys-laid : (r : Result Layout Error) (moved : Bool) (q : PrimitiveType) (t : TypeTree) (ks : Layout) (ws : List WindowParts) (vs : List (List ℤ)) (va : Validity)
-    → MatchResult r (λ a. Fits (primitive q t vs va) × (a ≡ primitive q t vs va)) (λ e. FirstFault e (primitive q t vs va)) → ks ≡ primitive q (layout_type ks) (natives_of ks) (validity_of ks) → t ≡ layout_type ks
+    → MatchResult r (λ a. Fits (primitive q t vs va) × (a ≡ primitive q t vs va)) (λ e. FirstError e (primitive q t vs va)) → ks ≡ primitive q (layout_type ks) (natives_of ks) (validity_of ks) → t ≡ layout_type ks
     → vs ≡ map (λ z. z ∷ []) (joined_keys moved ws) → va ≡ joined_validity ws → IfOk r (λ k. k ≡ laid_keys moved ks ws)
 keys-laid (Ok a) moved q t ks ws vs va m k e f v =
     let x : primitive q t vs va ≡ primitive q (layout_type ks) (map (λ z. z ∷ []) (joined_keys moved ws)) (joined_validity ws) = cc in

@@ -1,4 +1,4 @@
--- Dictionaries that are made of joined keys, over values that stay or are joined too.
+-- Dictionaries with concatenated keys, over values that are kept or concatenated.
 use Rattle.std.specs.Prelude.{◌↔◌, IsTrue, if◌then◌else◌, List, [], ◌∷◌, ◌++◌, map, length, get_or, Option, Some, None, alloc_error}
 use Rattle.std.specs.List.{flat_map, sum_by}
 use Rattle.std.proofs.Common.{◌≡◌, ℕ, ℤ, pos, negsuc, zero, suc, ◌+◌, ◌<◌, ◌≤◌, Bool, true, false, take, inl, inr, refl, ap, sym, ◌∙◌, subst, arith, length-append}
@@ -13,7 +13,7 @@ use Rattle.nest_memory.specs.declared.datatypes.physical_type.PhysicalType.{Phys
 use Rattle.nest_memory.specs.declared.datatypes.physical_type.PhysicalType.TheVariants as physical
 use Rattle.nest_memory.specs.declared.error.Error.{Error}
 use Rattle.nest_memory.specs.declared.error.Error.TheVariants.{Memory}
-use Rattle.nest_model.specs.Accessors.{validity_of, child_of, keys_of, key_at, key_type_of, raw_keys, whole as number_of}
+use Rattle.nest_model.specs.Accessors.{validity_of, child_of, keys_of, key_at, key_type_of, raw_keys, as_integer as number_of}
 use Rattle.nest_model.specs.Array.{AreKeys, TopFits}
 use Rattle.nest_model.specs.BuilderTree.{key_count}
 use Rattle.nest_model.specs.FactLaws.{dictionary-facts}
@@ -21,7 +21,7 @@ use Rattle.nest_model.specs.Facts.{IsDictionary}
 use Rattle.nest_model.specs.Fits.{Fits, IsLogically, KeysInRange, Names, is_dictionary}
 use Rattle.nest_model.specs.Layout.{Layout, dictionary, primitive, layout_type, weight}
 use Rattle.nest_model.specs.Meaning.{len, slot, slots_of}
-use Rattle.nest_model.specs.Part.{valid_at, place}
+use Rattle.nest_model.specs.Part.{valid_at, to_index}
 use Rattle.nest_model.specs.Reads.{slots-length, slot-place}
 use Rattle.nest_model.specs.SameArray.{IsSameArray}
 use Rattle.nest_model.specs.Slot as slots
@@ -39,7 +39,7 @@ use Rattle.nest_concat.proofs.Pieces.{AreLong, flat-at, flat-length}
 use Rattle.nest_concat.proofs.Shapes.{dictionary-shape}
 use Rattle.nest_concat.proofs.Windows.{joined-slots, locate, nowhere, place_of, validity-at, window}
 
--- the physical type of dictionaries names their type of keys
+-- the physical type of dictionaries has their key type
 keyed-type : (t : TypeTree) → IsTrue (is_dictionary t) → physical_type t ≡ physical.Dictionary (keyed_by (key_type t))
 keyed-type (types.dictionary k u b) h = refl
 keyed-type (types.extension n u m) h = keyed-type u h
@@ -56,14 +56,14 @@ keyed-kind a t ks c h e =
 pub are-keyed : (k : IntegerType) (ws : List WindowParts) → AreOfKind (physical.Dictionary k) ws → AreKeyed ws
 are-keyed k ws h = λ i d l. subst IsKeyed (sym (h i d l)) tt
 
--- what is known of the dictionary of a window
+-- facts about the dictionary of a window
 keyed-is : (k : IntegerType) (t : TypeTree) (w : WindowParts) → physical_type t ≡ physical.Dictionary k → IsWithin t w → w.array ≡ dictionary (layout_type w.array) (keys_of w.array) (child_of w.array)
 keyed-is k t w p f = dictionary-shape k w.array f.is_array (kind-alike (layout_type w.array) t _ f.same_type p)
 
 array-keyed : (k : IntegerType) (t : TypeTree) (a : Layout) → physical_type t ≡ physical.Dictionary k → TopFits a → logical_type (layout_type a) ≡ logical_type t → IsDictionary (layout_type a) (keys_of a) (child_of a)
 array-keyed k t a p f e = dictionary-facts (layout_type a) (keys_of a) (child_of a) (subst TopFits (dictionary-shape k a f (kind-alike (layout_type a) t _ e p)) f)
 
--- the type of its keys
+-- its key type
 abbrev key_in : PhysicalType → Option IntegerType
 key_in (physical.Dictionary k) = Some k
 key_in p = None
@@ -103,7 +103,7 @@ values-children k t ws cws h p s e r =
     (λ a x y. same-values k t a (first_array ws) p x y f.0 f.1)
     (λ i d l. omega arith)
 
--- keys of windows: how many there are, and each by its place
+-- keys of windows: their number, and each by its index
 run-length : (s : ℕ) (ks : Layout) (o n : ℕ) → length (moved_run s ks o n) ≡ n
 run-length s ks o zero = refl
 run-length s ks o (suc n) = ap suc (run-length s ks (o + 1) n)
@@ -151,18 +151,18 @@ moved-count s [] = refl
 moved-count s (w ∷ ws) =
     omega (arith, length-append (keys_in s w) (moved_keys (s + count_values w) ws), run-length s (keys_of w.array) w.offset w.count, moved-count (s + count_values w) ws, sum_by-cons count_of w ws)
 
--- values by their places: new has those of each array, s before them
+-- values by their indices: new has those of each array, after s others
 pub record HasValues (ws : List WindowParts) (s : ℕ → ℕ) (d : Layout) : Type 0 where
   pub there : (k p : ℕ) → k < length ws → p < count_values (window ws k) → s k + p < len d
   pub same : (k p : ℕ) → k < length ws → p < count_values (window ws k) → slot d (s k + p) ≡ slot (child_of (window ws k).array) p
 
--- keys by their places
+-- keys by their indices
 pub record HasKeys (ws : List WindowParts) (s : ℕ → ℕ) (new : Layout) : Type 0 where
   pub validity : validity_of new ≡ joined_validity ws
   pub count : length (raw_keys new) ≡ count_slots ws
   pub raw : (k j : ℕ) → k < length ws → j < count_of (window ws k) → key_at new (place_of ws k j) ≡ moved_key (s k) (keys_of (window ws k).array) ((window ws k).offset + j)
 
-names-place : (z : ℤ) (n : ℕ) → Names z n → place z < n
+names-place : (z : ℤ) (n : ℕ) → Names z n → to_index z < n
 names-place (pos k) n h = h
 names-place (negsuc k) n h = absurd h
 
@@ -170,7 +170,7 @@ moved-names : (b : Bool) (m n : ℕ) → 0 < n → (b ≡ true → m < n) → Na
 moved-names true m n h f = f refl
 moved-names false m n h f = h
 
-moved-place : (b : Bool) (m : ℕ) → b ≡ true → place (if b then pos m else pos 0) ≡ m
+moved-place : (b : Bool) (m : ℕ) → b ≡ true → to_index (if b then pos m else pos 0) ≡ m
 moved-place true m h = refl
 moved-place false m h = cc
 
@@ -178,13 +178,13 @@ same-when : (p q : Bool) (x y : Slot) → p ≡ q → (q ≡ true → x ≡ y) �
 same-when p true x y e f = ap (λ b. if b then x else slots.null) e ∙ f refl
 same-when p false x y e f = ap (λ b. if b then x else slots.null) e
 
--- the keys of a key's array fit its own places
+-- the keys of an array fit its own values
 keys-count : (ks : Layout) → AreKeys ks → length (raw_keys ks) ≡ len ks
 keys-count (primitive q t vs va) h = length-map vs number_of
 keys-count ks h = absurd h
 
 named-in : (k : IntegerType) (t : TypeTree) (w : WindowParts) (j : ℕ) → physical_type t ≡ physical.Dictionary k → IsWithin t w → j < w.count → valid_at (validity_of (keys_of w.array)) (w.offset + j) ≡ true
-    → place (key_at (keys_of w.array) (w.offset + j)) < count_values w
+    → to_index (key_at (keys_of w.array) (w.offset + j)) < count_values w
 named-in k t w j p f l v =
     let g = array-keyed k t w.array p f.is_array f.same_type in
     let e = ap len (keyed-is k t w p f) in
@@ -200,19 +200,19 @@ keyed-core k t ws new d s h p b q u n ks vs =
     let e = ap validity_of (keyed-is k t w p (h i nowhere l)) in
     ap (λ va. valid_at va (place_of ws i j)) ks.validity ∙ validity-at t ws i j h l m ∙ ap (λ va. valid_at va (w.offset + j)) e in
     let named : (i j : ℕ) → i < length ws → j < count_of (window ws i) → valid_at (validity_of (keys_of (window ws i).array)) ((window ws i).offset + j) ≡ true
-    → place (key_at (keys_of (window ws i).array) ((window ws i).offset + j)) < count_values (window ws i)
+    → to_index (key_at (keys_of (window ws i).array) ((window ws i).offset + j)) < count_values (window ws i)
     = λ i j l m v. named-in k t (window ws i) j p (h i nowhere l) m v in
     let range : KeysInRange new (len d) = λ some.
     let r = locate ws some.0 (let x = some.1 in omega (arith, x, n)) in
     let v = sym (valid r.k r.j r.window_there r.slot_there) ∙ ap (valid_at (validity_of new)) (sym r.is) ∙ some.2 in
-    let o : 0 < len d = omega (arith, vs.there r.k (place (key_at (keys_of (window ws r.k).array) ((window ws r.k).offset + r.j))) r.window_there (named r.k r.j r.window_there r.slot_there v)) in
+    let o : 0 < len d = omega (arith, vs.there r.k (to_index (key_at (keys_of (window ws r.k).array) ((window ws r.k).offset + r.j))) r.window_there (named r.k r.j r.window_there r.slot_there v)) in
     All-from_get_or (λ z. Names z (len d)) (raw_keys new) (pos 0)
     (λ x l.
     let a = locate ws x (omega (arith, ks.count)) in
     let w = window ws a.k in
     let z = ap (λ y. get_or (raw_keys new) y (pos 0)) a.is ∙ ks.raw a.k a.j a.window_there a.slot_there in
-    let m = moved-names (valid_at (validity_of (keys_of w.array)) (w.offset + a.j)) (s a.k + place (key_at (keys_of w.array) (w.offset + a.j))) (len d) o
-    (λ y. vs.there a.k (place (key_at (keys_of w.array) (w.offset + a.j))) a.window_there (named a.k a.j a.window_there a.slot_there y)) in
+    let m = moved-names (valid_at (validity_of (keys_of w.array)) (w.offset + a.j)) (s a.k + to_index (key_at (keys_of w.array) (w.offset + a.j))) (len d) o
+    (λ y. vs.there a.k (to_index (key_at (keys_of w.array) (w.offset + a.j))) a.window_there (named a.k a.j a.window_there a.slot_there y)) in
     subst (λ y. Names y (len d)) (sym z) m) in (
       (b, (q, (u, (range, tt)))),
       record {
@@ -221,17 +221,17 @@ keyed-core k t ws new d s h p b q u n ks vs =
             let x = place_of ws i j in
             let ok = keys_of w.array in
             let y = w.offset + j in
-            same-when (valid_at (validity_of new) x) (valid_at (validity_of ok) y) (slot d (place (key_at new x))) (slot (child_of w.array) (place (key_at ok y))) (valid i j l m)
+            same-when (valid_at (validity_of new) x) (valid_at (validity_of ok) y) (slot d (to_index (key_at new x))) (slot (child_of w.array) (to_index (key_at ok y))) (valid i j l m)
             (λ v.
-            ap (λ z. slot d (place z)) (ks.raw i j l m)
-            ∙ ap (slot d) (moved-place (valid_at (validity_of ok) y) (s i + place (key_at ok y)) v)
-            ∙ vs.same i (place (key_at ok y)) l (named i j l m v))
+            ap (λ z. slot d (to_index z)) (ks.raw i j l m)
+            ∙ ap (slot d) (moved-place (valid_at (validity_of ok) y) (s i + to_index (key_at ok y)) v)
+            ∙ vs.same i (to_index (key_at ok y)) l (named i j l m v))
             ∙ sym (ap (λ z. slot z y) (keyed-is k t w p (h i nowhere l))));
         same_type = refl;
       },
     )
 
--- what is true of the first array is true of the type
+-- a fact about the first array is one about the type
 first-keyed : (k : IntegerType) (t : TypeTree) (a : Layout) → TopFits a → layout_type a ≡ t → physical_type t ≡ physical.Dictionary k → IsDictionary t (keys_of a) (child_of a)
 first-keyed k t a f e p = subst (λ z. IsDictionary z (keys_of a) (child_of a)) e (array-keyed k t a p f (ap logical_type e))
 
@@ -255,7 +255,7 @@ has-keys false ks ws new h =
       raw = λ k j l m. ap (λ zs. get_or zs (place_of ws k j) (pos 0)) h.raw ∙ kept-at ws k j l m;
     }
 
--- values that stay
+-- values that are kept
 has-kept : (c : Layout) (ws : List WindowParts) → HaveValues c ws → HasValues ws (keys-by false ws) c
 has-kept c ws h =
     let long : (k : ℕ) → k < length ws → count_values (window ws k) ≡ len c = λ k l.
@@ -268,7 +268,7 @@ has-kept c ws h =
           ap (slot c) z ∙ sym (slot-place c p slots.null (omega (arith, long k l))) ∙ sym (ap (λ ss. get_or ss p slots.null) (h k nowhere l).1) ∙ slot-place (child_of w.array) p slots.null m;
     }
 
--- values that are joined
+-- values that are concatenated
 abbrev value_slots : WindowParts → List Slot
 value_slots w = slots_of (child_of w.array)
 
@@ -296,7 +296,7 @@ has-joined u ws d g =
           ∙ slot-place (child_of (window ws k).array) p slots.null m;
     }
 
--- the array of the keys, over values that stay
+-- the dictionary over values that are kept
 pub kept-joined : (a : Layout) (u : TypeTree) (ks c new d : Layout) (ws : List WindowParts) → TopFits a → a ≡ dictionary (layout_type a) ks c → AreWithin (layout_type a) ws → u ≡ layout_type a
     → AreJoinedKeys false ks ws new → HaveValues c ws → d ≡ c → Fits (dictionary u new d) × IsJoined (layout_type a) ws (dictionary u new d)
 kept-joined a u ks c new d ws f e h q g s z =
@@ -313,7 +313,7 @@ IsFirst a ws = (a ≡ first_array ws) × (0 < length ws)
 pub values-first : (a : Layout) (t : TypeTree) (ks c : Layout) (ws cws : List WindowParts) → a ≡ dictionary t ks c → IsFirst a ws → cws ≡ map values_in ws → first_array cws ≡ c
 values-first a t ks c ws cws k h e = ap first_array e ∙ first-of-map values_in child_of ws (λ w. refl) h.1 ∙ ap child_of (sym h.0 ∙ k)
 
--- over values that are joined
+-- the dictionary over concatenated values
 pub moved-joined : (a : Layout) (u : TypeTree) (ks c new d : Layout) (ws cws : List WindowParts) → TopFits a → a ≡ dictionary (layout_type a) ks c → IsFirst a ws → AreWithin (layout_type a) ws → cws ≡ map values_in ws → u ≡ layout_type a
     → AreJoinedKeys true ks ws new → IsJoined (layout_type (first_array cws)) cws d → Fits (dictionary u new d) × IsJoined (layout_type a) ws (dictionary u new d)
 moved-joined a u ks c new d ws cws f e i h m q g j =
@@ -326,7 +326,7 @@ moved-joined a u ks c new d ws cws f e i h m q g j =
     let y = keyed-core (keyed_by (key_type t)) t ws new d (keys-by true ws) h p x.typed (x.key_typed ∙ sym g.same_width) v g.count (has-keys true ks ws new g) (has-joined (layout_type (first_array cws)) ws d r) in
     subst (λ b. Fits b × IsJoined t ws b) (ap (λ z. dictionary z new d) (sym q)) y
 
--- what refuses the keys, or the values
+-- the errors for the keys, or the values
 pub keys-refuse : (e : Error) (a : Layout) (ks c : Layout) (ws : List WindowParts) → TopFits a → a ≡ dictionary (layout_type a) ks c → (HaveValues c ws → ⊥) → RefusesKeys true e (key_count (keyed_by (key_type_of ks))) ws → RefusesJoin e a ws
 keys-refuse e a ks c ws f k n r =
     let t = layout_type a in
@@ -368,6 +368,6 @@ have-all c ws i h g = subst (HaveValues c) (take_all i ws h) g
 pub have-here : (c a : Layout) (ws : List WindowParts) (i : ℕ) (w : WindowParts) → i < length ws → w ≡ get_or ws i w → a ≡ child_of w.array → HaveValues c ws → IsSameArray a c
 have-here c a ws i w h e f g = subst (λ x. IsSameArray x c) (sym f) (subst (λ x. IsSameArray (child_of x.array) c) (sym e) (g i w h))
 
--- where a test says so, some array has other values
+-- where a test fails, some array has other values
 pub others-not : (c d : Layout) (ws : List WindowParts) → c ≡ d → (IsTrue false ↔ HaveValues c ws) → HaveValues d ws → ⊥
 others-not c d ws e i h = let t = i.1 (subst (λ z. HaveValues z ws) (sym e) h) in cc

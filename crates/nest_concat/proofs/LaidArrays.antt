@@ -1,4 +1,4 @@
--- The array that windows are joined to is an array at every level, and has their slots.
+-- The layout of concatenated windows is an array at every level, and has their slots.
 use Rattle.std.specs.Prelude.{◌≡◌, ℕ, zero, suc, ◌+◌, ◌<◌, ◌≤◌, ℤ, Bool, true, false, List, [], ◌∷◌, map, length, get_or, take, Option, if◌then◌else◌}
 use Rattle.std.specs.List.{All, flat_map, sum}
 use Rattle.std.proofs.Common.{inl, inr, refl, ap, sym, ◌∙◌, subst, arith}
@@ -6,12 +6,12 @@ use Rattle.std.proofs.lemmas.List.{length-map}
 use Rattle.std.proofs.lemmas.List.Sums.{sum_by-cons}
 use Rattle.nest_memory.specs.TypeTree as types
 use Rattle.nest_memory.specs.TypeTree.{TypeTree, count_fields, fields_of, size_of}
-use Rattle.nest_model.specs.Accessors.{child_at, child_of, children_of, whole as number_of}
+use Rattle.nest_model.specs.Accessors.{child_at, child_of, children_of, as_integer as number_of}
 use Rattle.nest_model.specs.Array.{AreArrays as AreChildren, AreKeys, AreOffsets, IsArray}
 use Rattle.nest_model.specs.FactLaws.{binary-facts, fixed_size_binary-facts, fixed_size_list-facts, list-facts, map-facts, struct-facts, text-facts, union-facts}
 use Rattle.nest_model.specs.Fits.{ValidityFits}
 use Rattle.nest_model.specs.FitsLaws.{fits-keeps}
-use Rattle.nest_model.specs.Layout.{Layout, Layouts, null, boolean, primitive, binary, text, fixed_size_binary, fixed_size_list, list, map as map_of, struct, union, dictionary, no_layouts, more_layouts, count_layouts, layout_type}
+use Rattle.nest_model.specs.Layout.{Layout, Layouts, null, boolean, primitive, binary, utf8, fixed_size_binary, fixed_size_list, list, map as map_of, struct, union, dictionary, no_layouts, more_layouts, count_layouts, layout_type}
 use Rattle.nest_model.specs.Part.{Validity}
 use Rattle.nest_memory.specs.declared.datatypes.physical_type.PrimitiveType.{PrimitiveType}
 use Rattle.nest_array.specs.WindowParts.{WindowParts}
@@ -30,7 +30,7 @@ use Rattle.nest_concat.proofs.Rows.{binary-joined, text-joined}
 use Rattle.nest_concat.proofs.Unions.{field-children, field-count, union-joined}
 use Rattle.nest_concat.proofs.Windows.{joined-fits}
 
--- offsets of rows, one after another, never fall
+-- offsets of consecutive rows never decrease
 take-rises : (ls : List ℕ) (i j : ℕ) → i ≤ j → sum (take i ls) ≤ sum (take j ls)
 take-rises ls zero j h = omega arith
 take-rises ls (suc i) zero h = absurd (omega arith)
@@ -43,7 +43,7 @@ rows-rise ws =
     let n = ends-rows ls in
     (omega arith, λ i j h l. omega (arith, take-rises ls i j h, begin-ends ls i (omega (arith, n)), begin-ends ls j (omega (arith, n))))
 
--- what lies below an array is an array
+-- the children of an array are arrays
 none-array : IsArray (null types.null 0)
 none-array = ((tt, (refl, tt)), tt)
 
@@ -64,7 +64,7 @@ one-array no_layouts f h = none-array
 one-array (more_layouts c cs) zero h = h.0
 one-array (more_layouts c cs) (suc f) h = one-array cs f h.1
 
--- what windows are joined to
+-- the result is an array with the slots of the windows
 abbrev pub IsLaid : TypeTree → List WindowParts → Layout → Type 0
 IsLaid t ws b = IsArray b × IsJoined t ws b
 
@@ -75,7 +75,7 @@ first-array (w ∷ ws) s h = h 0 w (omega arith)
 is-array : (a : Layout) (ws : List WindowParts) → MayJoin a ws → IsArray a
 is-array a ws r = subst IsArray (sym r.first) (first-array ws r.some r.arrays)
 
--- windows over the children that f tells may be joined too
+-- windows over the children that f selects can be concatenated too
 child-may : (f : WindowParts → WindowParts) (g : Layout → Layout) (a : Layout) (ws : List WindowParts) → ((w : WindowParts) → (f w).array ≡ g w.array) → ((b : Layout) → IsArray b → IsArray (g b)) → MayJoin a ws
     → (AreArrays (map f ws) → (0 < length (map f ws)) × AreWithin (layout_type (first_array (map f ws))) (map f ws)) → MayJoin (g a) (map f ws)
 child-may f g a ws m k r n =
@@ -106,7 +106,7 @@ keys-laid moved t (primitive k u vs va) ws w h =
     (h.0, (subst (ValidityFits (joined_validity ws)) (sym n) (joined-fits t ws w), (h.1.1.0, tt)))
 keys-laid moved t ks ws w h = absurd h
 
--- of each layout
+-- for each layout
 null-laid : (t : TypeTree) (n : ℕ) (ws : List WindowParts) → MayJoin (null t n) ws → IsLaid t ws (laid (null t n) ws)
 null-laid t n ws r =
     let x = null-joined t t ws (count_slots ws) r.within (is-array (null t n) ws r).0.1.0 refl refl in
@@ -127,9 +127,9 @@ binary-laid large t os bs va ws r =
     let x = binary-joined large t t ws _ _ _ r.within (binary-facts large t os bs va (is-array (binary large t os bs va) ws r).0).typed refl refl refl refl in
     (((rows-rise ws, x.0), tt), x.1)
 
-text-laid : (large : Bool) (t : TypeTree) (os bs : List ℕ) (va : Validity) (ws : List WindowParts) → MayJoin (text large t os bs va) ws → IsLaid t ws (laid (text large t os bs va) ws)
+text-laid : (large : Bool) (t : TypeTree) (os bs : List ℕ) (va : Validity) (ws : List WindowParts) → MayJoin (utf8 large t os bs va) ws → IsLaid t ws (laid (utf8 large t os bs va) ws)
 text-laid large t os bs va ws r =
-    let x = text-joined large t t ws _ _ _ r.within (text-facts large t os bs va (is-array (text large t os bs va) ws r).0).typed refl refl refl refl in
+    let x = text-joined large t t ws _ _ _ r.within (text-facts large t os bs va (is-array (utf8 large t os bs va) ws r).0).typed refl refl refl refl in
     (((rows-rise ws, x.0), tt), x.1)
 
 fixed-laid : (t : TypeTree) (bs : List ℕ) (va : Validity) (ws : List WindowParts) → MayJoin (fixed_size_binary t bs va) ws → IsLaid t ws (laid (fixed_size_binary t bs va) ws)
@@ -138,7 +138,7 @@ fixed-laid t bs va ws r =
     let x = fixed-joined t t ws (size_of t) _ _ r.within f.typed f.sized refl refl refl refl in
     (((tt, x.0), tt), x.1)
 
--- of those with a child, from what the child is joined to
+-- layouts with a child, from the result for the child
 child-joined : (c d : Layout) (cws : List WindowParts) → MayJoin c cws → IsJoined (layout_type c) cws d → IsJoined (layout_type (first_array cws)) cws d
 child-joined c d cws r j = subst (λ z. IsJoined (layout_type z) cws d) r.first j
 
@@ -184,7 +184,7 @@ map-laid t os c va ws r d =
     let x = map-joined t t ws cws _ (laid c cws) _ r.within f.typed r.some refl refl refl (rows-rise ws) refl (child-joined c (laid c cws) cws (map-may t os c va ws r) d.1) in
     (((rows-rise ws, x.0), d.0), x.1)
 
--- of those with fields, from what each child is joined to
+-- layouts with fields, from the result for each child
 abbrev EachMayJoin : Layouts → ℕ → List WindowParts → Type 0
 EachMayJoin cs f ws = (g : ℕ) → g < count_layouts cs → MayJoin (child_at cs g) (map (field_of (f + g)) ws)
 
@@ -219,7 +219,7 @@ union-laid t ks cs os start ws r d =
     let x = union-joined t t (union t ks cs os start) ws _ cs (laid_each cs 0 ws) _ r.within f.typed r.some r.first refl d.1 refl refl refl in
     (((tt, x.0), d.0), x.1)
 
--- of dictionaries
+-- dictionaries
 values-may : (t : TypeTree) (ks c : Layout) (ws : List WindowParts) → MayJoin (dictionary t ks c) ws → MayJoin c (map values_in ws)
 values-may t ks c ws r =
     let a = dictionary t ks c in
@@ -253,7 +253,7 @@ mutual
   is-laid (boolean t bs va) ws r = boolean-laid t bs va ws r
   is-laid (primitive k t vs va) ws r = primitive-laid k t vs va ws r
   is-laid (binary large t os bs va) ws r = binary-laid large t os bs va ws r
-  is-laid (text large t os bs va) ws r = text-laid large t os bs va ws r
+  is-laid (utf8 large t os bs va) ws r = text-laid large t os bs va ws r
   is-laid (fixed_size_binary t bs va) ws r = fixed-laid t bs va ws r
   is-laid (fixed_size_list t c va) ws r = sized-laid t c va ws r (is-laid c (map (blocks_of (size_of t)) ws) (sized-may t c va ws r))
   is-laid (list large t os c va) ws r = list-laid large t os c va ws r (is-laid c (map items_in ws) (list-may large t os c va ws r))

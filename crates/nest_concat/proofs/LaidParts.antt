@@ -1,4 +1,4 @@
--- Arrays that are made of joined parts are what windows are laid to, and pass no limit.
+-- Arrays with concatenated parts are the layout of the windows, and pass no limit.
 use Rattle.std.specs.Prelude.{◌⊎◌, IfOk, MatchResult, List, [], ◌∷◌, map, length, get_or, Option, if◌then◌else◌}
 use Rattle.std.specs.List.{flat_map, sum_by}
 use Rattle.std.proofs.Common.{◌≡◌, ℕ, ℤ, suc, ◌+◌, ◌<◌, ◌≤◌, ◌^◌, Bool, true, false, Result, Ok, Err, inl, inr, refl, ap, sym, ◌∙◌, subst, arith}
@@ -10,8 +10,8 @@ use Rattle.nest_model.specs.Accessors.{child_at, child_of, key_type_of}
 use Rattle.nest_model.specs.Array.{TopFits}
 use Rattle.nest_model.specs.BuilderTree.{key_count}
 use Rattle.nest_model.specs.FactLaws.{dictionary-facts}
-use Rattle.nest_model.specs.Fits.{Fits, FirstFault}
-use Rattle.nest_model.specs.Layout.{Layout, Layouts, null, boolean, primitive, binary, text, fixed_size_binary, fixed_size_list, list, map as map_of, struct, union, dictionary, no_layouts, more_layouts, count_layouts, layout_type}
+use Rattle.nest_model.specs.Fits.{Fits, FirstError}
+use Rattle.nest_model.specs.Layout.{Layout, Layouts, null, boolean, primitive, binary, utf8, fixed_size_binary, fixed_size_list, list, map as map_of, struct, union, dictionary, no_layouts, more_layouts, count_layouts, layout_type}
 use Rattle.nest_model.specs.Part.{Validity}
 use Rattle.nest_array.specs.Keys.{keyed_by}
 use Rattle.nest_array.specs.Seen.{layout_of, layouts_of}
@@ -23,11 +23,11 @@ use Rattle.nest_concat.specs.LaidLaws.{values-decides}
 use Rattle.nest_concat.specs.Limits.{PassesLength, PassesLimits, PassesOffsets, PassesPicks, SomePasses}
 use Rattle.nest_concat.specs.Lookups.{HaveValues, KeysPass, most_keys, values_in}
 use Rattle.nest_concat.specs.Moved.{joined_offsets, types_in}
-use Rattle.nest_concat.specs.Windows.{blocks_in, blocks_of, bytes_in, count_items, count_slots, field_of, items_in, joined_validity, natives_in, truths_in}
+use Rattle.nest_concat.specs.Windows.{blocks_in, blocks_of, bytes_in, count_items, count_slots, field_of, items_in, joined_validity, natives_in, booleans_in}
 use Rattle.nest_concat.proofs.Keyed.{values-first}
 use Rattle.nest_concat.proofs.Nested.{IsFirst, child-first}
 
--- what holds whatever the value is
+-- a property that does not depend on the value
 pub ok-always : {T E : Type 0} (r : Result T E) (P : Type 0) → P → IfOk r (λ _. P)
 ok-always (Ok x) P p = p
 ok-always (Err e) P p = tt
@@ -36,11 +36,11 @@ pub ok-laid : (r : Result AnyArray Error) (p q : Layout) → IfOk r (λ b. layou
 ok-laid (Ok b) p q h e = h ∙ e
 ok-laid (Err x) p q h e = tt
 
-pub made-laid : (r : Result Layout Error) (p q : Layout) → MatchResult r (λ b. Fits p × (b ≡ p)) (λ e. FirstFault e p) → p ≡ q → IfOk r (λ b. b ≡ q)
+pub made-laid : (r : Result Layout Error) (p q : Layout) → MatchResult r (λ b. Fits p × (b ≡ p)) (λ e. FirstError e p) → p ≡ q → IfOk r (λ b. b ≡ q)
 made-laid (Ok b) p q h e = h.1 ∙ e
 made-laid (Err x) p q h e = tt
 
--- what is joined of the first array's kind is laid, and has room
+-- the contract for the first array, from that for its variant
 pub arm-laid : (r : Result AnyArray Error) (a f : Layout) (ws : List WindowParts) → f ≡ a → IfOk r (λ b. layout_of b ≡ laid a ws) → IfOk r (λ b. layout_of b ≡ laid f ws)
 arm-laid r a f ws e h = subst (λ z. IfOk r (λ b. layout_of b ≡ laid z ws)) (sym e) h
 
@@ -65,10 +65,10 @@ null-laid a t n m ws k e = subst (λ z. null (layout_type z) m ≡ laid z ws) (s
 pub null-room : (a : Layout) (t : TypeTree) (n : ℕ) (ws : List WindowParts) → a ≡ null t n → (PassesLength ws → ⊥) → PassesLimits a ws → ⊥
 null-room a t n ws k h = subst (λ z. PassesLimits z ws → ⊥) (sym k) h
 
-pub boolean-laid : (a : Layout) (u t : TypeTree) (bs xs : List Bool) (va v : Validity) (ws : List WindowParts) → a ≡ boolean t bs va → u ≡ layout_type a → xs ≡ flat_map truths_in ws → v ≡ joined_validity ws → boolean u xs v ≡ laid a ws
+pub boolean-laid : (a : Layout) (u t : TypeTree) (bs xs : List Bool) (va v : Validity) (ws : List WindowParts) → a ≡ boolean t bs va → u ≡ layout_type a → xs ≡ flat_map booleans_in ws → v ≡ joined_validity ws → boolean u xs v ≡ laid a ws
 boolean-laid a u t bs xs va v ws k e f g =
     let y : u ≡ t = e ∙ ap layout_type k in
-    let z : boolean u xs v ≡ boolean t (flat_map truths_in ws) (joined_validity ws) = cc in
+    let z : boolean u xs v ≡ boolean t (flat_map booleans_in ws) (joined_validity ws) = cc in
     subst (λ b. boolean u xs v ≡ laid b ws) (sym k) z
 
 pub boolean-room : (a : Layout) (t : TypeTree) (bs : List Bool) (va : Validity) (ws : List WindowParts) → a ≡ boolean t bs va → (PassesLength ws → ⊥) → PassesLimits a ws → ⊥
@@ -94,14 +94,14 @@ binary-laid large a u t os es bs xs va v ws k e f g h =
 pub binary-room : (large : Bool) (a : Layout) (t : TypeTree) (os bs : List ℕ) (va : Validity) (ws : List WindowParts) → a ≡ binary large t os bs va → (PassesLength ws → ⊥) → (PassesOffsets large ws → ⊥) → PassesLimits a ws → ⊥
 binary-room large a t os bs va ws k h o = subst (λ z. PassesLimits z ws → ⊥) (sym k) (neither h o)
 
-pub text-laid : (large : Bool) (a : Layout) (u t : TypeTree) (os es bs xs : List ℕ) (va v : Validity) (ws : List WindowParts) → a ≡ text large t os bs va → u ≡ layout_type a → es ≡ joined_rows ws → xs ≡ flat_map bytes_in ws → v ≡ joined_validity ws
-    → text large u es xs v ≡ laid a ws
+pub text-laid : (large : Bool) (a : Layout) (u t : TypeTree) (os es bs xs : List ℕ) (va v : Validity) (ws : List WindowParts) → a ≡ utf8 large t os bs va → u ≡ layout_type a → es ≡ joined_rows ws → xs ≡ flat_map bytes_in ws → v ≡ joined_validity ws
+    → utf8 large u es xs v ≡ laid a ws
 text-laid large a u t os es bs xs va v ws k e f g h =
     let y : u ≡ t = e ∙ ap layout_type k in
-    let z : text large u es xs v ≡ text large t (joined_rows ws) (flat_map bytes_in ws) (joined_validity ws) = cc in
-    subst (λ b. text large u es xs v ≡ laid b ws) (sym k) z
+    let z : utf8 large u es xs v ≡ utf8 large t (joined_rows ws) (flat_map bytes_in ws) (joined_validity ws) = cc in
+    subst (λ b. utf8 large u es xs v ≡ laid b ws) (sym k) z
 
-pub text-room : (large : Bool) (a : Layout) (t : TypeTree) (os bs : List ℕ) (va : Validity) (ws : List WindowParts) → a ≡ text large t os bs va → (PassesLength ws → ⊥) → (PassesOffsets large ws → ⊥) → PassesLimits a ws → ⊥
+pub text-room : (large : Bool) (a : Layout) (t : TypeTree) (os bs : List ℕ) (va : Validity) (ws : List WindowParts) → a ≡ utf8 large t os bs va → (PassesLength ws → ⊥) → (PassesOffsets large ws → ⊥) → PassesLimits a ws → ⊥
 text-room large a t os bs va ws k h o = subst (λ z. PassesLimits z ws → ⊥) (sym k) (neither h o)
 
 pub fixed-laid : (a : Layout) (u t : TypeTree) (bs xs : List ℕ) (va v : Validity) (ws : List WindowParts) → a ≡ fixed_size_binary t bs va → u ≡ layout_type a → xs ≡ flat_map (blocks_in (size_of (layout_type a))) ws → v ≡ joined_validity ws
@@ -115,7 +115,7 @@ fixed-laid a u t bs xs va v ws k e f g =
 pub fixed-room : (a : Layout) (t : TypeTree) (bs : List ℕ) (va : Validity) (ws : List WindowParts) → a ≡ fixed_size_binary t bs va → (PassesLength ws → ⊥) → PassesLimits a ws → ⊥
 fixed-room a t bs va ws k h = subst (λ z. PassesLimits z ws → ⊥) (sym k) h
 
--- the child of arrays over one
+-- the child of arrays with one child
 pub child-laid : (f : WindowParts → WindowParts) (c d : Layout) (ws cws : List WindowParts) → first_array cws ≡ c → cws ≡ map f ws → d ≡ laid (first_array cws) cws → d ≡ laid c (map f ws)
 child-laid f c d ws cws z q j = j ∙ ap (λ y. laid y cws) z ∙ ap (laid c) q
 
@@ -166,7 +166,7 @@ sized-room a t c va ws cws k h q n r =
     let x = child-room (blocks_of (size_of t)) c ws cws (child-first (blocks_of (size_of t)) a ws cws (λ w. refl) h q' ∙ ap child_of k) q' r in
     subst (λ z. PassesLimits z ws → ⊥) (sym k) (neither n x)
 
--- children of records and unions
+-- children of structs and unions
 all-laid : (cs : Layouts) (k : ℕ) (ws : List WindowParts) (ys : List AnyArray) → length ys ≡ count_layouts cs
     → ((f : ℕ) (d : AnyArray) → f < count_layouts cs → layout_of (get_or ys f d) ≡ laid (child_at cs f) (map (field_of (k + f)) ws)) → layouts_of ys ≡ laid_each cs k ws
 all-laid no_layouts k ws [] e h = refl
@@ -212,19 +212,19 @@ pub union-room : (a : Layout) (t : TypeTree) (ks : List ℤ) (cs : Layouts) (os 
 union-room a t ks cs os s ws k n o r = subst (λ z. PassesLimits z ws → ⊥) (sym k) (neither n (neither o r))
 
 -- dictionaries
-chosen-true : (b : Bool) (x y : Layout) → b ≡ true → x ≡ (if b then x else y)
-chosen-true true x y e = refl
-chosen-true false x y e = cc
+selected-true : (b : Bool) (x y : Layout) → b ≡ true → x ≡ (if b then x else y)
+selected-true true x y e = refl
+selected-true false x y e = cc
 
-chosen-false : (b : Bool) (x y : Layout) → (b ≡ true → ⊥) → y ≡ (if b then x else y)
-chosen-false true x y e = absurd (e refl)
-chosen-false false x y e = refl
+selected-false : (b : Bool) (x y : Layout) → (b ≡ true → ⊥) → y ≡ (if b then x else y)
+selected-false true x y e = absurd (e refl)
+selected-false false x y e = refl
 
 pub kept-laid : (a : Layout) (u t : TypeTree) (ks c new d : Layout) (ws : List WindowParts) → a ≡ dictionary t ks c → u ≡ layout_type a → new ≡ laid_keys false ks ws → HaveValues c ws → d ≡ c → dictionary u new d ≡ laid a ws
 kept-laid a u t ks c new d ws k e f h g =
     let y : u ≡ t = e ∙ ap layout_type k in
     let z : dictionary u new d ≡ dictionary t (laid_keys false ks ws) c = cc in
-    let s = chosen-true (have_values c ws) (dictionary t (laid_keys false ks ws) c) (dictionary t (laid_keys true ks ws) (laid c (map values_in ws))) ((values-decides c ws).1 h) in
+    let s = selected-true (have_values c ws) (dictionary t (laid_keys false ks ws) c) (dictionary t (laid_keys true ks ws) (laid c (map values_in ws))) ((values-decides c ws).1 h) in
     subst (λ b. dictionary u new d ≡ laid b ws) (sym k) (z ∙ s)
 
 pub kept-room : (a : Layout) (t : TypeTree) (ks c : Layout) (ws : List WindowParts) → a ≡ dictionary t ks c → (PassesLength ws → ⊥) → HaveValues c ws → PassesLimits a ws → ⊥
@@ -236,7 +236,7 @@ moved-laid a u t ks c new d ws cws k i q e f h j =
     let y : u ≡ t = e ∙ ap layout_type k in
     let x : d ≡ laid c (map values_in ws) = child-laid values_in c d ws cws (values-first a t ks c ws cws k i q) q j in
     let z : dictionary u new d ≡ dictionary t (laid_keys true ks ws) (laid c (map values_in ws)) = cc in
-    let s = chosen-false (have_values c ws) (dictionary t (laid_keys false ks ws) c) (dictionary t (laid_keys true ks ws) (laid c (map values_in ws))) (λ b. h ((values-decides c ws).0 b)) in
+    let s = selected-false (have_values c ws) (dictionary t (laid_keys false ks ws) c) (dictionary t (laid_keys true ks ws) (laid c (map values_in ws))) (λ b. h ((values-decides c ws).0 b)) in
     subst (λ b. dictionary u new d ≡ laid b ws) (sym k) (z ∙ s)
 
 pub moved-room : (a : Layout) (t : TypeTree) (ks c : Layout) (ws cws : List WindowParts) → a ≡ dictionary t ks c → IsFirst a ws → cws ≡ map values_in ws → (PassesLength ws → ⊥) → (KeysPass (most_keys t) 0 ws → ⊥)
@@ -245,7 +245,7 @@ moved-room a t ks c ws cws k i q n o r =
     let x = child-room values_in c ws cws (values-first a t ks c ws cws k i q) q r in
     subst (λ z. PassesLimits z ws → ⊥) (sym k) (neither n (λ p. neither o x p.1))
 
--- the keys of its type
+-- the keys of the key type
 pub keys-room : (a : Layout) (ks c : Layout) (ws : List WindowParts) → TopFits a → a ≡ dictionary (layout_type a) ks c → (KeysPass (key_count (keyed_by (key_type_of ks))) 0 ws → ⊥) → KeysPass (most_keys (layout_type a)) 0 ws → ⊥
 keys-room a ks c ws f k h =
     let x = dictionary-facts (layout_type a) ks c (subst TopFits k f) in

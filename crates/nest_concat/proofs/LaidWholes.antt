@@ -1,4 +1,4 @@
--- The array that whole arrays are joined to, and dictionaries over it.
+-- The concatenation of arrays, and dictionaries over it.
 use Rattle.std.specs.Prelude.{◌≡◌, ℕ, ◌+◌, ◌<◌, ◌≤◌, ℤ, pos, negsuc, Bool, true, false, List, [], ◌∷◌, ◌++◌, map, length, get_or, if◌then◌else◌}
 use Rattle.std.specs.List.{All, flat_map}
 use Rattle.std.proofs.Common.{refl, ap, sym, ◌∙◌, subst, arith, append-nil, length-append}
@@ -11,7 +11,7 @@ use Rattle.nest_model.specs.FactLaws.{dictionary-facts}
 use Rattle.nest_model.specs.Fits.{IsLogically, Names}
 use Rattle.nest_model.specs.Layout.{Layout, dictionary, layout_type}
 use Rattle.nest_model.specs.Meaning.{len, slot, slots_of}
-use Rattle.nest_model.specs.Part.{place, valid_at}
+use Rattle.nest_model.specs.Part.{to_index, valid_at}
 use Rattle.nest_model.specs.Reads.{slot-place, slots-length}
 use Rattle.nest_model.specs.SameArray.{IsSameArray}
 use Rattle.nest_model.specs.SameArrayLaws.{same-from_places}
@@ -47,7 +47,7 @@ wholes-may (a ∷ as_) h f =
       within = all-map whole (IsWithin t) (a ∷ as_) (λ i d l. record { is_array = (f i d l).0; within = omega arith; same_type = ap logical_type (own i d l) });
     }
 
--- it is an array, of their slots
+-- it is an array, with their slots
 pub wholes-joined : (as_ : List Layout) → AreOfOneType as_ → All IsArray as_ → IsArray (joined_layout as_) × IsConcatenated as_ (joined_layout as_)
 wholes-joined as_ h f =
     let ws = map whole as_ in
@@ -62,7 +62,7 @@ two-joined a b e f g =
 pub two-slots : (a b : Layout) → layout_type b ≡ layout_type a → IsArray a → IsArray b → slots_of (joined_layout (a ∷ b ∷ [])) ≡ slots_of a ++ slots_of b
 two-slots a b e f g = (two-joined a b e f g).1.slots ∙ ap (λ ss. slots_of a ++ ss) (append-nil (slots_of b))
 
--- the slots of both at their places
+-- the slots of both arrays, by index
 pub two-count : (a b : Layout) → layout_type b ≡ layout_type a → IsArray a → IsArray b → len (joined_layout (a ∷ b ∷ [])) ≡ len a + len b
 two-count a b e f g =
     let c = joined_layout (a ∷ b ∷ []) in
@@ -85,12 +85,12 @@ two-behind a b i e f g l =
     ∙ get_or-append-add (slots_of a) (slots_of b) i slots.null
     ∙ slot-place b i slots.null l
 
--- keys name the same values where others stand behind these
+-- keys keep their values when others are appended
 names-more : (z : ℤ) (m n : ℕ) → m ≤ n → Names z m → Names z n
 names-more (pos k) m n h l = omega (arith, l)
 names-more (negsuc k) m n h l = l
 
-names-place : (z : ℤ) (n : ℕ) → Names z n → place z < n
+names-place : (z : ℤ) (n : ℕ) → Names z n → to_index z < n
 names-place (pos k) n h = h
 names-place (negsuc k) n h = absurd h
 
@@ -111,5 +111,5 @@ keyed-same t ks c d f g e =
     let j = joined_layout (c ∷ d ∷ []) in
     same-from_places (dictionary t ks j) (dictionary t ks c) refl refl
     (λ i l.
-    let k = place (key_at ks i) in
+    let k = to_index (key_at ks i) in
     same-where (valid_at (validity_of ks) i) (slot j k) (slot c k) (λ v. two-first c d k e f.1 g (names-place (key_at ks i) (len c) (x.in_range i l v))))

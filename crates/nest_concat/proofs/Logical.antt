@@ -1,4 +1,4 @@
--- What data types that are equal but for their outer extensions have in common.
+-- Data types that are equal but for outer extension types.
 use Rattle.std.proofs.Common.{◌≡◌, refl, ap, sym, ◌∙◌}
 use Rattle.nest_memory.specs.Physical.{physical_type}
 use Rattle.nest_memory.specs.TypeTree.{TypeTree, logical_type, item_type, fields_of, size_of, has_pairs, value_type, ids_of, is_dense, extension}

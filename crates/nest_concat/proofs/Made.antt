@@ -1,4 +1,4 @@
--- What a call that joins owes.
+-- Results of concatenation.
 use Rattle.std.specs.Prelude.{◌⊎◌, IfOk, IfErr, IsErrOf, IsOkUnless, MatchResult, alloc_error}
 use Rattle.std.proofs.Common.{◌≡◌, ◌<◌, ◌≤◌, ℕ, Bool, false, List, [], ◌∷◌, Result, Ok, Err, length, get_or, inl, inr, ap, sym, ◌∙◌, subst, arith}
 use Rattle.nest_array.specs.WindowParts.{WindowParts}
@@ -7,14 +7,14 @@ use Rattle.nest_array.specs.Seen.{layout_of}
 use Rattle.nest_memory.specs.TypeTree.{TypeTree}
 use Rattle.nest_memory.specs.declared.error.Error.{Error}
 use Rattle.nest_memory.specs.declared.error.Error.TheVariants.{Memory, Overflow}
-use Rattle.nest_memory.specs.Physical.{binary_of_width, list_of_width, physical_type, text_of_width}
+use Rattle.nest_memory.specs.Physical.{binary_of_width, list_of_width, physical_type, utf8_of_width}
 use Rattle.nest_memory.specs.declared.datatypes.physical_type.PhysicalType.TheVariants as physical
 use Rattle.nest_memory.specs.declared.datatypes.physical_type.PhysicalType.{PhysicalType}
 use Rattle.nest_model.specs.Array.{TopFits}
 use Rattle.nest_model.specs.FactLaws.{binary-facts, fixed_size_binary-facts, fixed_size_list-facts, list-facts, map-facts, struct-facts, text-facts}
-use Rattle.nest_model.specs.Decide.{pass-no_fault}
-use Rattle.nest_model.specs.Fits.{Fits, FirstFault, checks}
-use Rattle.nest_model.specs.Layout.{Layout, Layouts, boolean, binary, text, fixed_size_binary, fixed_size_list, list, map as map_of, struct, union, layout_type, dictionary}
+use Rattle.nest_model.specs.Decide.{pass-no_error}
+use Rattle.nest_model.specs.Fits.{Fits, FirstError, checks}
+use Rattle.nest_model.specs.Layout.{Layout, Layouts, boolean, binary, utf8, fixed_size_binary, fixed_size_list, list, map as map_of, struct, union, layout_type, dictionary}
 use Rattle.nest_model.specs.Part.{Validity}
 use Rattle.nest_concat.specs.Joined.{AreOfKind, AreWithin, IsJoined, RefusesJoin, first_array}
 use Rattle.nest_concat.specs.Limits.{PassesLength, PassesLimits, PassesOffsets}
@@ -30,7 +30,7 @@ of-kind t p ws h e = λ i d l. kind-alike (layout_type (get_or ws i d).array) t 
 
 pub passes-length : (a : Layout) (ws : List WindowParts) → PassesLength ws → PassesLimits a ws
 passes-length (binary l t os bs va) ws h = inl h
-passes-length (text l t os bs va) ws h = inl h
+passes-length (utf8 l t os bs va) ws h = inl h
 passes-length (fixed_size_list t c va) ws h = inl h
 passes-length (list l t os c va) ws h = inl h
 passes-length (map_of t os c va) ws h = inl h
@@ -42,7 +42,7 @@ passes-length a ws h = h
 pub refuses-length : (e : Error) (a : Layout) (ws : List WindowParts) → e ≡ Overflow → PassesLength ws → RefusesJoin e a ws
 refuses-length e a ws o h = inr (o, passes-length a ws h)
 
--- what is joined of the first array's kind is joined
+-- the contract for the first array, from that for its variant
 pub arm-ok : (r : Result AnyArray Error) (a f : Layout) (ws : List WindowParts) → f ≡ a → IfOk r (λ b. IsJoined (layout_type a) ws (layout_of b)) → IfOk r (λ b. IsJoined (layout_type f) ws (layout_of b))
 arm-ok r a f ws e h = subst (λ z. IfOk r (λ b. IsJoined (layout_type z) ws (layout_of b))) (sym e) h
 
@@ -53,23 +53,23 @@ pub arm-memory : (r : Result AnyArray Error) (f : Layout) (ws : List WindowParts
 arm-memory (Ok b) f ws h = tt
 arm-memory (Err e) f ws h = inl h
 
--- an array of these parts is joined where they are
+-- an array with these parts is a concatenation where the parts are one
 pub ok-joined : (r : Result AnyArray Error) (t : TypeTree) (p : Layout) (ws : List WindowParts) → IfOk r (λ b. layout_of b ≡ p) → IsJoined t ws p → IfOk r (λ b. IsJoined t ws (layout_of b))
 ok-joined (Ok b) t p ws h j = subst (IsJoined t ws) (sym h) j
 ok-joined (Err e) t p ws h j = tt
 
--- what a constructor made of parts that fit
-pub made-ok : (r : Result Layout Error) (t : TypeTree) (p : Layout) (ws : List WindowParts) → MatchResult r (λ b. Fits p × (b ≡ p)) (λ e. FirstFault e p) → IsJoined t ws p → IfOk r (λ b. IsJoined t ws b)
+-- the result of a constructor from parts that fit
+pub made-ok : (r : Result Layout Error) (t : TypeTree) (p : Layout) (ws : List WindowParts) → MatchResult r (λ b. Fits p × (b ≡ p)) (λ e. FirstError e p) → IsJoined t ws p → IfOk r (λ b. IsJoined t ws b)
 made-ok (Ok b) t p ws h j = subst (IsJoined t ws) (sym h.1) j
 made-ok (Err e) t p ws h j = tt
 
-pub made-err : (r : Result Layout Error) (p : Layout) (t : TypeTree) (ws : List WindowParts) (Q : Error → Type 0) → MatchResult r (λ b. Fits p × (b ≡ p)) (λ e. FirstFault e p) → Fits p × IsJoined t ws p → IfErr r Q
+pub made-err : (r : Result Layout Error) (p : Layout) (t : TypeTree) (ws : List WindowParts) (Q : Error → Type 0) → MatchResult r (λ b. Fits p × (b ≡ p)) (λ e. FirstError e p) → Fits p × IsJoined t ws p → IfErr r Q
 made-err (Ok b) p t ws Q h f = tt
-made-err (Err e) p t ws Q h f = absurd (pass-no_fault (checks p) e f.0 h)
+made-err (Err e) p t ws Q h f = absurd (pass-no_error (checks p) e f.0 h)
 
-pub made-memory : (r : Result Layout Error) (p : Layout) (t : TypeTree) (ws : List WindowParts) → MatchResult r (λ b. Fits p × (b ≡ p)) (λ e. FirstFault e p) → Fits p × IsJoined t ws p → IsOkUnless r (Memory alloc_error)
+pub made-memory : (r : Result Layout Error) (p : Layout) (t : TypeTree) (ws : List WindowParts) → MatchResult r (λ b. Fits p × (b ≡ p)) (λ e. FirstError e p) → Fits p × IsJoined t ws p → IsOkUnless r (Memory alloc_error)
 made-memory (Ok b) p t ws h f = tt
-made-memory (Err e) p t ws h f = absurd (pass-no_fault (checks p) e f.0 h)
+made-memory (Err e) p t ws h f = absurd (pass-no_error (checks p) e f.0 h)
 
 -- too many items
 pub bytes-refuse : (large : Bool) (e : Error) (a : Layout) (t : TypeTree) (os bs : List ℕ) (va : Validity) (ws : List WindowParts) → a ≡ binary large t os bs va
@@ -77,7 +77,7 @@ pub bytes-refuse : (large : Bool) (e : Error) (a : Layout) (t : TypeTree) (os bs
 bytes-refuse large e a t os bs va ws k (inl m) = inl m
 bytes-refuse large e a t os bs va ws k (inr p) = inr (p.0, subst (λ z. PassesLimits z ws) (sym k) (inr p.1))
 
-pub texts-refuse : (large : Bool) (e : Error) (a : Layout) (t : TypeTree) (os bs : List ℕ) (va : Validity) (ws : List WindowParts) → a ≡ text large t os bs va
+pub texts-refuse : (large : Bool) (e : Error) (a : Layout) (t : TypeTree) (os bs : List ℕ) (va : Validity) (ws : List WindowParts) → a ≡ utf8 large t os bs va
     → (e ≡ Memory alloc_error) ⊎ ((e ≡ Overflow) × PassesOffsets large ws) → RefusesJoin e a ws
 texts-refuse large e a t os bs va ws k (inl m) = inl m
 texts-refuse large e a t os bs va ws k (inr p) = inr (p.0, subst (λ z. PassesLimits z ws) (sym k) (inr p.1))
@@ -90,7 +90,7 @@ pub maps-refuse : (e : Error) (a : Layout) (t : TypeTree) (os : List ℕ) (c : L
     → e ≡ Overflow → PassesOffsets false ws → RefusesJoin e a ws
 maps-refuse e a t os c va ws k o p = inr (o, subst (λ z. PassesLimits z ws) (sym k) (inr (inl p)))
 
--- where a number is not past its type, memory alone was wanting
+-- where no number overflows, the error is a failed allocation
 pub only-memory : {T : Type 0} (e : Error) (m n : ℕ) → (IsErrOf {T = T} {E = Error} (Err e) Overflow → m < n) → n ≤ m → (e ≡ Overflow) ⊎ (e ≡ Memory alloc_error) → e ≡ Memory alloc_error
 only-memory e m n past fits h = elim h [
   | inl o ↦ absurd (omega (arith, past (ap Err o), fits))
@@ -116,7 +116,7 @@ boolean-kind a t bs va f k = ap (λ z. physical_type (layout_type z)) k ∙ (sub
 pub binary-kind : (large : Bool) (a : Layout) (t : TypeTree) (os bs : List ℕ) (va : Validity) → TopFits a → a ≡ binary large t os bs va → physical_type (layout_type a) ≡ binary_of_width large
 binary-kind large a t os bs va f k = ap (λ z. physical_type (layout_type z)) k ∙ (binary-facts large t os bs va (subst TopFits k f)).typed
 
-pub text-kind : (large : Bool) (a : Layout) (t : TypeTree) (os bs : List ℕ) (va : Validity) → TopFits a → a ≡ text large t os bs va → physical_type (layout_type a) ≡ text_of_width large
+pub text-kind : (large : Bool) (a : Layout) (t : TypeTree) (os bs : List ℕ) (va : Validity) → TopFits a → a ≡ utf8 large t os bs va → physical_type (layout_type a) ≡ utf8_of_width large
 text-kind large a t os bs va f k = ap (λ z. physical_type (layout_type z)) k ∙ (text-facts large t os bs va (subst TopFits k f)).typed
 
 pub fixed-kind : (a : Layout) (t : TypeTree) (bs : List ℕ) (va : Validity) → TopFits a → a ≡ fixed_size_binary t bs va → physical_type (layout_type a) ≡ physical.FixedSizeBinary

@@ -1,4 +1,4 @@
--- What one window more adds to the offsets of dense unions.
+-- One more window of the offsets of dense unions.
 use Rattle.std.specs.Prelude.{List, Option, Some, None, map, length, get_or, replicate, unwrap_or}
 use Rattle.std.specs.List.{range_with_len, sum_by}
 use Rattle.std.proofs.Common.{◌≡◌, ℕ, ℤ, pos, zero, suc, ◌+◌, ◌-◌, ◌<◌, ◌≤◌, [], ◌∷◌, ◌++◌, take, refl, ap, sym, ◌∙◌, subst, arith, append-nil, append_assoc}
@@ -11,7 +11,7 @@ use Rattle.nest_model.specs.Accessors.{children_of, start_of, union_offsets_of}
 use Rattle.nest_model.specs.Array.{TopFits}
 use Rattle.nest_model.specs.Checks.{most_picks}
 use Rattle.nest_model.specs.Layout.{Layout, layout_type, count_layouts}
-use Rattle.nest_model.specs.Meaning.{len, union_place}
+use Rattle.nest_model.specs.Meaning.{len, union_index}
 use Rattle.nest_array.proofs.Picks.{IsUnionOf}
 use Rattle.nest_array.specs.WindowParts.{WindowParts}
 use Rattle.nest_concat.specs.Parts.{field_at}
@@ -23,7 +23,7 @@ use Rattle.nest_concat.proofs.Grown.{sum-more, sum-within}
 use Rattle.nest_concat.proofs.Picked.{pick-inside, picks-one, some-offsets, union-is}
 use Rattle.nest_concat.proofs.Unions.{facts-by}
 
--- the offsets of one window more
+-- the offsets of one more window
 behind-push : (before ws : List WindowParts) (w : WindowParts) → offsets_behind before (ws ++ w ∷ []) ≡ offsets_behind before ws ++ map (moved_offset (before ++ ws) w) (range_with_len w.offset w.count)
 behind-push before [] w =
     append-nil (map (moved_offset before w) (range_with_len w.offset w.count)) ∙ ap (λ b. map (moved_offset b w) (range_with_len w.offset w.count)) (sym (append-nil before))
@@ -46,7 +46,7 @@ map-range f g o (suc n) h =
     let b = map-range f g (o + 1) n (λ j l. let e : o + suc j ≡ o + 1 + j = omega arith in subst (λ i. f i ≡ g i) e (h (suc j) (omega arith))) in
     ap (λ x. x ∷ map f (range_with_len (o + 1) n)) a ∙ ap (λ xs. g o ∷ xs) b
 
--- offsets by ends and counts are those behind other windows
+-- offsets from ends and counts are those after earlier windows
 pub same-offsets : (t : TypeTree) (w : WindowParts) (before : List WindowParts) (n : ℕ) (old ends counts : List ℕ) → TopFits w.array → w.offset + w.count ≤ len w.array → logical_type (layout_type w.array) ≡ logical_type t → physical_type t ≡ physical.Union
     → n ≡ count_fields (fields_of t) → ((f : ℕ) → f < n → get_or old f 0 ≡ count_slots (map (field_of f) before)) → AreAdvanced n w old ends counts
     → map (offset_by ends counts w) (range_with_len w.offset w.count) ≡ map (moved_offset before w) (range_with_len w.offset w.count)
@@ -58,7 +58,7 @@ same-offsets t w before n old ends counts h i e p m c d = map-range (offset_by e
         let u = union-is t a h e p in
         let o = picks-one a (w.offset + j) h u (omega (arith, i, l)) in
         let f = o.0 in
-        let q = union_place (union_offsets_of a) (start_of a) (w.offset + j) in
+        let q = union_index (union_offsets_of a) (start_of a) (w.offset + j) in
         let k : f < n = omega (arith, m, o.1.field_there, (facts-by t a h e p).as_many) in
         let x = d f k in
         let b = pick-inside f a w.offset w.count j q h u l o.1.means refl in
@@ -67,27 +67,27 @@ same-offsets t w before n old ends counts h i e p m c d = map-range (offset_by e
         ∙ ap pos z
         ∙ sym (ap (λ v. pos (count_slots (map (field_of (unwrap_or v 0)) before) + (q - (field_of (unwrap_or v 0) w).offset))) o.1.means)
 
--- the slot's offset is one that 32 bits can name
+-- the offset of the slot fits 32 bits
 pub record IsPlaced (counts ends : List ℕ) (f q : ℕ) : Type 0 where
   pub before_end : q ≤ get_or ends f 0
   pub room : get_or ends f 0 - q ≤ get_or counts f 0
   pub fits : get_or counts f 0 - (get_or ends f 0 - q) < 2147483648
 
 pub placed : (w : WindowParts) (a : Layout) (ends counts : List ℕ) (i f q : ℕ) → a ≡ w.array → TopFits a → IsUnionOf a → ArePlaced w ends counts → i < w.count → f < count_layouts (children_of a)
-    → field_at a (w.offset + i) ≡ Some f → q ≡ union_place (union_offsets_of a) (start_of a) (w.offset + i) → IsPlaced counts ends f q
+    → field_at a (w.offset + i) ≡ Some f → q ≡ union_index (union_offsets_of a) (start_of a) (w.offset + i) → IsPlaced counts ends f q
 placed w a ends counts i f q e h u p l m y z =
     let x = p f (subst (λ b. f < count_layouts (children_of b)) e m) in
-    let b = pick-inside f w.array w.offset w.count i q (subst TopFits e h) (subst IsUnionOf e u) l (ap (λ c. field_at c (w.offset + i)) (sym e) ∙ y) (z ∙ ap (λ c. union_place (union_offsets_of c) (start_of c) (w.offset + i)) e) in
+    let b = pick-inside f w.array w.offset w.count i q (subst TopFits e h) (subst IsUnionOf e u) l (ap (λ c. field_at c (w.offset + i)) (sym e) ∙ y) (z ∙ ap (λ c. union_index (union_offsets_of c) (start_of c) (w.offset + i)) e) in
     record { before_end = omega (arith, x.0, b.1); room = omega (arith, x.0, x.1, b.0); fits = omega (arith, x.0, x.1, x.2, b.0, b.1) }
 
-pub offset-is : (w : WindowParts) (a : Layout) (ends counts : List ℕ) (i f q : ℕ) → a ≡ w.array → field_at a i ≡ Some f → q ≡ union_place (union_offsets_of a) (start_of a) i
+pub offset-is : (w : WindowParts) (a : Layout) (ends counts : List ℕ) (i f q : ℕ) → a ≡ w.array → field_at a i ≡ Some f → q ≡ union_index (union_offsets_of a) (start_of a) i
     → offset_by ends counts w i ≡ pos (get_or counts f 0 - (get_or ends f 0 - q))
 offset-is w a ends counts i f q e y z =
     let m : field_at w.array i ≡ Some f = ap (λ c. field_at c i) (sym e) ∙ y in
-    let v : union_place (union_offsets_of w.array) (start_of w.array) i ≡ q = ap (λ c. union_place (union_offsets_of c) (start_of c) i) (sym e) ∙ sym z in
-    ap (λ o. pos (get_or counts (unwrap_or o 0) 0 - (get_or ends (unwrap_or o 0) 0 - union_place (union_offsets_of w.array) (start_of w.array) i))) m ∙ ap (λ x. pos (get_or counts f 0 - (get_or ends f 0 - x))) v
+    let v : union_index (union_offsets_of w.array) (start_of w.array) i ≡ q = ap (λ c. union_index (union_offsets_of c) (start_of c) i) (sym e) ∙ sym z in
+    ap (λ o. pos (get_or counts (unwrap_or o 0) 0 - (get_or ends (unwrap_or o 0) 0 - union_index (union_offsets_of w.array) (start_of w.array) i))) m ∙ ap (λ x. pos (get_or counts f 0 - (get_or ends f 0 - x))) v
 
--- counts of one window more
+-- the counts of one more window
 map-sum : (f : ℕ) (ws : List WindowParts) → count_slots (map (field_of f) ws) ≡ sum_by (λ w. (field_of f w).count) ws
 map-sum f [] = refl
 map-sum f (w ∷ ws) = omega (arith, map-sum f ws, sum_by-cons count_of (field_of f w) (map (field_of f) ws), sum_by-cons (λ (v : WindowParts). (field_of f v).count) w ws)
@@ -96,7 +96,7 @@ pub counts-more : (f : ℕ) (ws : List WindowParts) (k : ℕ) (w : WindowParts) 
     → count_slots (map (field_of f) (take (k + 1) ws)) ≡ count_slots (map (field_of f) (take k ws)) + (field_of f w).count
 counts-more f ws k w l e = omega (arith, map-sum f (take (k + 1) ws), map-sum f (take k ws), sum-more (λ v. (field_of f v).count) ws k w l e)
 
--- too many in one window are too many in all
+-- too many slots in one window are too many in all
 pub one-passes : (a : Layout) (ws : List WindowParts) (k : ℕ) (w : WindowParts) (n : ℕ) (counts : List ℕ) → (union_offsets_of a ≡ None → ⊥) → k < length ws → w ≡ get_or ws k w
     → ((f : ℕ) → f < n → get_or counts f 0 ≡ count_slots (map (field_of f) (take k ws))) → n ≡ count_layouts (children_of a) → PassesOne n w counts
     → PassesPicks (union_offsets_of a) (count_layouts (children_of a)) ws
@@ -118,11 +118,11 @@ none-counted counts n e f l = ap (λ z. get_or z f 0) e ∙ zero-at 128 f
 pub few-none : (counts : List ℕ) → counts ≡ replicate 128 0 → AreFew counts
 few-none counts e = λ f. omega (arith, ap (λ z. get_or z f 0) e, zero-at 128 f)
 
--- what is known of one of the windows
+-- facts about one of the windows
 pub item-within : (t : TypeTree) (ws : List WindowParts) (k : ℕ) (w : WindowParts) → AreWithin t ws → k < length ws → w ≡ get_or ws k w → IsWithin t w
 item-within t ws k w h l e = subst (IsWithin t) (sym e) (h k w l)
 
--- counts of all windows that are few
+-- the counts of all windows are within the limit
 pub picks-room : (o : Option (List ℤ)) (m n : ℕ) (ws : List WindowParts) (i : ℕ) (counts : List ℕ) → length ws ≤ i → n ≡ m → ((f : ℕ) → f < n → get_or counts f 0 ≡ count_slots (map (field_of f) (take i ws))) → AreFew counts → PassesPicks o m ws → ⊥
 picks-room None m n ws i counts h e c k p = p
 picks-room (Some os) m n ws i counts h e c k p =

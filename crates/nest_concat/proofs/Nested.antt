@@ -1,4 +1,4 @@
--- Arrays that are made of joined children.
+-- Arrays with concatenated children.
 use Rattle.std.specs.Prelude.{IsTrue, List, [], ◌∷◌, map, length, get_or, Some}
 use Rattle.std.specs.List.{All, flat_map}
 use Rattle.std.proofs.Common.{◌≡◌, ℕ, ◌+◌, ◌*◌, ◌/◌, ◌%◌, ◌<◌, ◌≤◌, Bool, inl, inr, refl, ap, sym, ◌∙◌, subst, arith}
@@ -6,7 +6,7 @@ use Rattle.std.proofs.Math.Nat.{mul-div_cancel}
 use Rattle.std.proofs.lemmas.List.Elements.{All-nil, All-cons}
 use Rattle.std.proofs.lemmas.List.Folds.{flat_map-map}
 use Rattle.std.proofs.lemmas.List.Sums.{sum_by_more_le}
-use Rattle.nest_memory.specs.Cut.{cut}
+use Rattle.nest_memory.specs.Sublist.{sublist}
 use Rattle.nest_memory.specs.Physical.{physical_type, list_of_width}
 use Rattle.nest_memory.specs.TypeTree.{TypeTree, logical_type, item_type, size_of, has_pairs}
 use Rattle.nest_memory.specs.declared.datatypes.physical_type.PhysicalType.TheVariants as physical
@@ -33,7 +33,7 @@ use Rattle.nest_concat.proofs.Shapes.{list-shape, map-shape, fixed_size_list-sha
 use Rattle.nest_concat.proofs.Rows.{SpansOf, joined_ends, span-at, span_in, spans-last, spans-length, spans-rows}
 use Rattle.nest_concat.proofs.Windows.{joined-fits, joined-slots, nowhere, place_of, same-slot, validity-at, window}
 
--- what holds of what a function makes of each
+-- a property of each result of a function
 pub all-map : {X Y : Type 0} (f : X → Y) (P : Y → Type 0) (xs : List X) → All (λ x. P (f x)) xs → All P (map f xs)
 all-map f P [] h = All-nil P
 all-map f P (x ∷ xs) h = All-cons P (f x) (map f xs) (first-one (λ y. P (f y)) x xs h) (all-map f P xs (later-ones (λ y. P (f y)) x xs h))
@@ -60,7 +60,7 @@ pub first-of-map : (f : WindowParts → WindowParts) (g : Layout → Layout) (ws
 first-of-map f g [] e h = absurd (omega arith)
 first-of-map f g (w ∷ ws) e h = e w
 
--- children of one type, of windows whose children f tells
+-- children of one type, where f selects the child of a window
 pub children-within : (f : WindowParts → WindowParts) (g : Layout → Layout) (t : TypeTree) (ws cws : List WindowParts) → ((w : WindowParts) → (f w).array ≡ g w.array)
     → AreWithin t ws → 0 < length ws → cws ≡ map f ws → AreArrays cws
     → ((a : Layout) → TopFits a → logical_type (layout_type a) ≡ logical_type t → logical_type (layout_type (g a)) ≡ logical_type (layout_type (g (first_array ws))))
@@ -90,7 +90,7 @@ list-spans large t ws h p = λ i d l.
     let f = list-facts large (layout_type w.array) (offsets_of w.array) (child_of w.array) (validity_of w.array) (subst TopFits e (h i d l).is_array) in
     record { rising = f.rising; inside = omega (arith, (h i d l).within, ap len e); covered = omega (arith, f.within, slots-length (child_of w.array)) }
 
--- the window over the items lies within them
+-- the window over the items is within them
 items-inside : (ws : List WindowParts) → SpansOf child_slots ws → All (λ w. (items_in w).offset + (items_in w).count ≤ len (items_in w).array) ws
 items-inside ws s = λ i d l.
     let w = get_or ws i d in
@@ -112,7 +112,7 @@ list-children large t ws cws h p s e r =
     (λ a x y. ap logical_type (some-one _ _ (sym (list-item large t a p x y) ∙ list-item large t (first_array ws) p f.0 f.1)))
     (items-inside ws (list-spans large t ws h p))
 
--- the slots of joined items
+-- the slots of concatenated items
 items-slots : (ct : TypeTree) (ws : List WindowParts) (d : Layout) → IsJoined ct (map items_in ws) d → slots_of d ≡ flat_map (span_in child_slots) ws
 items-slots ct ws d g = g.slots ∙ flat_map-map window_slots items_in ws
 
@@ -138,7 +138,7 @@ list-core large t ct ws d h p c o g =
             let f = h k nowhere l in
             let e = list-is large t w p f in
             list-slot large t es d v x (o, fits) (omega (arith, n, place-below ws k j l i))
-            ∙ same-slot _ _ _ _ (validity-at t ws k j h l i) (ap (λ ss. slots.list (seal (cut ss (begin es x) (extent es x)))) q ∙ ap (λ ss. slots.list (seal ss)) (span-at child_slots ws k j s l i))
+            ∙ same-slot _ _ _ _ (validity-at t ws k j h l i) (ap (λ ss. slots.list (seal (sublist ss (begin es x) (extent es x)))) q ∙ ap (λ ss. slots.list (seal ss)) (span-at child_slots ws k j s l i))
             ∙ sym (list-slot large (layout_type w.array) (offsets_of w.array) (child_of w.array) (validity_of w.array) (w.offset + j) (subst TopFits e f.is_array) (omega (arith, f.within, ap len e)))
             ∙ sym (ap (λ z. slot z (w.offset + j)) e));
         same_type = refl;
@@ -155,7 +155,7 @@ list-joined large t u ws cws es d v h p s c e f o g j =
     let y : list large t (joined_ends ws) d (joined_validity ws) ≡ list large u es d v = cc in
     subst (λ z. Fits z × IsJoined t ws z) y x
 
--- what refuses the items refuses the lists
+-- the errors of the items are errors of the lists
 child-refuses : (e : Error) (a c : Layout) (ws cws : List WindowParts) → (PassesLimits c cws → PassesLimits a ws) → RefusesJoin e c cws → RefusesJoin e a ws
 child-refuses e a c ws cws f (inl m) = inl m
 child-refuses e a c ws cws f (inr p) = inr (p.0, f p.1)
@@ -226,7 +226,7 @@ map-core t ct ws d h p y c o g =
             let f = h k nowhere l in
             let e = map-is t w p f in
             map-slot t es d v x (o, fits) (omega (arith, n, place-below ws k j l i))
-            ∙ same-slot _ _ _ _ (validity-at t ws k j h l i) (ap (λ ss. slots.list (seal (cut ss (begin es x) (extent es x)))) q ∙ ap (λ ss. slots.list (seal ss)) (span-at child_slots ws k j s l i))
+            ∙ same-slot _ _ _ _ (validity-at t ws k j h l i) (ap (λ ss. slots.list (seal (sublist ss (begin es x) (extent es x)))) q ∙ ap (λ ss. slots.list (seal ss)) (span-at child_slots ws k j s l i))
             ∙ sym (map-slot (layout_type w.array) (offsets_of w.array) (child_of w.array) (validity_of w.array) (w.offset + j) (subst TopFits e f.is_array) (omega (arith, f.within, ap len e)))
             ∙ sym (ap (λ z. slot z (w.offset + j)) e));
         same_type = refl;
@@ -257,7 +257,7 @@ map-lighter a t os c va ws cws k h q =
     let z : first_array cws ≡ c = child-first items_in a ws cws (λ w. refl) h q ∙ ap child_of k in
     omega (arith, ap weight z, ap weight k)
 
--- lists of one size
+-- fixed-size lists
 sized-is : (t : TypeTree) (w : WindowParts) → physical_type t ≡ physical.FixedSizeList → IsWithin t w → w.array ≡ fixed_size_list (layout_type w.array) (child_of w.array) (validity_of w.array)
 sized-is t w p f = fixed_size_list-shape w.array f.is_array (kind-alike (layout_type w.array) t _ f.same_type p)
 
@@ -291,7 +291,7 @@ sized-core t ct ws d h p z c g =
     let s = size_of t in
     let v = joined_validity ws in
     let b = sized-inside t s ws h p refl in
-    let q : slots_of d ≡ flat_map (λ w. cut (child_slots w) (w.offset * s) (w.count * s)) ws = g.slots ∙ flat_map-map window_slots (blocks_of s) ws in
+    let q : slots_of d ≡ flat_map (λ w. sublist (child_slots w) (w.offset * s) (w.count * s)) ws = g.slots ∙ flat_map-map window_slots (blocks_of s) ws in
     let l : len d ≡ count_slots ws * s = sym (slots-length d) ∙ ap length q ∙ blocks-count s child_slots ws b in
     let n : len d / s ≡ count_slots ws = ap (λ x. x / s) l ∙ mul-div_cancel (count_slots ws) z in
     let m : len d % s ≡ 0 = ap (λ x. x % s) l ∙ product-exact (count_slots ws) s in (
@@ -303,8 +303,8 @@ sized-core t ct ws d h p z c g =
             let f = h k nowhere y in
             let e = sized-is t w p f in
             fixed_size_list-slot t d v x (omega (arith, n, place-below ws k j y i))
-            ∙ same-slot _ _ _ _ (validity-at t ws k j h y i) (ap (λ ss. slots.list (seal (cut ss (x * s) s))) q ∙ ap (λ ss. slots.list (seal ss)) (block-at s child_slots ws k j b y i))
-            ∙ sym (ap (λ m. where_valid (validity_of w.array) (w.offset + j) (slots.list (seal (cut (child_slots w) ((w.offset + j) * m) m)))) (size-alike (layout_type w.array) t f.same_type))
+            ∙ same-slot _ _ _ _ (validity-at t ws k j h y i) (ap (λ ss. slots.list (seal (sublist ss (x * s) s))) q ∙ ap (λ ss. slots.list (seal ss)) (block-at s child_slots ws k j b y i))
+            ∙ sym (ap (λ m. where_valid (validity_of w.array) (w.offset + j) (slots.list (seal (sublist (child_slots w) ((w.offset + j) * m) m)))) (size-alike (layout_type w.array) t f.same_type))
             ∙ sym (fixed_size_list-slot (layout_type w.array) (child_of w.array) (validity_of w.array) (w.offset + j) (omega (arith, f.within, ap len e)))
             ∙ sym (ap (λ a. slot a (w.offset + j)) e));
         same_type = refl;

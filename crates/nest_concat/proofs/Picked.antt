@@ -1,4 +1,4 @@
--- Places in the fields of a union that its slots pick, and the parts of fields that they lie in.
+-- The indices in fields that the slots of a union pick, and the parts of fields that contain them.
 use Rattle.std.specs.Prelude.{◌⊎◌, Option, Some, None, is_some, option_map, min, max, nat_eq, if◌then◌else◌}
 use Rattle.std.specs.List.{flat_map, range_with_len}
 use Rattle.std.proofs.Common.{◌≡◌, ℕ, ℤ, zero, suc, ◌+◌, ◌<◌, ◌≤◌, Bool, true, false, List, [], ◌∷◌, ◌++◌, length, inl, inr, refl, ap, sym, ◌∙◌, subst, arith, append-nil}
@@ -14,14 +14,14 @@ use Rattle.nest_model.specs.FactLaws.{union-facts}
 use Rattle.nest_model.specs.Facts.{IsUnion}
 use Rattle.nest_model.specs.Fits.{EachCovers, OffsetsByMode, SlotsThere}
 use Rattle.nest_model.specs.Layout.{Layout, Layouts, union, no_layouts, more_layouts, layout_type, count_layouts}
-use Rattle.nest_model.specs.Meaning.{len, union_place}
+use Rattle.nest_model.specs.Meaning.{len, union_index}
 use Rattle.nest_model.specs.Reads.{union-slot}
 use Rattle.nest_array.proofs.Picks.{IsUnionOf}
 use Rattle.nest_concat.specs.Parts.{behind, field_at, is_field, lowest, part_of, pick_at, picks_in, span_of}
 use Rattle.nest_concat.proofs.Logical.{dense-alike, kind-alike}
 use Rattle.nest_concat.proofs.Shapes.{union-shape}
 
--- q is one of some places
+-- q is one of these indices
 abbrev pub IsIn : ℕ → List ℕ → Type 0
 IsIn q [] = ⊥
 IsIn q (p ∷ ps) = (p ≡ q) ⊎ IsIn q ps
@@ -59,7 +59,7 @@ lowest-behind [] = omega arith
 lowest-behind (p ∷ []) = omega arith
 lowest-behind (p ∷ q ∷ ps) = omega arith
 
--- one place more
+-- one more index
 lowest-later : (ps : List ℕ) (p : ℕ) → 0 < length ps → lowest (ps ++ p ∷ []) ≡ min (lowest ps) p
 lowest-later [] p h = absurd (omega arith)
 lowest-later (q ∷ []) p h = refl
@@ -80,10 +80,10 @@ pub lowest-more : (ps : List ℕ) (p : ℕ) → (behind ps ≡ 0 → ⊥) → lo
 lowest-more [] p h = absurd (h refl)
 lowest-more (q ∷ ps) p h = lowest-later (q ∷ ps) p (omega arith)
 
--- what slot i picks, and what it does not
-pub pick-yes : (f : ℕ) (a : Layout) (i : ℕ) → field_at a i ≡ Some f → pick_at f a i ≡ union_place (union_offsets_of a) (start_of a) i ∷ []
+-- slot i picks field f, or does not
+pub pick-yes : (f : ℕ) (a : Layout) (i : ℕ) → field_at a i ≡ Some f → pick_at f a i ≡ union_index (union_offsets_of a) (start_of a) i ∷ []
 pick-yes f a i e =
-    let p = union_place (union_offsets_of a) (start_of a) i in
+    let p = union_index (union_offsets_of a) (start_of a) i in
     ap (λ o. if is_field f o then p ∷ [] else []) e ∙ ap (λ b. if b then p ∷ [] else []) (eq-eqb f f refl)
 
 pub pick-no : (f g : ℕ) (a : Layout) (i : ℕ) → field_at a i ≡ Some g → (g ≡ f → ⊥) → pick_at f a i ≡ []
@@ -92,7 +92,7 @@ pick-no f g a i e h = go (eqb_tells f g)
     go : ((nat_eq f g ≡ true) × (f ≡ g)) ⊎ ((nat_eq f g ≡ false) × (f ≡ g → ⊥)) → pick_at f a i ≡ []
     go (inl t) = absurd (h (sym t.1))
     go (inr t) =
-        let p = union_place (union_offsets_of a) (start_of a) i in
+        let p = union_index (union_offsets_of a) (start_of a) i in
         ap (λ o. if is_field f o then p ∷ [] else []) e ∙ ap (λ b. if b then p ∷ [] else []) t.0
 
 range-more : (a n : ℕ) → range_with_len a (n + 1) ≡ range_with_len a n ++ (a + n) ∷ []
@@ -108,14 +108,14 @@ picks-more f a o i =
     ∙ flat_map-append (pick_at f a) (range_with_len o i) ((o + i) ∷ [])
     ∙ ap (λ z. picks_in f a o i ++ z) (append-nil (pick_at f a (o + i)))
 
-pub picks-yes : (f g q : ℕ) (a : Layout) (o i : ℕ) → field_at a (o + i) ≡ Some g → q ≡ union_place (union_offsets_of a) (start_of a) (o + i) → g ≡ f → picks_in f a o (i + 1) ≡ picks_in f a o i ++ q ∷ []
+pub picks-yes : (f g q : ℕ) (a : Layout) (o i : ℕ) → field_at a (o + i) ≡ Some g → q ≡ union_index (union_offsets_of a) (start_of a) (o + i) → g ≡ f → picks_in f a o (i + 1) ≡ picks_in f a o i ++ q ∷ []
 picks-yes f g q a o i e p h =
     picks-more f a o i ∙ ap (λ z. picks_in f a o i ++ z) (pick-yes f a (o + i) (e ∙ ap Some h) ∙ ap (λ z. z ∷ []) (sym p))
 
 pub picks-no : (f g : ℕ) (a : Layout) (o i : ℕ) → field_at a (o + i) ≡ Some g → (g ≡ f → ⊥) → picks_in f a o (i + 1) ≡ picks_in f a o i
 picks-no f g a o i e h = picks-more f a o i ∙ ap (λ z. picks_in f a o i ++ z) (pick-no f g a (o + i) e h) ∙ append-nil (picks_in f a o i)
 
--- what is known of a union
+-- facts about a union
 pub union-is : (t : TypeTree) (a : Layout) → TopFits a → logical_type (layout_type a) ≡ logical_type t → physical_type t ≡ physical.Union → IsUnionOf a
 union-is t a h e p = union-shape a h (kind-alike (layout_type a) t physical.Union e p)
 
@@ -126,21 +126,21 @@ facts-of a h u = union-facts (layout_type a) (types_of a) (children_of a) (union
 pub record PicksOne (a : Layout) (i f : ℕ) : Type 0 where
   pub means : field_at a i ≡ Some f
   pub field_there : f < count_layouts (children_of a)
-  pub slot_there : union_place (union_offsets_of a) (start_of a) i < len (child_at (children_of a) f)
+  pub slot_there : union_index (union_offsets_of a) (start_of a) i < len (child_at (children_of a) f)
 
 pub picks-one : (a : Layout) (i : ℕ) → TopFits a → IsUnionOf a → i < len a → (f : ℕ) × PicksOne a i f
 picks-one a i h u l =
     let s = union-slot (layout_type a) (types_of a) (children_of a) (union_offsets_of a) (start_of a) i (subst TopFits u h) (omega (arith, ap len u, l)) in
     (s.0, record { means = s.1.means; field_there = s.1.field_there; slot_there = s.1.slot_there })
 
--- no pick is behind its field
+-- no picked index is past its field
 pick-bound : (f : ℕ) (a : Layout) (i : ℕ) → TopFits a → IsUnionOf a → i < len a → behind (pick_at f a i) ≤ len (child_at (children_of a) f)
 pick-bound f a i h u l =
     let s = picks-one a i h u l in
     let g = s.0 in
     elim (eqb_tells f g) as (λ _. behind (pick_at f a i) ≤ len (child_at (children_of a) f)) [
       | inl t ↦ let e = ap behind (pick-yes f a i (s.1.means ∙ ap Some (sym t.1))) in
-          let b = subst (λ z. union_place (union_offsets_of a) (start_of a) i < len (child_at (children_of a) z)) (sym t.1) s.1.slot_there in
+          let b = subst (λ z. union_index (union_offsets_of a) (start_of a) i < len (child_at (children_of a) z)) (sym t.1) s.1.slot_there in
           omega (arith, e, b)
       | inr t ↦ omega (arith, ap behind (pick-no f g a i s.1.means (λ z. t.1 (sym z))))
     ]
@@ -179,7 +179,7 @@ pub none-offsets : {X : Type 0} (g : X → List ℤ) (o : Option X) (p : Option 
 none-offsets g None p b e f h = sym h
 none-offsets g (Some x) p b e f h = cc
 
--- and of a dense one
+-- the parts of a dense union
 pub some-offsets : (o : Option (List ℤ)) → (o ≡ None → ⊥) → (os : List ℤ) × (o ≡ Some os)
 some-offsets None h = absurd (h refl)
 some-offsets (Some os) h = (os, refl)
@@ -194,15 +194,15 @@ pub by-mode : (o : Option (List ℤ)) → (o ≡ None) ⊎ (o ≡ None → ⊥)
 by-mode None = inl refl
 by-mode (Some os) = inr (λ e. cc)
 
--- each pick lies in its part
-pub pick-inside : (f : ℕ) (a : Layout) (o n j q : ℕ) → TopFits a → IsUnionOf a → j < n → field_at a (o + j) ≡ Some f → q ≡ union_place (union_offsets_of a) (start_of a) (o + j)
+-- each pick is in its part
+pub pick-inside : (f : ℕ) (a : Layout) (o n j q : ℕ) → TopFits a → IsUnionOf a → j < n → field_at a (o + j) ≡ Some f → q ≡ union_index (union_offsets_of a) (start_of a) (o + j)
     → ((part_of f a o n).0 ≤ q) × (q < (part_of f a o n).0 + (part_of f a o n).1)
 pick-inside f a o n j q h u l e p = go (by-mode (union_offsets_of a))
   where
     go : (union_offsets_of a ≡ None) ⊎ (union_offsets_of a ≡ None → ⊥) → ((part_of f a o n).0 ≤ q) × (q < (part_of f a o n).0 + (part_of f a o n).1)
     go (inl s) =
         let x = sparse-part f a o n u s (omega arith) in
-        let y = p ∙ ap (λ z. union_place z (start_of a) (o + j)) s in
+        let y = p ∙ ap (λ z. union_index z (start_of a) (o + j)) s in
         let v = ap (λ z. z.0) x in
         let w = ap (λ z. z.1) x in
         (omega (arith, y, v), omega (arith, y, v, w, l))
@@ -215,7 +215,7 @@ pick-inside f a o n j q h u l e p = go (by-mode (union_offsets_of a))
         let high = in-behind q (picks_in f a o n) i in
         (omega (arith, v, low), omega (arith, v, w, low, high))
 
--- and each part in its field
+-- each part is in its field
 pub covers-at : (cs : Layouts) (n f : ℕ) → EachCovers cs n → f < count_layouts cs → n ≤ len (child_at cs f)
 covers-at no_layouts n f h l = absurd (omega arith)
 covers-at (more_layouts c cs) n zero h l = h.0

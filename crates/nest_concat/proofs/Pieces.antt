@@ -1,24 +1,24 @@
--- Lists one after another, and what lies at a place in one of them.
+-- Consecutive lists, and the items at an index in one of them.
 use Rattle.std.specs.Prelude.{List, [], ◌∷◌, ◌++◌, length, get_or}
 use Rattle.std.specs.List.{All, flat_map, sum_by}
 use Rattle.std.proofs.Common.{◌≡◌, ℕ, sum, zero, suc, ◌+◌, ◌-◌, ◌<◌, ◌≤◌, take, drop, refl, ap, sym, ◌∙◌, arith, length-append}
 use Rattle.std.proofs.lemmas.List.{get_or_append_left, get_or-append-add, take-append-le, drop-drop, drop-append-le, drop_at, length-drop}
 use Rattle.std.proofs.lemmas.List.Sums.{sum_by-append, sum_by-cons, sum_by_more_le}
-use Rattle.nest_memory.specs.Cut.{cut}
+use Rattle.nest_memory.specs.Sublist.{sublist}
 use Rattle.nest_memory.specs.Rising.{ends_from, last_of}
 use Rattle.nest_model.specs.Array.{AreOffsets}
 use Rattle.nest_model.specs.Part.{begin, extent, count_rows}
 use Rattle.nest_model.specs.Runs.{cut-cut, length-cut}
 use Rattle.nest_concat.specs.Windows.{extents}
 
--- what holds of each holds of the first one, and of each after it
+-- a property of each item is one of the first and of the rest
 pub first-one : {X : Type 0} (P : X → Type 0) (x : X) (xs : List X) → All P (x ∷ xs) → P x
 first-one P x xs h = h 0 x (omega arith)
 
 pub later-ones : {X : Type 0} (P : X → Type 0) (x : X) (xs : List X) → All P (x ∷ xs) → All P xs
 later-ones P x xs h = λ k d l. h (suc k) d (omega arith)
 
--- each of the lists is as long as a number says
+-- each list has a given length
 abbrev pub AreLong : {X A : Type 0} → (X → List A) → (X → ℕ) → List X → Type 0
 AreLong f n xs = All (λ x. length (f x) ≡ n x) xs
 
@@ -40,28 +40,28 @@ flat-at f n (x ∷ xs) (suc k) j e d h l m =
     ap (λ i. get_or (f x ++ flat_map f xs) i d) z ∙ get_or-append-add (f x) (flat_map f xs) (sum_by n (take k xs) + j) d
     ∙ flat-at f n xs k j e d (later-ones (λ y. length (f y) ≡ n y) x xs h) (omega arith) m
 
--- a cut within list k
+-- a sublist within list k
 drop-past : {A : Type 0} (xs ys : List A) (m : ℕ) → drop (length xs + m) (xs ++ ys) ≡ drop m ys
 drop-past xs ys m = sym (drop-drop m (length xs) (xs ++ ys)) ∙ ap (drop m) (drop_at xs ys (length xs) refl)
 
 pub cut-flat : {X A : Type 0} (f : X → List A) (n : X → ℕ) (xs : List X) (k m l : ℕ) (e : X) → AreLong f n xs → k < length xs → m + l ≤ n (get_or xs k e)
-    → cut (flat_map f xs) (sum_by n (take k xs) + m) l ≡ cut (f (get_or xs k e)) m l
+    → sublist (flat_map f xs) (sum_by n (take k xs) + m) l ≡ sublist (f (get_or xs k e)) m l
 cut-flat f n [] k m l e h i j = absurd (omega arith)
 cut-flat f n (x ∷ xs) zero m l e h i j =
     let z : sum_by n (take 0 (x ∷ xs)) + m ≡ m = omega arith in
     let b = first-one (λ y. length (f y) ≡ n y) x xs h in
     let p : m ≤ length (f x) = omega arith in
     let q : l ≤ length (drop m (f x)) = omega (arith, length-drop m (f x)) in
-    ap (λ i. cut (f x ++ flat_map f xs) i l) z
+    ap (λ i. sublist (f x ++ flat_map f xs) i l) z
     ∙ ap (take l) (drop-append-le m (f x) (flat_map f xs) p)
     ∙ take-append-le l (drop m (f x)) (flat_map f xs) q
 cut-flat f n (x ∷ xs) (suc k) m l e h i j =
     let z : sum_by n (x ∷ take k xs) + m ≡ length (f x) + (sum_by n (take k xs) + m) = omega (arith, sum_by-cons n x (take k xs), first-one (λ y. length (f y) ≡ n y) x xs h) in
-    ap (λ i. cut (f x ++ flat_map f xs) i l) z
+    ap (λ i. sublist (f x ++ flat_map f xs) i l) z
     ∙ ap (take l) (drop-past (f x) (flat_map f xs) (sum_by n (take k xs) + m))
     ∙ cut-flat f n xs k m l e (later-ones (λ y. length (f y) ≡ n y) x xs h) (omega arith) j
 
--- the sum of numbers up to place j of list k
+-- the sum of the numbers up to index j of list k
 sum-past : (xs ys : List ℕ) (m : ℕ) → sum (take (length xs + m) (xs ++ ys)) ≡ sum xs + sum (take m ys)
 sum-past [] ys m = let z : length {A = ℕ} [] + m ≡ m = omega arith in omega (arith, ap (λ i. sum (take i ys)) z)
 sum-past (x ∷ xs) ys m =
@@ -89,13 +89,13 @@ sum-all f s [] g = refl
 sum-all f s (x ∷ xs) g =
     omega (arith, sum_by-append (λ (z : ℕ). z) (f x) (flat_map f xs), first-one (λ y. sum (f y) ≡ s y) x xs g, sum-all f s xs (later-ones (λ y. sum (f y) ≡ s y) x xs g), sum_by-cons s x xs)
 
--- where the items of a row begin, among offsets that are made of lengths
+-- the start of a row in offsets made from lengths
 begin-from : (ls : List ℕ) (a i : ℕ) → i ≤ length ls → get_or (a ∷ ends_from a ls) i 0 ≡ a + sum (take i ls)
 begin-from ls a zero h = omega arith
 begin-from [] a (suc i) h = absurd (omega arith)
 begin-from (l ∷ ls) a (suc i) h = omega (arith, begin-from ls (a + l) i (omega arith), sum_by-cons (λ (z : ℕ). z) l (take i ls))
 
--- offsets from 0 on, of rows of these lengths
+-- the offsets of rows of these lengths, from 0
 abbrev pub ends : List ℕ → List ℕ
 ends ls = 0 ∷ ends_from 0 ls
 
@@ -141,7 +141,7 @@ begin-rises os o n h l = rises os o (o + n) h (omega arith) l
 pub begin-last : (os : List ℕ) (i : ℕ) → AreOffsets os → i ≤ count_rows os → begin os i ≤ last_of os
 begin-last os i h l = h.1 i (length os - 1) (omega arith) (omega (arith, h.0))
 
--- A window over rows between offsets, over items.
+-- A window over rows between offsets, and their items.
 pub record IsSpan {A : Type 0} (os : List ℕ) (xs : List A) (o n : ℕ) : Type 0 where
   pub rising : AreOffsets os
   pub inside : o + n ≤ count_rows os
@@ -163,7 +163,7 @@ span-sum os xs o n s =
     take-long (l ∷ ls) (suc n) h = ap (◌∷◌ l) (take-long ls n (omega arith))
 
 abbrev pub span_items : {A : Type 0} → List ℕ → List A → ℕ → ℕ → List A
-span_items os xs o n = cut xs (begin os o) (items_count os o n)
+span_items os xs o n = sublist xs (begin os o) (items_count os o n)
 
 pub span-items : {A : Type 0} (os : List ℕ) (xs : List A) (o n : ℕ) → IsSpan os xs o n → length (span_items os xs o n) ≡ items_count os o n
 span-items os xs o n s =
@@ -172,7 +172,7 @@ span-items os xs o n s =
     let c = s.covered in
     length-cut xs (begin os o) (items_count os o n) (omega arith)
 
--- Windows over rows between offsets, one after another.
+-- Consecutive windows over rows between offsets.
 abbrev pub AreSpans : {X A : Type 0} → (X → List ℕ) → (X → List A) → (X → ℕ) → (X → ℕ) → List X → Type 0
 AreSpans os xs o n ws = All (λ w. IsSpan (os w) (xs w) (o w) (n w)) ws
 
@@ -192,10 +192,10 @@ row-begin {X} {A} os xs o n ws k j e h l m =
     ∙ ap (λ z. sum_by s (take k ws) + z) (let z : sum (take j (f w)) ≡ begin (os w) (o w + j) - begin (os w) (o w) = omega (arith, g) in z)
 
 pub row-cut : {X A : Type 0} (os : X → List ℕ) (xs : X → List A) (o n : X → ℕ) (ws : List X) (k j : ℕ) (e : X) → AreSpans os xs o n ws → k < length ws → j < n (get_or ws k e)
-    → cut (flat_map (λ w. span_items (os w) (xs w) (o w) (n w)) ws)
+    → sublist (flat_map (λ w. span_items (os w) (xs w) (o w) (n w)) ws)
     (begin (ends (flat_map (λ w. extents (os w) (o w) (n w)) ws)) (sum_by n (take k ws) + j))
     (extent (ends (flat_map (λ w. extents (os w) (o w) (n w)) ws)) (sum_by n (take k ws) + j))
-    ≡ cut (xs (get_or ws k e)) (begin (os (get_or ws k e)) (o (get_or ws k e) + j)) (extent (os (get_or ws k e)) (o (get_or ws k e) + j))
+    ≡ sublist (xs (get_or ws k e)) (begin (os (get_or ws k e)) (o (get_or ws k e) + j)) (extent (os (get_or ws k e)) (o (get_or ws k e) + j))
 row-cut {X} {A} os xs o n ws k j e h l m =
     let w = get_or ws k e in
     let es = ends (flat_map (λ w. extents (os w) (o w) (n w)) ws) in
@@ -216,8 +216,8 @@ row-cut {X} {A} os xs o n ws k j e h l m =
     let m' = begin (os w) (o w + j) - begin (os w) (o w) in
     let r : m' + extent (os w) (o w + j) ≤ items_count (os w) (o w) (n w) = omega (arith, low, high, top) in
     let t : begin (os w) (o w) + m' ≡ begin (os w) (o w + j) = omega (arith, low) in
-    ap (cut (flat_map f ws) (begin es q)) x
-    ∙ ap (λ i. cut (flat_map f ws) i (extent (os w) (o w + j))) a
+    ap (sublist (flat_map f ws) (begin es q)) x
+    ∙ ap (λ i. sublist (flat_map f ws) i (extent (os w) (o w + j))) a
     ∙ cut-flat f s ws k m' (extent (os w) (o w + j)) e (λ i d v. span-items (os (get_or ws i d)) (xs (get_or ws i d)) (o (get_or ws i d)) (n (get_or ws i d)) (h i d v)) l r
     ∙ cut-cut (xs w) (begin (os w) (o w)) (items_count (os w) (o w) (n w)) m' (extent (os w) (o w + j)) r
-    ∙ ap (λ i. cut (xs w) i (extent (os w) (o w + j))) t
+    ∙ ap (λ i. sublist (xs w) i (extent (os w) (o w + j))) t

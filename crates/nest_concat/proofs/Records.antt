@@ -1,9 +1,9 @@
--- Records that are made of joined children.
+-- Structs with concatenated children.
 use Rattle.std.specs.Prelude.{List, map, length, get_or}
 use Rattle.std.specs.List.{All, flat_map}
 use Rattle.std.proofs.Common.{◌≡◌, ℕ, zero, suc, ◌+◌, ◌<◌, ◌≤◌, inl, inr, refl, ap, sym, ◌∙◌, subst, arith}
 use Rattle.std.proofs.lemmas.List.Folds.{flat_map-map}
-use Rattle.nest_memory.specs.Cut.{cut}
+use Rattle.nest_memory.specs.Sublist.{sublist}
 use Rattle.nest_memory.specs.Physical.{physical_type}
 use Rattle.nest_memory.specs.TypeTree as types
 use Rattle.nest_memory.specs.TypeTree.{TypeTree, logical_type, FieldTrees, no_fields, more_fields, field_type, fields_of, count_fields}
@@ -89,7 +89,7 @@ first-len-is : (ds : Layouts) (n : ℕ) → EachLen ds n → 0 < count_layouts d
 first-len-is no_layouts n h l = absurd (omega arith)
 first-len-is (more_layouts d ds) n h l = h.0
 
--- what is known of the records of a window
+-- facts about the struct array of a window
 record-is : (t : TypeTree) (w : WindowParts) → physical_type t ≡ physical.Struct → IsWithin t w → w.array ≡ struct (layout_type w.array) (children_of w.array) (validity_of w.array)
 record-is t w p f = struct-shape w.array f.is_array (kind-alike (layout_type w.array) t _ f.same_type p)
 
@@ -118,9 +118,9 @@ fields-kept t u e (inr p) = inr (kind-alike t u physical.Union e p)
 abbrev pub child_in : ℕ → Layout → Layout
 child_in f a = child_at (children_of a) f
 
--- a record's slots lie in its children at their own places
+-- slots of a struct are in its children at the same indices
 abbrev own_slots : ℕ → WindowParts → List Slot
-own_slots f w = cut (slots_of (child_in f w.array)) w.offset w.count
+own_slots f w = sublist (slots_of (child_in f w.array)) w.offset w.count
 
 pub field-part : (t : TypeTree) (f : ℕ) (w : WindowParts) → physical_type t ≡ physical.Struct → IsWithin t w → part_of f w.array w.offset w.count ≡ (w.offset, w.count)
 field-part t f w p x = ap (λ a. part_of f a w.offset w.count) (record-is t w p x)
@@ -165,7 +165,7 @@ field-slots : (t : TypeTree) (f : ℕ) (ct : TypeTree) (ws : List WindowParts) (
 field-slots t f ct ws d h p g =
     g.slots
     ∙ flat_map-map window_slots (field_of f) ws
-    ∙ flat-ext (λ w. window_slots (field_of f w)) (own_slots f) ws (λ i e l. let w = get_or ws i e in ap (λ q. cut (slots_of (child_in f w.array)) q.0 q.1) (field-part t f w p (h i e l)))
+    ∙ flat-ext (λ w. window_slots (field_of f w)) (own_slots f) ws (λ i e l. let w = get_or ws i e in ap (λ q. sublist (slots_of (child_in f w.array)) q.0 q.1) (field-part t f w p (h i e l)))
 
 field-within : (t : TypeTree) (f : ℕ) (ws : List WindowParts) → AreWithin t ws → physical_type t ≡ physical.Struct → f < count_fields (fields_of t) → All (λ w. w.offset + w.count ≤ length (slots_of (child_in f w.array))) ws
 field-within t f ws h p l = λ i d q. let w = get_or ws i d in omega (arith, field-inside t f ws h p l i d q, slots-length (child_in f w.array))
@@ -220,7 +220,7 @@ record-joined t u ws cs ds v h p s c g e f =
     let y : struct t ds (joined_validity ws) ≡ struct u ds v = cc in
     subst (λ z. Fits z × IsJoined t ws z) y x
 
--- the refusal of one child
+-- the error of one child
 passes-at : (cs : Layouts) (f g : ℕ) (ws : List WindowParts) → g < count_layouts cs → PassesLimits (child_at cs g) (map (field_of (f + g)) ws) → SomePasses cs f ws
 passes-at no_layouts f g ws l h = absurd (omega arith)
 passes-at (more_layouts c cs) f zero ws l h = let z : f + 0 ≡ f = omega arith in inl (subst (λ n. PassesLimits c (map (field_of n) ws)) z h)
@@ -256,7 +256,7 @@ record-lighter a t cs va k = omega (arith, ap weight k)
 pub record-count : (t : TypeTree) (cs : Layouts) (ws : List WindowParts) → AreWithin t ws → physical_type t ≡ physical.Struct → 0 < length ws → cs ≡ children_of (first_array ws) → count_layouts cs ≡ count_fields (fields_of t)
 record-count t cs ws h p s e = let x = first-within t ws h s in ap count_layouts e ∙ (array-facts t (first_array ws) p x.0 x.1).as_many
 
--- what is joined of one child
+-- the concatenation of one child
 pub field-joined : (f : ℕ) (cs : Layouts) (ws cws : List WindowParts) (d : Layout) → cs ≡ children_of (first_array ws) → 0 < length ws → cws ≡ map (field_of f) ws
     → IsJoined (layout_type (first_array cws)) cws d → IsJoined (layout_type (child_at cs f)) (map (field_of f) ws) d
 field-joined f cs ws cws d c s e j =

@@ -1,7 +1,7 @@
 -- Arrays whose data types have one physical type are of one kind.
 use Rattle.std.specs.Prelude.{Bool, true, false, IsTrue}
 use Rattle.std.proofs.Common.{◌≡◌, ℕ, refl, ap, sym, ◌∙◌, arith}
-use Rattle.nest_memory.specs.Physical.{physical_type, list_of_width, binary_of_width, text_of_width}
+use Rattle.nest_memory.specs.Physical.{physical_type, list_of_width, binary_of_width, utf8_of_width}
 use Rattle.nest_memory.specs.TypeTree as types
 use Rattle.nest_memory.specs.TypeTree.{TypeTree}
 use Rattle.nest_memory.specs.declared.datatypes.IntegerType.{IntegerType}
@@ -11,7 +11,7 @@ use Rattle.nest_memory.specs.declared.datatypes.physical_type.PrimitiveType.{Pri
 use Rattle.nest_model.specs.Accessors.{validity_of, bits_of, natives_of, bytes_of, offsets_of, child_of, children_of, types_of, union_offsets_of, start_of, keys_of}
 use Rattle.nest_model.specs.Array.{TopFits}
 use Rattle.nest_model.specs.Fits.{is_dictionary}
-use Rattle.nest_model.specs.Layout.{Layout, null, boolean, primitive, binary, text, fixed_size_binary, fixed_size_list, list, map, struct, union, dictionary, layout_type}
+use Rattle.nest_model.specs.Layout.{Layout, null, boolean, primitive, binary, utf8, fixed_size_binary, fixed_size_list, list, map, struct, union, dictionary, layout_type}
 use Rattle.nest_model.specs.Meaning.{len}
 
 abbrev physical_number : PhysicalType → ℕ
@@ -36,7 +36,7 @@ shape_number (null t n) = 0
 shape_number (boolean t bs va) = 1
 shape_number (primitive k t vs va) = 2
 shape_number (binary l t os bs va) = 3
-shape_number (text l t os bs va) = 4
+shape_number (utf8 l t os bs va) = 4
 shape_number (fixed_size_binary t bs va) = 5
 shape_number (fixed_size_list t c va) = 6
 shape_number (list l t os c va) = 7
@@ -49,7 +49,7 @@ binary-number : (l : Bool) → physical_number (binary_of_width l) ≡ 3
 binary-number true = refl
 binary-number false = refl
 
-text-number : (l : Bool) → physical_number (text_of_width l) ≡ 4
+text-number : (l : Bool) → physical_number (utf8_of_width l) ≡ 4
 text-number true = refl
 text-number false = refl
 
@@ -67,7 +67,7 @@ shape-number (null t n) h = ap physical_number h.1.0
 shape-number (boolean t bs va) h = ap physical_number h.1.1.0
 shape-number (primitive k t vs va) h = ap physical_number h.1.1.0
 shape-number (binary l t os bs va) h = ap physical_number h.1.1.1.0 ∙ binary-number l
-shape-number (text l t os bs va) h = ap physical_number h.1.1.1.1.0 ∙ text-number l
+shape-number (utf8 l t os bs va) h = ap physical_number h.1.1.1.1.0 ∙ text-number l
 shape-number (fixed_size_binary t bs va) h = ap physical_number h.1.0
 shape-number (fixed_size_list t c va) h = ap physical_number h.1.0
 shape-number (list l t os c va) h = ap physical_number h.1.1.1.0 ∙ list-number l
@@ -103,7 +103,7 @@ large-binary : (l : Bool) → is_large (binary_of_width l) ≡ l
 large-binary true = refl
 large-binary false = refl
 
-large-text : (l : Bool) → is_large (text_of_width l) ≡ l
+large-text : (l : Bool) → is_large (utf8_of_width l) ≡ l
 large-text true = refl
 large-text false = refl
 
@@ -115,8 +115,8 @@ pub binary-shape : (large : Bool) (a : Layout) → TopFits a → physical_type (
 binary-shape large (binary l t os bs va) h p = ap (λ z. binary z t os bs va) (sym (large-binary l) ∙ ap is_large (sym h.1.1.1.0 ∙ p) ∙ large-binary large)
 binary-shape large a h p = absurd (omega (arith, shape-number a h, ap physical_number p, binary-number large))
 
-pub text-shape : (large : Bool) (a : Layout) → TopFits a → physical_type (layout_type a) ≡ text_of_width large → a ≡ text large (layout_type a) (offsets_of a) (bytes_of a) (validity_of a)
-text-shape large (text l t os bs va) h p = ap (λ z. text z t os bs va) (sym (large-text l) ∙ ap is_large (sym h.1.1.1.1.0 ∙ p) ∙ large-text large)
+pub text-shape : (large : Bool) (a : Layout) → TopFits a → physical_type (layout_type a) ≡ utf8_of_width large → a ≡ utf8 large (layout_type a) (offsets_of a) (bytes_of a) (validity_of a)
+text-shape large (utf8 l t os bs va) h p = ap (λ z. utf8 z t os bs va) (sym (large-text l) ∙ ap is_large (sym h.1.1.1.1.0 ∙ p) ∙ large-text large)
 text-shape large a h p = absurd (omega (arith, shape-number a h, ap physical_number p, text-number large))
 
 pub fixed_size_binary-shape : (a : Layout) → TopFits a → physical_type (layout_type a) ≡ physical.FixedSizeBinary → a ≡ fixed_size_binary (layout_type a) (bytes_of a) (validity_of a)

@@ -1,4 +1,4 @@
--- Unions that are made of joined fields.
+-- Unions with concatenated fields.
 use Rattle.std.specs.Prelude.{◌⊎◌, List, Option, Some, None, map, length, get_or, unwrap_or, alloc_error}
 use Rattle.std.specs.List.{All, flat_map, range_with_len, sum_by}
 use Rattle.std.proofs.Common.{◌≡◌, ℕ, ℤ, pos, zero, suc, ◌+◌, ◌-◌, ◌<◌, ◌≤◌, [], ◌∷◌, ◌++◌, take, inl, inr, refl, ap, sym, ◌∙◌, subst, arith, append-nil, append_assoc, length-append}
@@ -16,8 +16,8 @@ use Rattle.nest_model.specs.Array.{TopFits}
 use Rattle.nest_model.specs.Facts.{IsUnion}
 use Rattle.nest_model.specs.Fits.{EachCovers, EachMeansField, EachType, Fits, IdsCount, IdsInRange, MeansField, Names, OffsetsByMode, OffsetsCount, SlotsThere, child_len}
 use Rattle.nest_model.specs.Layout.{Layout, Layouts, union, no_layouts, more_layouts, layout_type, count_layouts, weight, weight_all}
-use Rattle.nest_model.specs.Meaning.{len, of_field, picked, slot, slots_of, union_place}
-use Rattle.nest_model.specs.Part.{field_named, place}
+use Rattle.nest_model.specs.Meaning.{len, of_field, picked, slot, slots_of, union_index}
+use Rattle.nest_model.specs.Part.{field_named, to_index}
 use Rattle.nest_model.specs.Reads.{slots-length, slot-place}
 use Rattle.nest_model.specs.Runs.{get_or-cut, length-cut}
 use Rattle.nest_model.specs.Slot as slots
@@ -57,7 +57,7 @@ union-under t u ks cs os start e p f =
 pub facts-by : (t : TypeTree) (a : Layout) → TopFits a → logical_type (layout_type a) ≡ logical_type t → physical_type t ≡ physical.Union → IsUnion t (types_of a) (children_of a) (union_offsets_of a) (start_of a)
 facts-by t a h e p = union-under (layout_type a) t (types_of a) (children_of a) (union_offsets_of a) (start_of a) e p (facts-of a h (union-is t a h e p))
 
--- each part lies in its field
+-- each part is in its field
 parts-inside : (t : TypeTree) (f : ℕ) (ws : List WindowParts) → AreWithin t ws → physical_type t ≡ physical.Union → f < count_fields (fields_of t) → All (λ w. (field_of f w).offset + (field_of f w).count ≤ len (field_of f w).array) ws
 parts-inside t f ws h p l = λ i d q.
     let w = get_or ws i d in
@@ -77,7 +77,7 @@ union-children t f ws cws h p s l e r =
 union-count : (t : TypeTree) (cs : Layouts) (ws : List WindowParts) → AreWithin t ws → physical_type t ≡ physical.Union → 0 < length ws → cs ≡ children_of (first_array ws) → count_layouts cs ≡ count_fields (fields_of t)
 union-count t cs ws h p s e = let x = first-within t ws h s in ap count_layouts e ∙ (facts-by t (first_array ws) x.0 x.1 p).as_many
 
--- of records and of unions
+-- structs and unions
 pub field-children : (t : TypeTree) (f : ℕ) (ws cws : List WindowParts) → AreWithin t ws → HasFields t → 0 < length ws → f < count_fields (fields_of t) → cws ≡ map (field_of f) ws → AreArrays cws
     → (0 < length cws) × AreWithin (layout_type (first_array cws)) cws
 field-children t f ws cws h (inl p) s l e r = record-children t f ws cws h p s l e r
@@ -87,7 +87,7 @@ pub field-count : (t : TypeTree) (cs : Layouts) (ws : List WindowParts) → AreW
 field-count t cs ws h (inl p) s e = record-count t cs ws h p s e
 field-count t cs ws h (inr p) s e = union-count t cs ws h p s e
 
--- the slot at a place of a window, in what is joined
+-- a slot of a window, in the result
 abbrev AreInside : List WindowParts → Type 0
 AreInside ws = All (λ w. w.offset + w.count ≤ len w.array) ws
 
@@ -110,7 +110,7 @@ joined-slot t ws b k j h g l m =
     ∙ slot-place w.array (w.offset + j) slots.null (omega (arith, h k nowhere l, m)) in
     (n, e)
 
--- where place q of a field stands in the joined field, if window k picks it
+-- the position in the concatenated field of index q of a field, if window k picks it
 abbrev pub moved_place : ℕ → List WindowParts → ℕ → ℕ → ℕ
 moved_place f ws k q = place_of (map (field_of f) ws) k (q - (field_of f (window ws k)).offset)
 
@@ -131,7 +131,7 @@ moved-slot f t ws b k q h g l i =
     let z : w.offset + d ≡ q = omega (arith, i.0) in
     (r.0, r.1 ∙ ap (λ v. slot v.array (v.offset + d)) e ∙ ap (slot w.array) z)
 
--- one union's offsets behind those of others
+-- the offsets of one union after those of others
 behind-length : (before ws : List WindowParts) → length (offsets_behind before ws) ≡ count_slots ws
 behind-length before [] = refl
 behind-length before (w ∷ ws) =
@@ -160,15 +160,15 @@ behind-at before (w ∷ ws) (suc k) j l m =
     ∙ ap (λ b. moved_offset b v (v.offset + j)) (append_assoc before (w ∷ []) (take k ws))
 
 pub offsets-at : (ws : List WindowParts) (k j f : ℕ) → k < length ws → j < count_of (window ws k) → field_at (window ws k).array ((window ws k).offset + j) ≡ Some f
-    → get_or (moved_offsets ws) (place_of ws k j) (pos 0) ≡ pos (moved_place f ws k (union_place (union_offsets_of (window ws k).array) (start_of (window ws k).array) ((window ws k).offset + j)))
+    → get_or (moved_offsets ws) (place_of ws k j) (pos 0) ≡ pos (moved_place f ws k (union_index (union_offsets_of (window ws k).array) (start_of (window ws k).array) ((window ws k).offset + j)))
 offsets-at ws k j f l m e =
     let w = window ws k in
-    let q = union_place (union_offsets_of w.array) (start_of w.array) (w.offset + j) in
+    let q = union_index (union_offsets_of w.array) (start_of w.array) (w.offset + j) in
     behind-at [] ws k j l m
     ∙ ap (λ o. pos (count_slots (map (field_of (unwrap_or o 0)) (take k ws)) + (q - (field_of (unwrap_or o 0) w).offset))) e
     ∙ ap (λ vs. pos (sum_by count_of vs + (q - (field_of f w).offset))) (sym (take-map (field_of f) k ws))
 
--- a sparse union's slots keep their places
+-- slots of a sparse union keep their indices
 same-counts : (g : WindowParts → WindowParts) (ws : List WindowParts) (k : ℕ) → All (λ w. (g w).count ≡ w.count) ws → sum_by count_of (take k (map g ws)) ≡ sum_by count_of (take k ws)
 same-counts g ws zero h = refl
 same-counts g [] (suc k) h = refl
@@ -198,16 +198,16 @@ sparse-counts t f ws h p s = λ i d l.
     sparse-count f w.array w.offset w.count (union-is t w.array x.is_array x.same_type p) (s i d l)
 
 sparse-land : (t : TypeTree) (f : ℕ) (ws : List WindowParts) (k j : ℕ) → AreWithin t ws → physical_type t ≡ physical.Union → AreSparse ws → k < length ws → j < count_of (window ws k)
-    → moved_place f ws k (union_place (union_offsets_of (window ws k).array) (start_of (window ws k).array) ((window ws k).offset + j)) ≡ place_of ws k j
+    → moved_place f ws k (union_index (union_offsets_of (window ws k).array) (start_of (window ws k).array) ((window ws k).offset + j)) ≡ place_of ws k j
 sparse-land t f ws k j h p s l m =
     let w = window ws k in
     let x = h k nowhere l in
     let u = union-is t w.array x.is_array x.same_type p in
     let e = sparse-part f w.array w.offset w.count u (s k nowhere l) (omega arith) in
-    let y = ap (λ o. union_place o (start_of w.array) (w.offset + j)) (s k nowhere l) in
+    let y = ap (λ o. union_index o (start_of w.array) (w.offset + j)) (s k nowhere l) in
     omega (arith, y, ap (λ z. z.0) e, same-counts (field_of f) ws k (sparse-counts t f ws h p s))
 
--- small facts of children
+-- facts about children
 covers-by : (ds : Layouts) (n : ℕ) → ((g : ℕ) → g < count_layouts ds → n ≤ len (child_at ds g)) → EachCovers ds n
 covers-by no_layouts n h = tt
 covers-by (more_layouts d ds) n h = (h 0 (omega arith), covers-by ds n (λ g l. h (suc g) (omega arith)))
@@ -222,14 +222,14 @@ picked-slot f no_layouts k i h = absurd (omega arith)
 picked-slot f (more_layouts c cs) zero i h = refl
 picked-slot f (more_layouts c cs) (suc k) i h = picked-slot f cs k i (omega arith)
 
--- what slot j of window k picks, in the joined fields
+-- the pick of slot j of window k, in the concatenated fields
 record Lands (t : TypeTree) (ws : List WindowParts) (ds : Layouts) (k j f : ℕ) : Type 0 where
   pub means : field_named (ids_of t) (get_or (types_of (window ws k).array) ((window ws k).offset + j) (pos 0)) ≡ Some f
   pub field : field_at (window ws k).array ((window ws k).offset + j) ≡ Some f
   pub there : f < count_layouts ds
-  pub below : moved_place f ws k (union_place (union_offsets_of (window ws k).array) (start_of (window ws k).array) ((window ws k).offset + j)) < len (child_at ds f)
+  pub below : moved_place f ws k (union_index (union_offsets_of (window ws k).array) (start_of (window ws k).array) ((window ws k).offset + j)) < len (child_at ds f)
   pub same :
-      slots.pick f (layout_type (child_at ds f)) (slot (child_at ds f) (moved_place f ws k (union_place (union_offsets_of (window ws k).array) (start_of (window ws k).array) ((window ws k).offset + j))))
+      slots.pick f (layout_type (child_at ds f)) (slot (child_at ds f) (moved_place f ws k (union_index (union_offsets_of (window ws k).array) (start_of (window ws k).array) ((window ws k).offset + j))))
       ≡ slot (window ws k).array ((window ws k).offset + j)
 
 lands : (t : TypeTree) (ws : List WindowParts) (ds : Layouts) (k j : ℕ) → AreWithin t ws → physical_type t ≡ physical.Union → 0 < length ws → EachJoined (children_of (first_array ws)) 0 ws ds
@@ -243,7 +243,7 @@ lands t ws ds k j h p s g l m =
     let n : i < len a = omega (arith, x.within, m) in
     let o = picks-one a i x.is_array u n in
     let f = o.0 in
-    let q = union_place (union_offsets_of a) (start_of a) i in
+    let q = union_index (union_offsets_of a) (start_of a) i in
     let y = first-within t ws h s in
     let cs = children_of (first_array ws) in
     let c = joined-count cs 0 ws ds g in
@@ -267,7 +267,7 @@ lands t ws ds k j h p s g l m =
       },
     )
 
--- types of the windows, one after another
+-- type ids of the windows, one window after another
 types-inside : (t : TypeTree) (ws : List WindowParts) → AreWithin t ws → physical_type t ≡ physical.Union → All (λ w. w.offset + w.count ≤ length (types_of w.array)) ws
 types-inside t ws h p = λ i d l.
     let w = get_or ws i d in
@@ -281,17 +281,17 @@ type-there t ws k j h p l m = values-at (λ (w : WindowParts). types_of w.array)
 type-count : (t : TypeTree) (ws : List WindowParts) → AreWithin t ws → physical_type t ≡ physical.Union → length (flat_map types_in ws) ≡ count_slots ws
 type-count t ws h p = values-count (λ (w : WindowParts). types_of w.array) ws (types-inside t ws h p)
 
--- offsets that name where each slot's pick stands
+-- offsets that are the positions of each slot's pick
 record ArePlaces (t : TypeTree) (ws : List WindowParts) (ds : Layouts) (os : Option (List ℤ)) : Type 0 where
   pub count : OffsetsCount os (count_slots ws)
   pub mode : OffsetsByMode os (is_dense t)
   pub there : SlotsThere (ids_of t) (flat_map types_in ws) ds os 0
   pub each : (k j f : ℕ) → k < length ws → j < count_of (window ws k) → field_at (window ws k).array ((window ws k).offset + j) ≡ Some f
-      → union_place os 0 (place_of ws k j) ≡ moved_place f ws k (union_place (union_offsets_of (window ws k).array) (start_of (window ws k).array) ((window ws k).offset + j))
+      → union_index os 0 (place_of ws k j) ≡ moved_place f ws k (union_index (union_offsets_of (window ws k).array) (start_of (window ws k).array) ((window ws k).offset + j))
 
-sparse-places : (t : TypeTree) (ws : List WindowParts) (ds : Layouts) → AreWithin t ws → physical_type t ≡ physical.Union → 0 < length ws → EachJoined (children_of (first_array ws)) 0 ws ds
+sparse-indices : (t : TypeTree) (ws : List WindowParts) (ds : Layouts) → AreWithin t ws → physical_type t ≡ physical.Union → 0 < length ws → EachJoined (children_of (first_array ws)) 0 ws ds
     → union_offsets_of (first_array ws) ≡ None → ArePlaces t ws ds None
-sparse-places t ws ds h p s g e =
+sparse-indices t ws ds h p s g e =
     let y = first-within t ws h s in
     let cs = children_of (first_array ws) in
     let r = facts-by t (first_array ws) y.0 y.1 p in
@@ -309,9 +309,9 @@ sparse-places t ws ds h p s g e =
       each = λ k j f l m i. let z : 0 + place_of ws k j ≡ place_of ws k j = omega arith in z ∙ sym (sparse-land t f ws k j h p a l m);
     }
 
-dense-places : (t : TypeTree) (ws : List WindowParts) (ds : Layouts) (os : List ℤ) → AreWithin t ws → physical_type t ≡ physical.Union → 0 < length ws → EachJoined (children_of (first_array ws)) 0 ws ds
+dense-indices : (t : TypeTree) (ws : List WindowParts) (ds : Layouts) (os : List ℤ) → AreWithin t ws → physical_type t ≡ physical.Union → 0 < length ws → EachJoined (children_of (first_array ws)) 0 ws ds
     → union_offsets_of (first_array ws) ≡ Some os → ArePlaces t ws ds (Some (moved_offsets ws))
-dense-places t ws ds os h p s g e =
+dense-indices t ws ds os h p s g e =
     let y = first-within t ws h s in
     let r = facts-by t (first_array ws) y.0 y.1 p in
     let xs = flat_map types_in ws in
@@ -326,12 +326,12 @@ dense-places t ws ds os h p s g e =
           = ap (λ x. field_named (ids_of t) (get_or xs x (pos 0))) z.is ∙ ap (field_named (ids_of t)) (type-there t ws z.k z.j h p z.window_there z.slot_there) ∙ f.1.means in
           let c : child_len ds (field_named (ids_of t) (get_or xs i (pos 0))) ≡ len (child_at ds f.0) = ap (child_len ds) b ∙ child-len ds f.0 f.1.there in
           subst (λ o. Names o (child_len ds (field_named (ids_of t) (get_or xs i (pos 0))))) (sym a) (omega (arith, c, f.1.below));
-      each = λ k j f l m i. ap place (offsets-at ws k j f l m i);
+      each = λ k j f l m i. ap to_index (offsets-at ws k j f l m i);
     }
 
-places-core : (t : TypeTree) (ws : List WindowParts) (ds : Layouts) (os : Option (List ℤ)) → AreWithin t ws → physical_type t ≡ physical.Union → 0 < length ws → EachJoined (children_of (first_array ws)) 0 ws ds
+indices-core : (t : TypeTree) (ws : List WindowParts) (ds : Layouts) (os : Option (List ℤ)) → AreWithin t ws → physical_type t ≡ physical.Union → 0 < length ws → EachJoined (children_of (first_array ws)) 0 ws ds
     → ArePlaces t ws ds os → Fits (union t (flat_map types_in ws) ds os 0) × IsJoined t ws (union t (flat_map types_in ws) ds os 0)
-places-core t ws ds os h p s g o =
+indices-core t ws ds os h p s g o =
     let xs = flat_map types_in ws in
     let y = first-within t ws h s in
     let cs = children_of (first_array ws) in
@@ -353,8 +353,8 @@ places-core t ws ds os h p s g o =
             let w = window ws k in
             let x = place_of ws k j in
             let f = lands t ws ds k j h p s g l i in
-            let q = union_place (union_offsets_of w.array) (start_of w.array) (w.offset + j) in
-            ap (λ v. of_field v (λ b. picked b ds b (union_place os 0 x))) (ap (field_named (ids_of t)) (type-there t ws k j h p l i) ∙ f.1.means)
+            let q = union_index (union_offsets_of w.array) (start_of w.array) (w.offset + j) in
+            ap (λ v. of_field v (λ b. picked b ds b (union_index os 0 x))) (ap (field_named (ids_of t)) (type-there t ws k j h p l i) ∙ f.1.means)
             ∙ ap (picked f.0 ds f.0) (o.each k j f.0 l i f.1.field)
             ∙ picked-slot f.0 ds f.0 (moved_place f.0 ws k q) f.1.there
             ∙ f.1.same);
@@ -364,8 +364,8 @@ places-core t ws ds os h p s g o =
 
 union-core : (t : TypeTree) (ws : List WindowParts) (ds : Layouts) (o : Option (List ℤ)) → AreWithin t ws → physical_type t ≡ physical.Union → 0 < length ws → EachJoined (children_of (first_array ws)) 0 ws ds
     → union_offsets_of (first_array ws) ≡ o → Fits (union t (flat_map types_in ws) ds (joined_offsets o ws) 0) × IsJoined t ws (union t (flat_map types_in ws) ds (joined_offsets o ws) 0)
-union-core t ws ds None h p s g e = places-core t ws ds None h p s g (sparse-places t ws ds h p s g e)
-union-core t ws ds (Some os) h p s g e = places-core t ws ds (Some (moved_offsets ws)) h p s g (dense-places t ws ds os h p s g e)
+union-core t ws ds None h p s g e = indices-core t ws ds None h p s g (sparse-indices t ws ds h p s g e)
+union-core t ws ds (Some os) h p s g e = indices-core t ws ds (Some (moved_offsets ws)) h p s g (dense-indices t ws ds os h p s g e)
 
 pub union-joined : (t u : TypeTree) (a : Layout) (ws : List WindowParts) (xs : List ℤ) (cs ds : Layouts) (os : Option (List ℤ)) → AreWithin t ws → physical_type t ≡ physical.Union → 0 < length ws → a ≡ first_array ws
     → cs ≡ children_of a → EachJoined cs 0 ws ds → u ≡ t → xs ≡ flat_map types_in ws → os ≡ joined_offsets (union_offsets_of a) ws → Fits (union u xs ds os 0) × IsJoined t ws (union u xs ds os 0)
@@ -374,7 +374,7 @@ union-joined t u a ws xs cs ds os h p s k c g e f q =
     let y : union t (flat_map types_in ws) ds (joined_offsets (union_offsets_of a) ws) 0 ≡ union u xs ds os 0 = cc in
     subst (λ z. Fits z × IsJoined t ws z) y x
 
--- the refusals
+-- the errors
 pub union-refuses : (e : Error) (a : Layout) (t : TypeTree) (ks : List ℤ) (cs ds : Layouts) (os : Option (List ℤ)) (start : ℕ) (ws : List WindowParts) → a ≡ union t ks cs os start → ds ≡ cs
     → RefusesEach e ds ws → RefusesJoin e a ws
 union-refuses e a t ks cs ds os start ws k d r = subst (λ y. RefusesJoin e y ws) (sym k) (go (subst (λ z. RefusesEach e z ws) d r))

@@ -1,4 +1,4 @@
--- Whole arrays of one data type, and the windows over them.
+-- Arrays of one data type, and the windows over all their slots.
 use Rattle.std.specs.Prelude.{IfErr, IfOk, IsErrOf, List, [], ◌∷◌, ◌++◌, map, length, get_or}
 use Rattle.std.specs.List.{All, flat_map}
 use Rattle.std.proofs.Common.{◌≡◌, ℕ, zero, suc, true, false, ◌==◌, ◌+◌, ◌<◌, ◌≤◌, take, Result, Ok, Err, inl, inr, refl, ap, sym, ◌∙◌, subst, arith}
@@ -24,7 +24,7 @@ use Rattle.nest_concat.proofs.Nested.{of-map}
 abbrev pub HaveType : TypeTree → List AnyArray → Type 0
 HaveType t xs = All (λ a. layout_type (layout_of a) ≡ t) xs
 
--- one array more
+-- one more array
 pub type-more : (t : TypeTree) (xs : List AnyArray) (i : ℕ) (x : AnyArray) → i < length xs → x ≡ get_or xs i x → HaveType t (take i xs) → layout_type (layout_of x) ≡ t → HaveType t (take (i + 1) xs)
 type-more t xs i x h e f g = All-more (λ a. layout_type (layout_of a) ≡ t) xs i x h f (subst (λ a. layout_type (layout_of a) ≡ t) e g)
 
@@ -74,7 +74,7 @@ wholes-map : (xs : List AnyArray) → map whole (map layout_of xs) ≡ map whole
 wholes-map [] = refl
 wholes-map (x ∷ xs) = ap (λ ws. whole_of x ∷ ws) (wholes-map xs)
 
--- what is joined of them, and what is refused
+-- their concatenation, and its errors
 pub wholes-joined : (r : Result AnyArray Error) (xs : List AnyArray) (ws : List WindowParts) → ws ≡ map whole_of xs → IfOk r (λ a. IsJoined (layout_type (first_array ws)) ws (layout_of a))
     → IfOk r (λ a. IsConcatenated (map layout_of xs) (layout_of a))
 wholes-joined (Ok a) xs ws e h =

@@ -1,16 +1,16 @@
--- What lies at a place of joined windows.
+-- The slots of concatenated windows, by index.
 use Rattle.std.specs.Prelude.{◌⊎◌, List, [], ◌∷◌, ◌++◌, ◌||◌, is_some, length, get_or, Some, None, if◌then◌else◌}
 use Rattle.std.specs.List.{All, flat_map, sum_by}
 use Rattle.std.proofs.Common.{◌≡◌, ℕ, zero, suc, ◌+◌, ◌-◌, ◌<◌, ◌≤◌, Bool, true, false, take, inl, inr, refl, ap, sym, ◌∙◌, arith}
 use Rattle.std.proofs.lemmas.List.{get_or-replicate, length-replicate}
 use Rattle.std.proofs.lemmas.List.Sums.{sum_by-cons}
-use Rattle.nest_memory.specs.Cut.{cut}
+use Rattle.nest_memory.specs.Sublist.{sublist}
 use Rattle.nest_memory.specs.TypeTree as types
 use Rattle.nest_memory.specs.TypeTree.{TypeTree}
 use Rattle.nest_model.specs.Accessors.{validity_of}
 use Rattle.nest_model.specs.Array.{AreKeys, TopFits}
 use Rattle.nest_model.specs.Fits.{ValidityFits}
-use Rattle.nest_model.specs.Layout.{Layout, null, boolean, primitive, binary, text, fixed_size_binary, fixed_size_list, list, map as map_of, struct, union, dictionary}
+use Rattle.nest_model.specs.Layout.{Layout, null, boolean, primitive, binary, utf8, fixed_size_binary, fixed_size_list, list, map as map_of, struct, union, dictionary}
 use Rattle.nest_model.specs.Meaning.{run, len, slot, slots_of}
 use Rattle.nest_model.specs.Part.{Validity, valid_at}
 use Rattle.nest_model.specs.Runs.{run-ext, cut-run, length-cut, get_or-cut}
@@ -21,7 +21,7 @@ use Rattle.nest_concat.specs.Joined.{AreWithin, IsWithin}
 use Rattle.nest_concat.specs.Windows.{bits_in, count_of, count_slots, have_bits, joined_validity, window_bits}
 use Rattle.nest_concat.proofs.Pieces.{AreLong, first-one, later-ones, flat-at, flat-length}
 
--- window k, and place j of it among the slots of all
+-- window k, and the index of its slot j among the slots of all windows
 abbrev pub nowhere : WindowParts
 nowhere = window_parts (null types.null 0) 0 0
 
@@ -34,7 +34,7 @@ place_of ws k j = sum_by count_of (take k ws) + j
 abbrev pub slot_in : WindowParts → ℕ → Slot
 slot_in w j = slot w.array (w.offset + j)
 
--- a layout has the slot of each place of each window
+-- a layout has each slot of each window
 abbrev pub SameSlots : Layout → List WindowParts → Type 0
 SameSlots b ws = (k j : ℕ) → k < length ws → j < count_of (window ws k) → slot b (place_of ws k j) ≡ slot_in (window ws k) j
 
@@ -83,19 +83,19 @@ joined-slots t b ws h e s =
     ∙ joined-run (slot b) 0 ws (λ k j l m. let z : 0 + place_of ws k j ≡ place_of ws k j = omega arith in ap (slot b) z ∙ s k j l m)
     ∙ flat-ext run_in window_slots ws (λ i d l. window-run t (get_or ws i d) (h i d l))
 
--- values of windows at a place
-pub values-long : {A : Type 0} (xs : WindowParts → List A) (ws : List WindowParts) → All (λ w. w.offset + w.count ≤ length (xs w)) ws → AreLong (λ w. cut (xs w) w.offset w.count) count_of ws
+-- values of windows by index
+pub values-long : {A : Type 0} (xs : WindowParts → List A) (ws : List WindowParts) → All (λ w. w.offset + w.count ≤ length (xs w)) ws → AreLong (λ w. sublist (xs w) w.offset w.count) count_of ws
 values-long xs ws h = λ i d l. let w = get_or ws i d in length-cut (xs w) w.offset w.count (h i d l)
 
 pub values-at : {A : Type 0} (xs : WindowParts → List A) (ws : List WindowParts) (k j : ℕ) (d : A) → All (λ w. w.offset + w.count ≤ length (xs w)) ws → k < length ws → j < count_of (window ws k)
-    → get_or (flat_map (λ w. cut (xs w) w.offset w.count) ws) (place_of ws k j) d ≡ get_or (xs (window ws k)) ((window ws k).offset + j) d
+    → get_or (flat_map (λ w. sublist (xs w) w.offset w.count) ws) (place_of ws k j) d ≡ get_or (xs (window ws k)) ((window ws k).offset + j) d
 values-at {A} xs ws k j d h l m =
-    let f : WindowParts → List A = λ w. cut (xs w) w.offset w.count in
+    let f : WindowParts → List A = λ w. sublist (xs w) w.offset w.count in
     let w = window ws k in
     flat-at f count_of ws k j nowhere d (values-long xs ws h) l m ∙ get_or-cut (xs w) w.offset w.count j d m
 
-pub values-count : {A : Type 0} (xs : WindowParts → List A) (ws : List WindowParts) → All (λ w. w.offset + w.count ≤ length (xs w)) ws → length (flat_map (λ w. cut (xs w) w.offset w.count) ws) ≡ count_slots ws
-values-count {A} xs ws h = let f : WindowParts → List A = λ w. cut (xs w) w.offset w.count in flat-length f count_of ws (values-long xs ws h)
+pub values-count : {A : Type 0} (xs : WindowParts → List A) (ws : List WindowParts) → All (λ w. w.offset + w.count ≤ length (xs w)) ws → length (flat_map (λ w. sublist (xs w) w.offset w.count) ws) ≡ count_slots ws
+values-count {A} xs ws h = let f : WindowParts → List A = λ w. sublist (xs w) w.offset w.count in flat-length f count_of ws (values-long xs ws h)
 
 -- every array's validity has a bit for each of its slots
 keys-fit : (ks : Layout) → AreKeys ks → ValidityFits (validity_of ks) (len ks)
@@ -107,7 +107,7 @@ validity-fits (null t n) h = tt
 validity-fits (boolean t bs va) h = h.1.0
 validity-fits (primitive k t vs va) h = h.1.0
 validity-fits (binary l t os bs va) h = h.1.1.0
-validity-fits (text l t os bs va) h = h.1.1.1.0
+validity-fits (utf8 l t os bs va) h = h.1.1.1.0
 validity-fits (fixed_size_binary t bs va) h = h.1.1.1.1.0
 validity-fits (fixed_size_list t c va) h = h.1.1.1.1.1.0
 validity-fits (list l t os c va) h = h.1.1.0
@@ -140,11 +140,11 @@ no-bits [] k i h l = absurd (omega arith)
 no-bits (w ∷ ws) zero i h l = (none-valid (validity_of w.array) (have_bits ws) i h).0
 no-bits (w ∷ ws) (suc k) i h l = no-bits ws k i (none-valid (validity_of w.array) (have_bits ws) i h).1 (omega arith)
 
-abbrev chosen_validity : Bool → List WindowParts → Validity
-chosen_validity b ws = if b then Some (flat_map bits_in ws) else None
+abbrev selected_validity : Bool → List WindowParts → Validity
+selected_validity b ws = if b then Some (flat_map bits_in ws) else None
 
 valid-by : (b : Bool) (t : TypeTree) (ws : List WindowParts) (k j : ℕ) → have_bits ws ≡ b → AreWithin t ws → k < length ws → j < count_of (window ws k)
-    → valid_at (chosen_validity b ws) (place_of ws k j) ≡ valid_at (validity_of (window ws k).array) ((window ws k).offset + j)
+    → valid_at (selected_validity b ws) (place_of ws k j) ≡ valid_at (validity_of (window ws k).array) ((window ws k).offset + j)
 valid-by true t ws k j e h l m =
     let w = window ws k in
     flat-at bits_in count_of ws k j nowhere true (bits-long t ws h) l m ∙ bits-at (validity_of w.array) w.offset w.count j m
@@ -154,18 +154,18 @@ pub validity-at : (t : TypeTree) (ws : List WindowParts) (k j : ℕ) → AreWith
     → valid_at (joined_validity ws) (place_of ws k j) ≡ valid_at (validity_of (window ws k).array) ((window ws k).offset + j)
 validity-at t ws k j h l m = valid-by (have_bits ws) t ws k j refl h l m
 
-chosen-fits : (b : Bool) (t : TypeTree) (ws : List WindowParts) → AreWithin t ws → ValidityFits (chosen_validity b ws) (count_slots ws)
-chosen-fits true t ws h = flat-length bits_in count_of ws (bits-long t ws h)
-chosen-fits false t ws h = tt
+selected-fits : (b : Bool) (t : TypeTree) (ws : List WindowParts) → AreWithin t ws → ValidityFits (selected_validity b ws) (count_slots ws)
+selected-fits true t ws h = flat-length bits_in count_of ws (bits-long t ws h)
+selected-fits false t ws h = tt
 
 pub joined-fits : (t : TypeTree) (ws : List WindowParts) → AreWithin t ws → ValidityFits (joined_validity ws) (count_slots ws)
-joined-fits t ws h = chosen-fits (have_bits ws) t ws h
+joined-fits t ws h = selected-fits (have_bits ws) t ws h
 
 -- values under validities
 pub same-slot : (p q : Bool) (x y : Slot) → p ≡ q → x ≡ y → (if p then x else slots.null) ≡ (if q then y else slots.null)
 same-slot p q x y e f = ap (λ b. if b then x else slots.null) e ∙ ap (λ s. if q then s else slots.null) f
 
--- each place is one of some window
+-- each index is in some window
 below-or-past : (m n : ℕ) → (m < n) ⊎ (n ≤ m)
 below-or-past m zero = inr (omega arith)
 below-or-past zero (suc n) = inl (omega arith)

@@ -1,8 +1,8 @@
 -- The unions of the worked examples.
-use Rattle.std.specs.Prelude.{ℕ, ℤ, List, [], ◌∷◌, Some, None}
+use Rattle.std.specs.Prelude.{ℕ, ℤ, true, false, List, [], ◌∷◌, Some, None}
 use Rattle.nest_memory.specs.TypeTree as types
 use Rattle.nest_memory.specs.declared.datatypes.UnionMode.TheVariants as modes
-use Rattle.nest_model.specs.Examples.{both, ints, two_fields}
+use Rattle.nest_model.specs.Examples.{both, booleans, dictionaries, ints, texts, two_fields}
 use Rattle.nest_model.specs.Layout as layouts
 use Rattle.nest_model.specs.Layout.{Layout}
 
@@ -10,9 +10,22 @@ use Rattle.nest_model.specs.Layout.{Layout}
 abbrev pub four : Layout
 four = ints (4 ∷ 5 ∷ 6 ∷ 7 ∷ [])
 
--- picks of four and four, by these types, from place `start` on; by these types and offsets
+-- unions of two fields of four numbers: sparse, with these type ids and this start; dense, with these type ids and
+-- offsets
 abbrev pub sparse_from : ℕ → List ℤ → Layout
 sparse_from start ks = layouts.union (types.union (two_fields types.int32 types.int32) None modes.Sparse) ks (both four four) None start
 
 abbrev pub dense : List ℤ → List ℤ → Layout
 dense ks os = layouts.union (types.union (two_fields types.int32 types.int32) None modes.Dense) ks (both four four) (Some os) 0
+
+-- a struct of two numbers and two Booleans
+abbrev pub two_columns : Layout
+two_columns = layouts.struct (types.struct (two_fields types.int32 types.boolean)) (both (ints (5 ∷ 6 ∷ [])) (booleans (true ∷ false ∷ []))) None
+
+-- a dictionary of "a" and "b" by these keys
+abbrev pub ab_by : List ℕ → Layout
+ab_by keys = dictionaries keys None (texts (0 ∷ 1 ∷ 2 ∷ []) (97 ∷ 98 ∷ []))
+
+-- "b" and null, with the key 7 under the null
+abbrev pub b_and_null : Layout
+b_and_null = dictionaries (1 ∷ 7 ∷ []) (Some (true ∷ false ∷ [])) (texts (0 ∷ 1 ∷ 2 ∷ []) (97 ∷ 98 ∷ []))

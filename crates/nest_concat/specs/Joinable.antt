@@ -1,4 +1,4 @@
--- Windows that may be joined at every level (of this project).
+-- Windows that can be concatenated at every level.
 use Rattle.std.specs.Prelude.{◌≡◌, ◌<◌, List, length}
 use Rattle.std.specs.List.{All}
 use Rattle.nest_model.specs.Array.{IsArray}
@@ -6,7 +6,8 @@ use Rattle.nest_model.specs.Layout.{Layout, layout_type}
 use Rattle.nest_array.specs.WindowParts.{WindowParts}
 use Rattle.nest_concat.specs.Joined.{AreWithin, first_array}
 
--- a is the array of the first window; each lies within an array at every level, of its data type but for outer extensions
+-- a is the array of the first window; each window is within an array, valid at every level, of the type of a
+-- but for outer extension types
 pub record MayJoin (a : Layout) (ws : List WindowParts) : Type 0 where
   pub first : a ≡ first_array ws
   pub some : 0 < length ws

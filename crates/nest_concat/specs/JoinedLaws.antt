@@ -1,23 +1,23 @@
--- Laws of joining whole arrays (of this project).
+-- Theorems about `concatenate`.
 use Rattle.std.specs.Prelude.{List, [], ◌∷◌, ◌++◌, take, drop, length}
 use Rattle.std.specs.List.{flat_map}
 use Rattle.std.proofs.Common.{◌≡◌, ℕ, ◌-◌, ◌<◌, ◌≤◌, refl, ap, sym, ◌∙◌, arith, append-nil, length-drop}
 use Rattle.std.proofs.lemmas.List.{take-append-drop, take_all}
 use Rattle.std.proofs.lemmas.List.Concat.{flat_map-append}
-use Rattle.nest_model.specs.Cut.{cut_layout}
-use Rattle.nest_model.specs.CutLaws.{slots-cut, type-cut}
+use Rattle.nest_model.specs.Slice.{slice_layout}
+use Rattle.nest_model.specs.SliceLaws.{slots-cut, type-cut}
 use Rattle.nest_model.specs.Layout.{Layout}
 use Rattle.nest_model.specs.Meaning.{len, slots_of}
 use Rattle.nest_model.specs.Reads.{slots-length}
 use Rattle.nest_model.specs.SameArray.{IsSameArray}
 use Rattle.nest_concat.specs.Joined.{IsConcatenated, first_type}
 
--- of one array it is that array
+-- concatenating one array returns that array
 pub joined-one : (a b : Layout) → IsConcatenated (a ∷ []) b → IsSameArray b a
 joined-one a b j = (j.same_type, j.slots ∙ append-nil (slots_of a))
 
--- an array's cuts up to a place and from it on give the array
-pub joined-cuts : (a b : Layout) (k : ℕ) → k ≤ len a → IsConcatenated (cut_layout a 0 k ∷ cut_layout a k (len a - k) ∷ []) b → IsSameArray b a
+-- concatenating the slices of an array up to an index and from it on returns the array
+pub joined-cuts : (a b : Layout) (k : ℕ) → k ≤ len a → IsConcatenated (slice_layout a 0 k ∷ slice_layout a k (len a - k) ∷ []) b → IsSameArray b a
 joined-cuts a b k h j =
     let ss = slots_of a in
     let p = slots-cut a 0 k (omega arith) in
@@ -25,8 +25,8 @@ joined-cuts a b k h j =
     let r : take (len a - k) (drop k ss) ≡ drop k ss = take_all (len a - k) (drop k ss) (omega (arith, length-drop k ss, slots-length a)) in (
       j.same_type ∙ type-cut a 0 k,
       j.slots
-          ∙ ap (λ xs. xs ++ (slots_of (cut_layout a k (len a - k)) ++ [])) p
-          ∙ ap (λ xs. take k ss ++ xs) (append-nil (slots_of (cut_layout a k (len a - k))) ∙ q ∙ r)
+          ∙ ap (λ xs. xs ++ (slots_of (slice_layout a k (len a - k)) ++ [])) p
+          ∙ ap (λ xs. take k ss ++ xs) (append-nil (slots_of (slice_layout a k (len a - k))) ∙ q ∙ r)
           ∙ take-append-drop k ss,
     )
 
@@ -34,7 +34,7 @@ first-of-append : (as_ bs : List Layout) → 0 < length as_ → first_type (as_ 
 first-of-append [] bs h = absurd (omega arith)
 first-of-append (a ∷ as_) bs h = refl
 
--- joining what was joined is one joining: of the first arrays, and of the last
+-- concatenating a result with arrays after it, or before it, is one concatenation
 pub joined-first : (as_ bs : List Layout) (c d : Layout) → 0 < length as_ → IsConcatenated as_ c → IsConcatenated (c ∷ bs) d → IsConcatenated (as_ ++ bs) d
 joined-first as_ bs c d h i j =
     record {

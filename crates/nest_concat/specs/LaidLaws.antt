@@ -1,4 +1,4 @@
--- The tests of `Laid` say which limits are passed (of this project).
+-- The tests of `Laid` decide the limits of `Limits`.
 use Rattle.std.specs.Prelude.{◌≡◌, ◌⊎◌, ℕ, zero, suc, ◌+◌, ◌<◌, ◌≤◌, ◌^◌, ℤ, Bool, true, false, ◌&&◌, ◌||◌, not, nat_le, nat_lt, List, [], ◌∷◌, map, Option, Some, None}
 use Rattle.std.specs.Bool.{Decides}
 use Rattle.std.specs.List.{list_all, list_any, range_with_len, sum_by}
@@ -9,8 +9,8 @@ use Rattle.nest_memory.specs.Rising.{largest_offset}
 use Rattle.nest_memory.specs.TypeTree.{size_of}
 use Rattle.nest_model.specs.Accessors.{child_of, key_at, keys_of, validity_of}
 use Rattle.nest_model.specs.Checks.{most_picks}
-use Rattle.nest_model.specs.Layout.{Layout, Layouts, binary, text, fixed_size_list, list, map as map_of, struct, union, dictionary, no_layouts, more_layouts, count_layouts}
-use Rattle.nest_model.specs.Part.{place, valid_at}
+use Rattle.nest_model.specs.Layout.{Layout, Layouts, binary, utf8, fixed_size_list, list, map as map_of, struct, union, dictionary, no_layouts, more_layouts, count_layouts}
+use Rattle.nest_model.specs.Part.{to_index, valid_at}
 use Rattle.nest_model.specs.SameArray.{IsSameArray, same_array}
 use Rattle.nest_model.specs.SameArrayLaws.{same_array-decides}
 use Rattle.nest_array.specs.WindowParts.{WindowParts}
@@ -19,7 +19,7 @@ use Rattle.nest_concat.specs.Limits.{PassesLength, PassesLimits, PassesOffsets, 
 use Rattle.nest_concat.specs.Lookups.{HaveValues, KeyPasses, KeysPass, count_values, most_keys, values_in}
 use Rattle.nest_concat.specs.Windows.{blocks_of, count_items, count_slots, field_of, items_in}
 
--- a test of one of n numbers from o on
+-- a test of n numbers from o on decides whether P holds for one of them
 module _ (p : ℕ → Bool) (P : ℕ → Type 0) (each : (k : ℕ) → Decides (p k) (P k)) where
   there : (o n : ℕ) → P o ⊎ ((j : ℕ) × ((j < n) × P (o + 1 + j))) → (j : ℕ) × ((j < suc n) × P (o + j))
   there o n (inl h) = let z : o ≡ o + 0 = omega arith in (0, (omega arith, subst P z h))
@@ -38,7 +38,7 @@ module _ (p : ℕ → Bool) (P : ℕ → Type 0) (each : (k : ℕ) → Decides (
       let either = Decides-or (p o) (list_any p (range_with_len (o + 1) n)) (each o) (any-decides (o + 1) n) in
       Decides-like (p o || list_any p (range_with_len (o + 1) n)) (there o n) (λ h. here o n h.0 h.1.0 h.1.1) either
 
--- each test of Limits decides what it says
+-- each test decides its limit
 pub length-decides : (ws : List WindowParts) → Decides (passes_length ws) (PassesLength ws)
 length-decides ws = (leb-true (2 ^ 64) (count_slots ws), le-leb (2 ^ 64) (count_slots ws))
 
@@ -72,7 +72,7 @@ values-decides c ws =
 
 pub key-decides : (n s : ℕ) (w : WindowParts) → Decides (key_passes n s w) (KeyPasses n s w)
 key-decides n s w =
-    let key : ℕ → ℕ = λ i. s + place (key_at (keys_of w.array) i) in
+    let key : ℕ → ℕ = λ i. s + to_index (key_at (keys_of w.array) i) in
     let valid : ℕ → Bool = λ i. valid_at (validity_of w.array) i in
     any-decides (λ i. valid i && nat_le n (key i)) (λ i. (valid i ≡ true) × (n ≤ key i))
     (λ i. Decides-and (valid i) (nat_le n (key i)) (λ e. e, λ e. e) (leb-true n (key i), le-leb n (key i))) w.offset w.count
@@ -81,11 +81,11 @@ pub keys-decide : (n s : ℕ) (ws : List WindowParts) → Decides (keys_pass n s
 keys-decide n s [] = (λ e. false≢true e, λ h. absurd h)
 keys-decide n s (w ∷ ws) = Decides-or (key_passes n s w) (keys_pass n (s + count_values w) ws) (key-decides n s w) (keys-decide n (s + count_values w) ws)
 
--- so does the test of all
+-- the test of all limits decides them
 mutual
   pub passes-decides : (a : Layout) (ws : List WindowParts) → Decides (passes a ws) (PassesLimits a ws)
   passes-decides (binary large t os bs va) ws = Decides-or (passes_length ws) (passes_offsets large ws) (length-decides ws) (offsets-decides large ws)
-  passes-decides (text large t os bs va) ws = Decides-or (passes_length ws) (passes_offsets large ws) (length-decides ws) (offsets-decides large ws)
+  passes-decides (utf8 large t os bs va) ws = Decides-or (passes_length ws) (passes_offsets large ws) (length-decides ws) (offsets-decides large ws)
   passes-decides (fixed_size_list t c va) ws =
       let cws = map (blocks_of (size_of t)) ws in
       Decides-or (passes_length ws) (passes c cws) (length-decides ws) (passes-decides c cws)
@@ -124,6 +124,6 @@ limits-pass a ws = (passes-decides a ws).1
 pub some-pass : (cs : Layouts) (f : ℕ) (ws : List WindowParts) → SomePasses cs f ws → some_passes cs f ws ≡ true
 some-pass cs f ws = (some-decides cs f ws).1
 
--- and where no limit is passed, none does
+-- where no limit is passed, the test is false
 pub none-passes : (a : Layout) (ws : List WindowParts) → (PassesLimits a ws → ⊥) → passes a ws ≡ false
 none-passes a ws n = false_from_ne_true (passes a ws) (λ e. n ((passes-decides a ws).0 e))

@@ -1,7 +1,7 @@
--- What windows over arrays have: values, bits, rows, and the windows of their items (of this project).
+-- The parts of windows over arrays: values, bits, rows, and the windows over their items.
 use Rattle.std.specs.Prelude.{ℕ, ◌+◌, ◌-◌, ◌*◌, ℤ, Bool, true, false, ◌||◌, is_some, List, [], ◌∷◌, map, replicate, Some, None, if◌then◌else◌}
 use Rattle.std.specs.List.{flat_map, range_with_len, sum_by}
-use Rattle.nest_memory.specs.Cut.{cut}
+use Rattle.nest_memory.specs.Sublist.{sublist}
 use Rattle.nest_model.specs.Accessors.{validity_of, bits_of, natives_of, bytes_of, offsets_of, child_of, children_of, child_at}
 use Rattle.nest_model.specs.Part.{Validity, begin, extent}
 use Rattle.nest_array.specs.WindowParts.{WindowParts, window_parts}
@@ -10,24 +10,24 @@ use Rattle.nest_concat.specs.Parts.{part_of}
 abbrev pub count_of : WindowParts → ℕ
 count_of w = w.count
 
--- how many slots they have
+-- the number of their slots
 abbrev pub count_slots : List WindowParts → ℕ
 count_slots ws = sum_by count_of ws
 
--- Fixed-size Primitive Layout: the bits, the native values of a window; of one size, the bytes
-abbrev pub truths_in : WindowParts → List Bool
-truths_in w = cut (bits_of w.array) w.offset w.count
+-- Fixed-size Primitive Layout: the bits and the native values of a window; fixed-size binary: the bytes
+abbrev pub booleans_in : WindowParts → List Bool
+booleans_in w = sublist (bits_of w.array) w.offset w.count
 
 abbrev pub natives_in : WindowParts → List (List ℤ)
-natives_in w = cut (natives_of w.array) w.offset w.count
+natives_in w = sublist (natives_of w.array) w.offset w.count
 
 abbrev pub blocks_in : ℕ → WindowParts → List ℕ
-blocks_in size w = cut (bytes_of w.array) (w.offset * size) (w.count * size)
+blocks_in size w = sublist (bytes_of w.array) (w.offset * size) (w.count * size)
 
 -- Validity bitmaps: the bits of a window, set where its array has no bitmap
 abbrev pub window_bits : Validity → ℕ → ℕ → List Bool
 window_bits None o n = replicate n true
-window_bits (Some bits) o n = cut bits o n
+window_bits (Some bits) o n = sublist bits o n
 
 abbrev pub bits_in : WindowParts → List Bool
 bits_in w = window_bits (validity_of w.array) w.offset w.count
@@ -41,31 +41,31 @@ have_bits (w ∷ ws) = is_some (validity_of w.array) || have_bits ws
 abbrev pub joined_validity : List WindowParts → Validity
 joined_validity ws = if have_bits ws then Some (flat_map bits_in ws) else None
 
--- Variable-size layouts: how many items each of n rows has, and each row of a window
+-- Variable-size layouts: the number of items of each of n rows, and of each row of a window
 abbrev pub extents : List ℕ → ℕ → ℕ → List ℕ
 extents os o n = map (extent os) (range_with_len o n)
 
 abbrev pub extents_in : WindowParts → List ℕ
 extents_in w = extents (offsets_of w.array) w.offset w.count
 
--- where the items of its rows begin, and how many they are in all
+-- the index of the first item of a window, and the number of its items
 abbrev pub first_item : WindowParts → ℕ
 first_item w = begin (offsets_of w.array) w.offset
 
 abbrev pub count_items : WindowParts → ℕ
 count_items w = begin (offsets_of w.array) (w.offset + w.count) - first_item w
 
--- their bytes, and the window over their items
+-- the bytes of a window, and the window over its items
 abbrev pub bytes_in : WindowParts → List ℕ
-bytes_in w = cut (bytes_of w.array) (first_item w) (count_items w)
+bytes_in w = sublist (bytes_of w.array) (first_item w) (count_items w)
 
 abbrev pub items_in : WindowParts → WindowParts
 items_in w = window_parts (child_of w.array) (first_item w) (count_items w)
 
--- layouts of one size: the window over the items of rows of n items each
+-- Fixed-Size List Layout: the window over the items of rows of n items each
 abbrev pub blocks_of : ℕ → WindowParts → WindowParts
 blocks_of n w = window_parts (child_of w.array) (w.offset * n) (w.count * n)
 
--- Struct Layout and Union Layout: the window over the part of child f that the slots lie in
+-- Struct Layout and Union Layout: the window over the part of child f that the slots are in
 abbrev pub field_of : ℕ → WindowParts → WindowParts
 field_of f w = window_parts (child_at (children_of w.array) f) (part_of f w.array w.offset w.count).0 (part_of f w.array w.offset w.count).1

@@ -1,4 +1,4 @@
-//! Arrays of any kind.
+//! Concatenation of arrays of any type.
 ghost use Rattle.std.specs.Prelude.{◌≡◌, ◌<◌, IfErr, IfOk, MatchResult, length};
 ghost use Rattle.nest_array.specs.Seen.{layout_of};
 ghost use Rattle.nest_flat.specs.AnyPrimitive.{primitive_layout};
@@ -12,7 +12,10 @@ use nest_array::{AnyArray, Window};
 use nest_memory::error::Error;
 use std::alloc::Global;
 
-/// How many slots the windows have. `Overflow` where a length can't be as many.
+/// Returns the number of slots of the windows.
+///
+/// # Errors
+/// `Overflow` where it is 2^64 or more.
 pub(crate) fn count(windows: &[Window<'_>]) -> Result<usize, Error>
     ensures { MatchResult result (λ n. n ≡ count_slots windows.now) (λ e. (e ≡ Overflow) × PassesLength windows.now) }
 {
@@ -26,7 +29,9 @@ pub(crate) fn count(windows: &[Window<'_>]) -> Result<usize, Error>
     Ok(count)
 }
 
-/// The slots of windows over arrays of one data type but for outer extensions, one window after another.
+/// Concatenates windows over arrays whose data types are equal but for outer extension types.
+///
+/// The result has the data type of the first array.
 #[cycle(join)]
 pub(crate) fn join(alloc: Global, windows: &[Window<'_>]) -> Result<AnyArray, Error>
     requires some { 0 < length windows.now }

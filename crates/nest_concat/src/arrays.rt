@@ -1,4 +1,4 @@
-//! Whole arrays.
+//! `concatenate`: arrays one after another.
 ghost use Rattle.std.specs.Prelude.{◌≡◌, ◌<◌, ◌↔◌, IfErr, IfOk, IsErrOf, IsOkUnless, IsTrue, alloc_error, false, length, map, true};
 ghost use Rattle.std.specs.List.{All};
 ghost use Rattle.nest_array.specs.Seen.{layout_of};
@@ -7,17 +7,17 @@ ghost use Rattle.nest_concat.specs.Words.{AreOfOneType, AreWithin, InvalidArgume
 use crate::any::join;
 use nest_array::{AnyArray, Window};
 use nest_memory::datatypes::DataType;
-use nest_memory::error::{Argument, Error};
+use nest_memory::error::{ArgumentError, Error};
 use std::alloc::Global;
 
-/// Whether an array has this data type.
+/// Returns whether an array has this data type.
 fn has_type(array: &AnyArray, data_type: &DataType) -> bool
     ensures { IsTrue result ↔ (layout_type (layout_of array.now) ≡ type_of data_type.now) }
 {
     *array.data_type() == *data_type
 }
 
-/// Whether all arrays have this data type.
+/// Returns whether all arrays have this data type.
 fn have_type(arrays: &[AnyArray], data_type: &DataType) -> bool
     ensures { IsTrue result ↔ All (λ a. layout_type (layout_of a) ≡ type_of data_type.now) arrays.now }
 {
@@ -29,7 +29,7 @@ fn have_type(arrays: &[AnyArray], data_type: &DataType) -> bool
     true
 }
 
-/// Whether there is an array, and all have the data type of the first.
+/// Returns whether there is an array and all have the data type of the first.
 pub(crate) fn are_of_one_type(arrays: &[AnyArray]) -> bool
     ensures { IsTrue result ↔ AreOfOneType (map layout_of arrays.now) }
 {
@@ -39,7 +39,7 @@ pub(crate) fn are_of_one_type(arrays: &[AnyArray]) -> bool
     have_type(arrays, arrays[0].data_type())
 }
 
-/// The windows over all slots of arrays of one data type.
+/// Returns the windows over all slots of the arrays.
 fn windows(alloc: Global, arrays: &[AnyArray]) -> Result<Vec<Window<'_>>, Error>
     ensures ok { IfOk result (λ v. v.items ≡ map (λ a. whole (layout_of a)) arrays.now) }
     ensures within { AreOfOneType (map layout_of arrays.now) → IfOk result (λ v. AreWithin (layout_type (first_array v.items)) v.items) }
@@ -53,17 +53,25 @@ fn windows(alloc: Global, arrays: &[AnyArray]) -> Result<Vec<Window<'_>>, Error>
     Ok(windows)
 }
 
-/// The slots of arrays of one data type, one array after another, under that data type. The arrays stay as they are.
+/// Returns the slots of arrays of one data type, one array after another.
 ///
-/// Dictionaries whose values are all equal keep them, in memory that they share with the first; those of other values have the
-/// values of all arrays, one array after another, and keys behind them. A raw key under a null is 0. Each other part of the array
-/// is that of the arrays, one after another, with offsets from 0 on; it has a validity where one of the arrays has one.
+/// Buffers are concatenated, and offsets start at 0.
+/// The result has a validity bitmap where one of the arrays has one.
+///
+/// If all dictionaries have equal values, the result shares those of the first.
+/// Otherwise it has the values of all arrays, and keys move past the values of earlier arrays.
+/// The raw key under a null is 0.
 ///
 /// # Errors
-/// `InvalidArgumentError(ItemType)` where there is no array, or one has another data type than the first. Else
-/// `Overflow` where in some array of the tree the slots are more than a length can be, the items or bytes more than an offset
-/// can name, what dense unions pick of a field, each from the lowest slot to the highest, more than 2^31 slots, or a key that
-/// isn't null is past its type behind the values of other arrays; `Memory`.
+/// `InvalidArgumentError(ItemType)` where there is no array or the data types differ.
+///
+/// `Overflow` where at some level:
+/// - the slots are more than a length can hold,
+/// - the items or bytes are more than an offset can hold,
+/// - a field of dense unions has more than 2^31 slots, from the lowest picked one to the highest of each array,
+/// - a valid key does not fit its type when it moves past the values of earlier arrays.
+///
+/// `Memory` where an allocation fails.
 pub fn concatenate(alloc: Global, arrays: &[AnyArray]) -> Result<AnyArray, Error>
     ensures ok { IfOk result (λ a. IsConcatenated (map layout_of arrays.now) (layout_of a)) }
     ensures laid { IfOk result (λ a. layout_of a ≡ joined_layout (map layout_of arrays.now)) }
@@ -73,7 +81,7 @@ pub fn concatenate(alloc: Global, arrays: &[AnyArray]) -> Result<AnyArray, Error
     ensures err { IfErr result (λ e. RefusesConcatenate e (map layout_of arrays.now)) }
 {
     if !are_of_one_type(arrays) {
-        return Err(Error::InvalidArgumentError(Argument::ItemType));
+        return Err(Error::InvalidArgumentError(ArgumentError::ItemType));
     }
     let windows = windows(alloc, arrays)?;
     join(alloc, &windows)

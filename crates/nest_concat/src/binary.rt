@@ -1,4 +1,4 @@
-//! Byte strings.
+//! Concatenation of binary arrays.
 ghost use Rattle.std.specs.Prelude.{◌≡◌, ◌⊎◌, IfErr, IfOk, alloc_error};
 ghost use Rattle.nest_memory.specs.declared.datatypes.physical_type.PhysicalType.TheVariants as physical;
 ghost use Rattle.nest_array.specs.Seen.{layout_of};
@@ -13,10 +13,10 @@ use nest_memory::offset::Offset;
 use nest_memory::offsets::OffsetsBuffer;
 use std::alloc::Global;
 
-/// Byte strings by offsets of 32 bits.
+/// Binary arrays with 32-bit offsets.
 struct Small;
 
-/// Byte strings by offsets of 64 bits.
+/// Binary arrays with 64-bit offsets.
 struct Large;
 
 impl Spanned<i32> for Small {
@@ -63,7 +63,7 @@ impl SpannedBytes<i64> for Large {
     }
 }
 
-/// The slots of windows over byte strings, of so many slots in all, under the data type of one of the arrays.
+/// Concatenates windows over binary arrays, with the data type of one of them. `total` is the number of slots.
 fn joined<O: Offset, K: SpannedBytes<O>>(
     alloc: Global,
     array: &BinaryArray<O>,
@@ -87,7 +87,7 @@ fn joined<O: Offset, K: SpannedBytes<O>>(
     BinaryArray::try_new(data_type, offsets, bytes, validity)
 }
 
-/// The slots of windows over byte strings by offsets of 32 bits.
+/// Concatenates windows over binary arrays with 32-bit offsets.
 #[inline(never)]
 pub(crate) fn join(
     alloc: Global,
@@ -109,7 +109,7 @@ pub(crate) fn join(
     }
 }
 
-/// The slots of windows over byte strings by offsets of 64 bits.
+/// Concatenates windows over binary arrays with 64-bit offsets.
 #[inline(never)]
 pub(crate) fn join_large(
     alloc: Global,

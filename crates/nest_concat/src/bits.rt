@@ -1,6 +1,6 @@
-//! Bits of windows: those of booleans, and validities.
+//! Bits of windows: Boolean values and validity bitmaps.
 ghost use Rattle.std.specs.Prelude.{◌≡◌, ◌+◌, ◌<◌, ◌≤◌, ◌^◌, ◌++◌, IfOk, IsOkUnless, OnOk, alloc_error, length};
-ghost use Rattle.nest_concat.specs.Words.{AreArrays, Memory, bits_in, count_slots, cut, have_bits, joined_validity};
+ghost use Rattle.nest_concat.specs.Words.{AreArrays, Memory, bits_in, count_slots, sublist, have_bits, joined_validity};
 
 use nest_array::Window;
 use nest_memory::bitmap::immutable::Bitmap;
@@ -8,7 +8,7 @@ use nest_memory::bitmap::mutable::MutableBitmap;
 use nest_memory::error::Error;
 use std::alloc::Global;
 
-/// Adds n bits of others, from place `start` on.
+/// Appends `n` bits from index `start`.
 pub(crate) fn push_bits(
     taken: &mut MutableBitmap,
     bits: &Bitmap,
@@ -17,7 +17,7 @@ pub(crate) fn push_bits(
 ) -> Result<(), Error>
     requires within { start + n ≤ length bits.now }
     requires room { length taken.old + n < 2 ^ 64 }
-    ensures ok { OnOk result (taken.new ≡ taken.old ++ cut bits.now start n) }
+    ensures ok { OnOk result (taken.new ≡ taken.old ++ sublist bits.now start n) }
     ensures err { IsOkUnless result (Memory alloc_error) }
 {
     let _end = bits.len();
@@ -27,7 +27,7 @@ pub(crate) fn push_bits(
     Ok(())
 }
 
-/// Adds the bits of a window's validity, set where its array has none.
+/// Appends the validity bits of a window, all set where its array has no bitmap.
 fn push_validity(taken: &mut MutableBitmap, window: &Window<'_>) -> Result<(), Error>
     requires room { length taken.old + window.now.count < 2 ^ 64 }
     ensures ok { OnOk result (taken.new ≡ taken.old ++ bits_in window.now) }
@@ -42,7 +42,7 @@ fn push_validity(taken: &mut MutableBitmap, window: &Window<'_>) -> Result<(), E
     }
 }
 
-/// Whether some array has a validity.
+/// Returns whether some array has a validity bitmap.
 fn have_validity(windows: &[Window<'_>]) -> bool
     ensures { result ≡ have_bits windows.now }
 {
@@ -54,7 +54,7 @@ fn have_validity(windows: &[Window<'_>]) -> bool
     false
 }
 
-/// The validities of windows of so many slots in all; none where no array has one.
+/// Returns the validity bitmap of windows, `None` where no array has one. `total` is the number of slots.
 pub(crate) fn validity(
     alloc: Global,
     windows: &[Window<'_>],

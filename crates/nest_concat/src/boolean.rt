@@ -1,9 +1,9 @@
-//! Booleans.
+//! Concatenation of Boolean arrays.
 ghost use Rattle.std.specs.Prelude.{◌≡◌, ◌+◌, ◌<◌, ◌^◌, ◌++◌, IfOk, IsOkUnless, OnOk, alloc_error, length};
 ghost use Rattle.std.specs.List.{flat_map};
 ghost use Rattle.nest_memory.specs.declared.datatypes.physical_type.PhysicalType.TheVariants as physical;
 ghost use Rattle.nest_array.specs.Seen.{layout_of};
-ghost use Rattle.nest_concat.specs.Words.{AreOfKind, AreWithin, IsJoined, Memory, count_slots, layout_type, physical_type, truths_in, laid, PassesLimits};
+ghost use Rattle.nest_concat.specs.Words.{AreOfKind, AreWithin, IsJoined, Memory, count_slots, layout_type, physical_type, booleans_in, laid, PassesLimits};
 
 use crate::bits;
 use nest_array::{AnyArray, Window};
@@ -13,11 +13,11 @@ use nest_memory::bitmap::mutable::MutableBitmap;
 use nest_memory::error::Error;
 use std::alloc::Global;
 
-/// Adds the bits of a window.
-fn push_truths(taken: &mut MutableBitmap, window: &Window<'_>) -> Result<(), Error>
+/// Appends the bits of a window.
+fn push_booleans(taken: &mut MutableBitmap, window: &Window<'_>) -> Result<(), Error>
     requires kind { physical_type (layout_type window.now.array) ≡ physical.Boolean }
     requires room { length taken.old + window.now.count < 2 ^ 64 }
-    ensures ok { OnOk result (taken.new ≡ taken.old ++ truths_in window.now) }
+    ensures ok { OnOk result (taken.new ≡ taken.old ++ booleans_in window.now) }
     ensures count { OnOk result (length taken.new ≡ length taken.old + window.now.count) }
     ensures err { IsOkUnless result (Memory alloc_error) }
 {
@@ -29,21 +29,21 @@ fn push_truths(taken: &mut MutableBitmap, window: &Window<'_>) -> Result<(), Err
     bits::push_bits(taken, array.values(), window.offset(), window.len())
 }
 
-/// The bits of windows of so many slots in all.
-fn truths(alloc: Global, windows: &[Window<'_>], total: usize) -> Result<Bitmap, Error>
+/// Returns the bits of windows. `total` is the number of slots.
+fn booleans(alloc: Global, windows: &[Window<'_>], total: usize) -> Result<Bitmap, Error>
     requires kind { AreOfKind physical.Boolean windows.now }
     requires total { total ≡ count_slots windows.now }
-    ensures ok { IfOk result (λ b. b ≡ flat_map truths_in windows.now) }
+    ensures ok { IfOk result (λ b. b ≡ flat_map booleans_in windows.now) }
     ensures err { IsOkUnless result (Memory alloc_error) }
 {
     let mut taken = MutableBitmap::with_capacity(alloc, total)?;
     for window in windows {
-        push_truths(&mut taken, window)?;
+        push_booleans(&mut taken, window)?;
     }
     taken.freeze()
 }
 
-/// The slots of windows over booleans, of so many slots in all, under the data type of one of the arrays.
+/// Concatenates windows over Boolean arrays, with the data type of one of them. `total` is the number of slots.
 #[inline(never)]
 pub(crate) fn join(
     alloc: Global,
@@ -59,7 +59,7 @@ pub(crate) fn join(
     ensures err { IsOkUnless result (Memory alloc_error) }
 {
     array.known();
-    let values = truths(alloc, windows, total)?;
+    let values = booleans(alloc, windows, total)?;
     let validity = bits::validity(alloc, windows, total)?;
     let data_type = array.data_type().clone(alloc)?;
     match BooleanArray::try_new(data_type, values, validity) {

@@ -1,4 +1,4 @@
-//! Values that are looked up by keys.
+//! Concatenation of dictionary arrays.
 ghost use Rattle.std.specs.Prelude.{◌≡◌, ◌<◌, ◌↔◌, IfErr, IfOk, IsOkUnless, IsTrue, alloc_error, length, map};
 ghost use Rattle.nest_model.specs.Layout as layouts;
 ghost use Rattle.nest_array.specs.Kinds.{IsKeyed};
@@ -14,7 +14,7 @@ use nest_memory::datatypes::DataType;
 use nest_memory::error::Error;
 use std::alloc::Global;
 
-/// The values of the array of a window.
+/// Returns the values of the array of a window.
 pub(crate) fn values_of_window<'a>(window: &Window<'a>) -> &'a AnyArray
     requires { IsKeyed (physical_type (layout_type window.now.array)) }
     ensures { layout_of result.now ≡ child_of window.now.array }
@@ -26,7 +26,7 @@ pub(crate) fn values_of_window<'a>(window: &Window<'a>) -> &'a AnyArray
     array.values()
 }
 
-/// Whether the arrays of all windows have values equal to these. Each is compared with them once.
+/// Returns whether the arrays of all windows have values equal to `values`. Each array is compared once.
 fn have_values(windows: &[Window<'_>], values: &AnyArray) -> bool
     requires { AreKeyed windows.now }
     ensures { IsTrue result ↔ HaveValues (layout_of values.now) windows.now }
@@ -39,7 +39,7 @@ fn have_values(windows: &[Window<'_>], values: &AnyArray) -> bool
     true
 }
 
-/// The windows over all values of the arrays of windows.
+/// Returns the windows over all values of the arrays of windows.
 fn whole_values<'a>(alloc: Global, windows: &[Window<'a>]) -> Result<Vec<Window<'a>>, Error>
     requires { AreKeyed windows.now }
     ensures ok { IfOk result (λ v. v.items ≡ map values_in windows.now) }
@@ -55,8 +55,11 @@ fn whole_values<'a>(alloc: Global, windows: &[Window<'a>]) -> Result<Vec<Window<
     Ok(values)
 }
 
-/// The slots of windows over dictionaries, of so many slots in all, under the data type of the first array. Where all arrays
-/// have equal values the keys stay, over the first array's; else they name the values of all arrays, one array after another.
+/// Concatenates windows over dictionary arrays, with the data type of `array`, the first array.
+/// `total` is the number of slots.
+///
+/// If all arrays have equal values, the result has those of `array`.
+/// Otherwise the values of all arrays are concatenated.
 #[cycle(join)]
 #[inline(never)]
 pub(crate) fn join_keyed(
@@ -89,7 +92,8 @@ pub(crate) fn join_keyed(
     }
 }
 
-/// The slots of windows over dictionaries of equal values, by their keys over the values of one of the arrays.
+/// Concatenates windows over dictionary arrays with equal values, which the result keeps.
+/// `total` is the number of slots.
 fn keep_values(
     alloc: Global,
     array: &DictionaryArray,
@@ -116,7 +120,7 @@ fn keep_values(
     }
 }
 
-/// The array of these parts.
+/// Returns the array with these parts.
 fn array_of(
     alloc: Global,
     data_type: &DataType,

@@ -1,4 +1,4 @@
-//! Byte strings of one size.
+//! Concatenation of fixed-size binary arrays.
 ghost use Rattle.std.specs.Prelude.{◌≡◌, IfOk, IsOkUnless, alloc_error};
 ghost use Rattle.std.specs.List.{flat_map};
 ghost use Rattle.nest_memory.specs.TypeTree.{size_of};
@@ -12,7 +12,7 @@ use nest_memory::buffer::Buffer;
 use nest_memory::error::Error;
 use std::alloc::Global;
 
-/// The bytes of windows over byte strings of one size, that of one of the arrays.
+/// Returns the bytes of windows over fixed-size binary arrays of the type of `array`.
 fn bytes(
     alloc: Global,
     array: &FixedSizeBinaryArray,
@@ -32,7 +32,7 @@ fn bytes(
     Buffer::from_vec(alloc, taken)
 }
 
-/// The bytes of a window.
+/// Returns the bytes of a window.
 fn blocks<'a>(window: &Window<'a>, size: usize) -> &'a [u8]
     requires kind { physical_type (layout_type window.now.array) ≡ physical.FixedSizeBinary }
     requires size { size ≡ size_of (layout_type window.now.array) }
@@ -51,7 +51,8 @@ fn blocks<'a>(window: &Window<'a>, size: usize) -> &'a [u8]
     )
 }
 
-/// The slots of windows over byte strings of one size, of so many slots in all, under the data type of one of the arrays.
+/// Concatenates windows over fixed-size binary arrays, with the data type of `array`, one of them.
+/// `total` is the number of slots.
 #[inline(never)]
 pub(crate) fn join(
     alloc: Global,

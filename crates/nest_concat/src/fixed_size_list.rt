@@ -1,4 +1,4 @@
-//! Lists of one size.
+//! Concatenation of fixed-size list arrays.
 ghost use Rattle.std.specs.Prelude.{◌≡◌, ◌<◌, IfErr, IfOk, IsOkUnless, alloc_error, length, map};
 ghost use Rattle.nest_memory.specs.TypeTree.{size_of};
 ghost use Rattle.nest_memory.specs.declared.datatypes.physical_type.PhysicalType.TheVariants as physical;
@@ -14,7 +14,7 @@ use nest_memory::datatypes::DataType;
 use nest_memory::error::Error;
 use std::alloc::Global;
 
-/// The window over the items of a window.
+/// Returns the window over the items of a window.
 fn items_of_window<'a>(window: &Window<'a>, size: usize) -> Window<'a>
     requires kind { physical_type (layout_type window.now.array) ≡ physical.FixedSizeList }
     requires size { size ≡ size_of (layout_type window.now.array) }
@@ -34,7 +34,7 @@ fn items_of_window<'a>(window: &Window<'a>, size: usize) -> Window<'a>
     Window::new(items, start, count)
 }
 
-/// The windows over the items of windows over lists of one size, that of one of the arrays.
+/// Returns the windows over the items of windows over fixed-size list arrays of the type of `array`.
 fn items<'a>(
     alloc: Global,
     array: &FixedSizeListArray,
@@ -54,7 +54,8 @@ fn items<'a>(
     Ok(items)
 }
 
-/// The slots of windows over lists of one size, of so many slots in all, under the data type of the first array.
+/// Concatenates windows over fixed-size list arrays, with the data type of `array`, the first array.
+/// `total` is the number of slots.
 #[cycle(join)]
 #[inline(never)]
 pub(crate) fn join_lists(
@@ -81,7 +82,7 @@ pub(crate) fn join_lists(
     }
 }
 
-/// The array of these parts.
+/// Returns the array with these parts.
 fn array_of(
     alloc: Global,
     data_type: &DataType,

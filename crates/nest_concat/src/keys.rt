@@ -1,10 +1,10 @@
-//! The keys of dictionaries, as they are or behind the values of other arrays.
+//! Concatenation of dictionary keys, unchanged or moved past the values of earlier arrays.
 ghost use Rattle.std.specs.Prelude.{◌≡◌, ◌⊎◌, ◌+◌, ◌++◌, ◌<◌, ◌≤◌, IfErr, IfOk, IfSome, IsErrOf, IsOkUnless, IsTrue, MatchOption, MatchResult, OnOk, Some, alloc_error, map, true};
 ghost use Rattle.std.specs.List.{flat_map};
 ghost use Rattle.nest_memory.specs.declared.datatypes.physical_type.PhysicalType.TheVariants as physical;
-ghost use Rattle.nest_model.specs.Accessors.{key_at, key_type_of, keys_of, whole};
+ghost use Rattle.nest_model.specs.Accessors.{key_at, key_type_of, keys_of, as_integer};
 ghost use Rattle.nest_model.specs.BuilderTree.{key_count};
-ghost use Rattle.nest_model.specs.Part.{place};
+ghost use Rattle.nest_model.specs.Part.{to_index};
 ghost use Rattle.nest_array.specs.Keys.{keyed_by};
 ghost use Rattle.nest_array.specs.SeenKeys.{keys_layout};
 ghost use Rattle.nest_concat.specs.Words.{AreJoinedKeys, AreOfKind, AreWithin, IsPast, KeyPasses, Memory, Overflow, RefusesKeys, SomePast, count_slots, first_array, joined_keys, keys_in, layout_type, len, moved_key, moved_keys, moved_run, physical_type, KeysPass, KeysFit, KeyFits, laid_keys};
@@ -16,27 +16,27 @@ use nest_memory::buffer::Buffer;
 use nest_memory::error::Error;
 use std::alloc::Global;
 
-/// The place that a key names, 0 where it is negative.
+/// Returns the index of a key, 0 where it is negative.
 fn index<K: DictionaryKey>(key: K) -> usize
-    ensures { result ≡ place (whole (K.numbers key)) }
+    ensures { result ≡ to_index (as_integer (K.numbers key)) }
 {
     key.to_index().unwrap_or(0)
 }
 
-/// Raw key i.
+/// Returns raw key `i`.
 fn raw_key<K: DictionaryKey>(keys: &PrimitiveArray<K>, i: usize) -> K
     requires { i < len keys.now }
-    ensures key { whole (K.numbers result) ≡ key_at keys.now i }
+    ensures key { as_integer (K.numbers result) ≡ key_at keys.now i }
     ensures width { key_type_of keys.now ≡ Some K.KEY_TYPE }
 {
     keys.known();
     keys.value(i)
 }
 
-/// The place that raw key i names, 0 where it is negative. No key names a place past those of its type.
+/// Returns the index of raw key `i`, 0 where it is negative.
 fn index_at(keys: &AnyKeys, i: usize) -> usize
     requires { i < len (keys_layout keys.now) }
-    ensures key { result ≡ place (key_at (keys_layout keys.now) i) }
+    ensures key { result ≡ to_index (key_at (keys_layout keys.now) i) }
     ensures below { result < key_count (keyed_by (key_type_of (keys_layout keys.now))) }
 {
     match keys {
@@ -51,13 +51,13 @@ fn index_at(keys: &AnyKeys, i: usize) -> usize
     }
 }
 
-/// The key that slot i has behind so many other values, 0 where it is null; none where its type has no such key.
+/// Returns the key of slot `i` after `before` other values, 0 for a null. `None` where it does not fit the key type.
 fn moved<K: DictionaryKey>(keys: &AnyKeys, i: usize, before: usize) -> Option<K>
     requires within { i < len (keys_layout keys.now) }
     requires width { key_type_of (keys_layout keys.now) ≡ Some K.KEY_TYPE }
     ensures key { MatchOption result
         (IsPast (key_count K.KEY_TYPE) before (keys_layout keys.now) i)
-        (λ k. whole (K.numbers k) ≡ moved_key before (keys_layout keys.now) i) }
+        (λ k. as_integer (K.numbers k) ≡ moved_key before (keys_layout keys.now) i) }
     ensures room { IfSome result (λ k. KeyFits (key_count K.KEY_TYPE) before (keys_layout keys.now) i) }
 {
     if keys.is_null(i) {
@@ -69,7 +69,7 @@ fn moved<K: DictionaryKey>(keys: &AnyKeys, i: usize, before: usize) -> Option<K>
     }
 }
 
-/// Adds the keys of n slots, from slot `start` on, behind so many other values.
+/// Appends the keys of `n` slots from slot `start`, after `before` other values.
 fn push_run<K: DictionaryKey>(
     raw: &mut Vec<K>,
     keys: &AnyKeys,
@@ -79,7 +79,7 @@ fn push_run<K: DictionaryKey>(
 ) -> Result<(), Error>
     requires within { start + n ≤ len (keys_layout keys.now) }
     requires width { key_type_of (keys_layout keys.now) ≡ Some K.KEY_TYPE }
-    ensures ok { OnOk result (map whole (map K.numbers raw.new.items) ≡ map whole (map K.numbers raw.old.items) ++ moved_run before (keys_layout keys.now) start n) }
+    ensures ok { OnOk result (map as_integer (map K.numbers raw.new.items) ≡ map as_integer (map K.numbers raw.old.items) ++ moved_run before (keys_layout keys.now) start n) }
     ensures room { OnOk result (KeysFit (key_count K.KEY_TYPE) before (keys_layout keys.now) start n) }
     ensures err { IfErr result (λ e. (e ≡ Memory alloc_error) ⊎ ((e ≡ Overflow) × SomePast (key_count K.KEY_TYPE) before (keys_layout keys.now) start n)) }
 {
@@ -93,7 +93,7 @@ fn push_run<K: DictionaryKey>(
     Ok(())
 }
 
-/// The keys of the array of a window.
+/// Returns the keys of the array of a window.
 fn keys_of_window<'a, K: DictionaryKey>(window: &Window<'a>) -> &'a AnyKeys
     requires kind { physical_type (layout_type window.now.array) ≡ physical.Dictionary K.KEY_TYPE }
     ensures keys { keys_layout result.now ≡ keys_of window.now.array }
@@ -107,14 +107,14 @@ fn keys_of_window<'a, K: DictionaryKey>(window: &Window<'a>) -> &'a AnyKeys
     array.keys()
 }
 
-/// Adds the keys of a window, behind so many other values.
+/// Appends the keys of a window, after `before` other values.
 fn push_window<K: DictionaryKey>(
     raw: &mut Vec<K>,
     window: &Window<'_>,
     before: usize,
 ) -> Result<(), Error>
     requires kind { physical_type (layout_type window.now.array) ≡ physical.Dictionary K.KEY_TYPE }
-    ensures ok { OnOk result (map whole (map K.numbers raw.new.items) ≡ map whole (map K.numbers raw.old.items) ++ keys_in before window.now) }
+    ensures ok { OnOk result (map as_integer (map K.numbers raw.new.items) ≡ map as_integer (map K.numbers raw.old.items) ++ keys_in before window.now) }
     ensures room { OnOk result (KeyPasses (key_count K.KEY_TYPE) before window.now → ⊥) }
     ensures err { IfErr result (λ e. (e ≡ Memory alloc_error) ⊎ ((e ≡ Overflow) × ((0 < before) × KeyPasses (key_count K.KEY_TYPE) before window.now))) }
 {
@@ -123,14 +123,14 @@ fn push_window<K: DictionaryKey>(
     push_run(raw, keys, window.offset(), window.len(), before)
 }
 
-/// The raw keys of windows of so many slots in all, as they are.
+/// Returns the raw keys of windows, unchanged. `total` is the number of slots.
 fn kept_keys<K: DictionaryKey>(
     alloc: Global,
     windows: &[Window<'_>],
     total: usize,
 ) -> Result<Buffer<K>, Error>
     requires kind { AreOfKind (physical.Dictionary K.KEY_TYPE) windows.now }
-    ensures ok { IfOk result (λ b. map whole (map K.numbers b) ≡ flat_map (keys_in 0) windows.now) }
+    ensures ok { IfOk result (λ b. map as_integer (map K.numbers b) ≡ flat_map (keys_in 0) windows.now) }
     ensures err { IsOkUnless result (Memory alloc_error) }
 {
     let mut raw = Vec::with_capacity(alloc, total)?;
@@ -140,14 +140,14 @@ fn kept_keys<K: DictionaryKey>(
     Buffer::from_vec(alloc, raw)
 }
 
-/// The raw keys of windows of so many slots in all, each behind the values of the arrays before its own.
-fn keys_behind<K: DictionaryKey>(
+/// Returns the raw keys of windows, each moved past the values of earlier arrays. `total` is the number of slots.
+fn keys_past<K: DictionaryKey>(
     alloc: Global,
     windows: &[Window<'_>],
     total: usize,
 ) -> Result<Buffer<K>, Error>
     requires kind { AreOfKind (physical.Dictionary K.KEY_TYPE) windows.now }
-    ensures ok { IfOk result (λ b. map whole (map K.numbers b) ≡ moved_keys 0 windows.now) }
+    ensures ok { IfOk result (λ b. map as_integer (map K.numbers b) ≡ moved_keys 0 windows.now) }
     ensures room { IfOk result (λ b. KeysPass (key_count K.KEY_TYPE) 0 windows.now → ⊥) }
     ensures err { IfErr result (λ e. RefusesKeys true e (key_count K.KEY_TYPE) windows.now) }
 {
@@ -163,7 +163,7 @@ fn keys_behind<K: DictionaryKey>(
     Buffer::from_vec(alloc, raw)
 }
 
-/// The raw keys of windows, which are moved or not.
+/// Returns the raw keys of windows, moved or unchanged.
 fn raw_keys<K: DictionaryKey>(
     alloc: Global,
     windows: &[Window<'_>],
@@ -171,18 +171,18 @@ fn raw_keys<K: DictionaryKey>(
     moved: bool,
 ) -> Result<Buffer<K>, Error>
     requires kind { AreOfKind (physical.Dictionary K.KEY_TYPE) windows.now }
-    ensures ok { IfOk result (λ b. map whole (map K.numbers b) ≡ joined_keys moved windows.now) }
+    ensures ok { IfOk result (λ b. map as_integer (map K.numbers b) ≡ joined_keys moved windows.now) }
     ensures room { IfOk result (λ b. IsTrue moved → KeysPass (key_count K.KEY_TYPE) 0 windows.now → ⊥) }
     ensures err { IfErr result (λ e. RefusesKeys moved e (key_count K.KEY_TYPE) windows.now) }
 {
     if moved {
-        keys_behind(alloc, windows, total)
+        keys_past(alloc, windows, total)
     } else {
         kept_keys(alloc, windows, total)
     }
 }
 
-/// The keys of windows of so many slots in all, under the data type of these keys of the same width.
+/// Returns the keys of windows, with the data type of `keys`. `total` is the number of slots.
 fn joined_of<K: DictionaryKey>(
     alloc: Global,
     keys: &PrimitiveArray<K>,
@@ -205,7 +205,7 @@ fn joined_of<K: DictionaryKey>(
     PrimitiveArray::try_new(data_type, raw, validity)
 }
 
-/// The keys in the variant of their width, or the refusal of them.
+/// Wraps the keys in the variant of their type, or returns the error.
 fn wrapped<K: DictionaryKey>(keys: Result<K::Array, Error>) -> Result<AnyKeys, Error>
     ensures { MatchResult keys
         (λ k. MatchResult result (λ b. keys_layout b ≡ K.layout_of_array k) (λ _. ⊥))
@@ -217,8 +217,9 @@ fn wrapped<K: DictionaryKey>(keys: Result<K::Array, Error>) -> Result<AnyKeys, E
     }
 }
 
-/// The keys of windows over dictionaries, of so many slots in all, in the width of these keys. They are moved behind the
-/// values of the arrays before their own, or stay as they are; the raw key under a null is 0.
+/// Returns the keys of windows over dictionary arrays, of the type of `keys`. `total` is the number of slots.
+///
+/// If `moved`, each key moves past the values of earlier arrays. The raw key under a null is 0.
 pub(crate) fn joined(
     alloc: Global,
     keys: &AnyKeys,

@@ -1,9 +1,9 @@
-//! Laws of what is concatenated.
+//! Theorems about `concatenate`.
 ghost use Rattle.std.specs.Prelude.{◌≡◌, ℕ, List, [], ◌∷◌, ◌++◌, ◌+◌, ◌-◌, ◌<◌, ◌≤◌, ◌↔◌, IsTrue, length, map};
 ghost use Rattle.std.specs.List.{All};
 ghost use Rattle.nest_memory.specs.TypeTree.{TypeTree};
 ghost use Rattle.nest_model.specs.Array.{IsArray};
-ghost use Rattle.nest_model.specs.Cut.{cut_layout};
+ghost use Rattle.nest_model.specs.Slice.{slice_layout};
 ghost use Rattle.nest_model.specs.Layout.{dictionary};
 ghost use Rattle.nest_model.specs.Meaning.{slot};
 ghost use Rattle.nest_model.specs.SameArray.{IsSameArray};
@@ -11,23 +11,23 @@ ghost use Rattle.nest_concat.specs.Joinable.{MayJoin};
 ghost use Rattle.nest_concat.specs.Laid.{joined_layout, joins_past, laid, passes};
 ghost use Rattle.nest_concat.specs.Words.{AreOfOneType, IsConcatenated, IsJoined, Layout, PassesLimits, WindowParts, first_array, layout_type, len, slots_of, whole};
 
-/// Concatenating one array gives an equal array.
+/// Concatenating one array returns an equal array.
 pub fn one_array()
     ensures { (a b : Layout) → IsConcatenated (a ∷ []) b → IsSameArray b a }
 {}
 
-/// The cuts of an array up to a place and from it on, one after the other, give an equal array.
-pub fn cuts_of_an_array()
-    ensures { (a b : Layout) (k : ℕ) → k ≤ len a → IsConcatenated (cut_layout a 0 k ∷ cut_layout a k (len a - k) ∷ []) b → IsSameArray b a }
+/// Concatenating the slices of an array up to an index and from it on returns an equal array.
+pub fn slices_of_one_array()
+    ensures { (a b : Layout) (k : ℕ) → k ≤ len a → IsConcatenated (slice_layout a 0 k ∷ slice_layout a k (len a - k) ∷ []) b → IsSameArray b a }
 {}
 
-/// It associates: what is concatenated may be concatenated with others, in front of them or behind.
+/// `concatenate` is associative: its result can be concatenated with arrays before it or after it.
 pub fn of_concatenated()
     ensures first { (bs cs : List Layout) (a d : Layout) → 0 < length bs → IsConcatenated bs a → IsConcatenated (a ∷ cs) d → IsConcatenated (bs ++ cs) d }
     ensures last { (bs cs : List Layout) (a d : Layout) → 0 < length bs → IsConcatenated cs a → IsConcatenated (bs ++ a ∷ []) d → IsConcatenated (bs ++ cs) d }
 {}
 
-/// What windows, or whole arrays, are joined to has their slots, and is an array at every level where they are.
+/// The layout of concatenated windows or arrays has their slots, and is an array at every level where they are.
 pub fn joined_layouts_have_their_slots()
     ensures windows { (a : Layout) (ws : List WindowParts) → MayJoin a ws → IsJoined (layout_type a) ws (laid a ws) }
     ensures arrays { (a : Layout) (ws : List WindowParts) → MayJoin a ws → IsArray (laid a ws) }
@@ -36,15 +36,15 @@ pub fn joined_layouts_have_their_slots()
     ensures two { (a b : Layout) → layout_type b ≡ layout_type a → IsArray a → IsArray b → slots_of (joined_layout (a ∷ b ∷ [])) ≡ slots_of a ++ slots_of b }
 {}
 
-/// The tests of limits tell which are passed.
-pub fn limits_are_told()
+/// The tests of limits are true exactly where a limit is passed.
+pub fn limits_are_tested()
     ensures windows { (a : Layout) (ws : List WindowParts) → IsTrue (passes a ws) ↔ PassesLimits a ws }
     ensures wholes { (bs : List Layout) → IsTrue (joins_past bs) ↔ PassesLimits (first_array (map whole bs)) (map whole bs) }
 {}
 
-/// Of two arrays of one data type, the slots of the first stay at their places and those of the second stand behind them. So keys
-/// name the same values where others are joined to these.
-pub fn joined_slots_keep_their_places()
+/// In the concatenation of two arrays, slots of the first keep their indices, and slots of the second follow.
+/// So dictionary keys keep their values when other values are appended.
+pub fn joined_slots_keep_their_positions()
     ensures count { (a b : Layout) → layout_type b ≡ layout_type a → IsArray a → IsArray b → len (joined_layout (a ∷ b ∷ [])) ≡ len a + len b }
     ensures first { (a b : Layout) (i : ℕ) → layout_type b ≡ layout_type a → IsArray a → IsArray b → i < len a → slot (joined_layout (a ∷ b ∷ [])) i ≡ slot a i }
     ensures behind { (a b : Layout) (i : ℕ) → layout_type b ≡ layout_type a → IsArray a → IsArray b → i < len b → slot (joined_layout (a ∷ b ∷ [])) (len a + i) ≡ slot b i }

@@ -1,7 +1,6 @@
-//! Arrays of any nesting joined: the slots of one after those of another, under their data type.
+//! Concatenation of arrays of any nesting by [`concatenate`], and of single slots of several arrays by [`interleave`].
 //!
-//! A statement whose value is never read (`let _len = ..`, `x.known()`) shows the prover a fact that the next step needs, and does
-//! nothing when it runs.
+//! A statement with an unused value (`let _len = ..`, `x.known()`) states a fact for the prover and does nothing else.
 #![tactic(auto)]
 
 mod any;

@@ -1,4 +1,4 @@
-//! Lists, by offsets of both widths.
+//! Concatenation of list arrays with 32-bit and 64-bit offsets.
 ghost use Rattle.std.specs.Prelude.{◌≡◌, ◌<◌, IfErr, IfOk, IsOkUnless, alloc_error, false, length, true};
 ghost use Rattle.nest_memory.specs.declared.datatypes.physical_type.PhysicalType.TheVariants as physical;
 ghost use Rattle.nest_model.specs.Layout as layouts;
@@ -15,10 +15,10 @@ use nest_memory::error::Error;
 use nest_memory::offsets::OffsetsBuffer;
 use std::alloc::Global;
 
-/// Lists by offsets of 32 bits.
+/// List arrays with 32-bit offsets.
 pub(crate) struct Small;
 
-/// Lists by offsets of 64 bits.
+/// List arrays with 64-bit offsets.
 pub(crate) struct Large;
 
 impl Spanned<i32> for Small {
@@ -65,7 +65,8 @@ impl SpannedItems<i64> for Large {
     }
 }
 
-/// The slots of windows over lists, of so many slots in all, under the data type of the first array.
+/// Concatenates windows over list arrays, with the data type of `array`, the first array.
+/// `total` is the number of slots.
 #[cycle(join)]
 #[inline(never)]
 pub(crate) fn join_lists(
@@ -95,7 +96,7 @@ pub(crate) fn join_lists(
     }
 }
 
-/// The array of these parts.
+/// Returns the array with these parts.
 fn lists_of(
     alloc: Global,
     data_type: &DataType,
@@ -121,7 +122,8 @@ fn lists_of(
     }
 }
 
-/// The slots of windows over lists, of so many slots in all, under the data type of the first array.
+/// Concatenates windows over large list arrays, with the data type of `array`, the first array.
+/// `total` is the number of slots.
 #[cycle(join)]
 #[inline(never)]
 pub(crate) fn join_large_lists(
@@ -151,7 +153,7 @@ pub(crate) fn join_large_lists(
     }
 }
 
-/// The array of these parts.
+/// Returns the array with these parts.
 fn large_lists_of(
     alloc: Global,
     data_type: &DataType,

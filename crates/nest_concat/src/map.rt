@@ -1,4 +1,4 @@
-//! Maps.
+//! Concatenation of map arrays.
 ghost use Rattle.std.specs.Prelude.{◌≡◌, ◌<◌, IfErr, IfOk, IsOkUnless, alloc_error, length};
 ghost use Rattle.nest_memory.specs.declared.datatypes.physical_type.PhysicalType.TheVariants as physical;
 ghost use Rattle.nest_model.specs.Layout as layouts;
@@ -15,7 +15,7 @@ use nest_memory::error::Error;
 use nest_memory::offsets::OffsetsBuffer;
 use std::alloc::Global;
 
-/// Maps.
+/// Map arrays.
 pub(crate) struct Entries;
 
 impl Spanned<i32> for Entries {
@@ -40,7 +40,8 @@ impl SpannedItems<i32> for Entries {
     }
 }
 
-/// The slots of windows over maps, of so many slots in all, under the data type of the first array.
+/// Concatenates windows over map arrays, with the data type of `array`, the first array.
+/// `total` is the number of slots.
 #[cycle(join)]
 #[inline(never)]
 pub(crate) fn join_maps(
@@ -70,7 +71,7 @@ pub(crate) fn join_maps(
     }
 }
 
-/// The array of these parts.
+/// Returns the array with these parts.
 fn maps_of(
     alloc: Global,
     data_type: &DataType,

@@ -1,25 +1,25 @@
-//! The values of arrays of native values, by their type.
+//! The values of primitive arrays, by native type.
 ghost use Rattle.std.specs.Prelude.{◌≡◌, ◌+◌, ◌<◌, ◌≤◌, ◌^◌, length, map};
 ghost use Rattle.nest_memory.specs.declared.datatypes.physical_type.PhysicalType.TheVariants as physical;
 ghost use Rattle.nest_array.specs.Seen.{layout_of};
-ghost use Rattle.nest_concat.specs.Words.{cut, layout_type, natives_of, physical_type};
+ghost use Rattle.nest_concat.specs.Words.{sublist, layout_type, natives_of, physical_type};
 
 use nest_array::AnyArray;
 use nest_memory::types::{NativeType, days_ms, i256, months_days_ns};
 
-/// The n values from place `start` on.
+/// Returns the `n` values from index `start`.
 pub(crate) fn part<T>(values: &[T], start: usize, n: usize) -> &[T]
     requires within { start + n ≤ length values.now }
     requires fits { start + n < 2 ^ 64 }
-    ensures { result.now ≡ cut values.now start n }
+    ensures { result.now ≡ sublist values.now start n }
 {
     let end = start + n;
     &values[start..end]
 }
 
-/// A native type, and the values of an array of that type.
+/// A native type and the values of its primitive arrays.
 pub(crate) trait Natives: NativeType {
-    /// The values, also those under nulls.
+    /// Returns the values, also those under nulls.
     fn values(array: &AnyArray) -> &[Self]
         requires { physical_type (layout_type (layout_of array.now)) ≡ physical.Primitive Self.PRIMITIVE }
         ensures { map Self.numbers result.now ≡ natives_of (layout_of array.now) };

@@ -1,4 +1,4 @@
-//! Nulls.
+//! Concatenation of null arrays.
 ghost use Rattle.std.specs.Prelude.{◌≡◌, IfOk, IsOkUnless, alloc_error};
 ghost use Rattle.nest_model.specs.Layout as layouts;
 ghost use Rattle.nest_array.specs.Seen.{layout_of};
@@ -8,7 +8,7 @@ use nest_array::{AnyArray, NullArray, Window};
 use nest_memory::error::Error;
 use std::alloc::Global;
 
-/// So many nulls under the same data type.
+/// Returns `len` nulls of the data type of `array`.
 fn of_len(alloc: Global, array: &NullArray, len: usize) -> Result<AnyArray, Error>
     ensures ok { IfOk result (λ a. layout_of a ≡ layouts.null (layout_type array.now) len) }
     ensures err { IsOkUnless result (Memory alloc_error) }
@@ -18,7 +18,7 @@ fn of_len(alloc: Global, array: &NullArray, len: usize) -> Result<AnyArray, Erro
     Ok(AnyArray::Null(NullArray::new(data_type, len)))
 }
 
-/// The slots of windows over nulls, of so many slots in all, under the data type of one of the arrays.
+/// Concatenates windows over null arrays, with the data type of `array`, one of them. `total` is the number of slots.
 #[inline(never)]
 pub(crate) fn join(
     alloc: Global,

@@ -1,4 +1,4 @@
-//! Native values.
+//! Concatenation of primitive arrays.
 ghost use Rattle.std.specs.Prelude.{◌≡◌, ◌++◌, IfOk, IsErrOf, IsOkUnless, MatchResult, OnOk, alloc_error, map};
 ghost use Rattle.std.specs.List.{flat_map};
 ghost use Rattle.nest_memory.specs.declared.datatypes.physical_type.PhysicalType.TheVariants as physical;
@@ -16,7 +16,7 @@ use nest_memory::error::Error;
 use nest_memory::types::{days_ms, i256, months_days_ns};
 use std::alloc::Global;
 
-/// Adds the values of a window.
+/// Appends the values of a window.
 fn push_values<T: Natives>(taken: &mut Vec<T>, window: &Window<'_>) -> Result<(), Error>
     requires kind { physical_type (layout_type window.now.array) ≡ physical.Primitive T.PRIMITIVE }
     ensures ok { OnOk result (map T.numbers taken.new.items ≡ map T.numbers taken.old.items ++ natives_in window.now) }
@@ -31,7 +31,7 @@ fn push_values<T: Natives>(taken: &mut Vec<T>, window: &Window<'_>) -> Result<()
     Ok(())
 }
 
-/// The values of windows of so many slots in all.
+/// Returns the values of windows. `total` is the number of slots.
 fn values<T: Natives>(
     alloc: Global,
     windows: &[Window<'_>],
@@ -48,7 +48,8 @@ fn values<T: Natives>(
     Buffer::from_vec(alloc, taken)
 }
 
-/// The slots of windows over native values of one type, of so many slots in all, under the data type of one of the arrays.
+/// Concatenates windows over primitive arrays of one type, with the data type of one of them.
+/// `total` is the number of slots.
 fn join_natives<T: Natives>(
     alloc: Global,
     array: &AnyPrimitive,
@@ -70,7 +71,7 @@ fn join_natives<T: Natives>(
     PrimitiveArray::try_new(data_type, values, validity)
 }
 
-/// The array in the variant of its type, or the refusal of one.
+/// Wraps the array in the variant of its type, or returns the error.
 fn wrapped<T: NativeArray>(joined: Result<T::Array, Error>) -> Result<AnyArray, Error>
     ensures { MatchResult joined
         (λ a. MatchResult result (λ b. layout_of b ≡ T.layout_of_array a) (λ _. ⊥))
@@ -82,7 +83,7 @@ fn wrapped<T: NativeArray>(joined: Result<T::Array, Error>) -> Result<AnyArray, 
     }
 }
 
-/// The slots of windows over native values, of so many slots in all, under the data type of one of the arrays.
+/// Concatenates windows over primitive arrays, with the data type of one of them. `total` is the number of slots.
 #[inline(never)]
 pub(crate) fn join(
     alloc: Global,

@@ -1,4 +1,4 @@
-//! Windows over rows between offsets: what bytes, texts, lists and maps share.
+//! Windows over rows between offsets, shared by binary, UTF-8, list and map arrays.
 ghost use Rattle.std.specs.Prelude.{◌≡◌, ◌+◌, ◌<◌, ◌≤◌, ◌^◌, ◌++◌, ◌∷◌, ℕ, pos, false, true, IfOk, IsOkUnless, MatchResult, OnOk, alloc_error, length, map, sum};
 ghost use Rattle.std.specs.List.{flat_map, sum_by};
 ghost use Rattle.nest_memory.specs.declared.datatypes.physical_type.PhysicalType.{PhysicalType};
@@ -13,37 +13,37 @@ use nest_memory::offset::Offset;
 use nest_memory::offsets::OffsetsBuffer;
 use std::alloc::Global;
 
-/// A kind of arrays whose rows lie between offsets.
+/// An array type with offsets.
 pub(crate) trait Spanned<O: Offset> {
-    /// The physical type of their data types.
+    /// The physical type of these arrays.
     ghost kind: { PhysicalType };
 
-    /// The offsets of an array of this kind.
+    /// Returns the offsets of an array of this type.
     fn offsets(array: &AnyArray) -> &OffsetsBuffer<O>
         requires { physical_type (layout_type (layout_of array.now)) ≡ kind }
         ensures offsets { result.now ≡ offsets_of (layout_of array.now) }
         ensures rows { count_rows result.now ≡ len (layout_of array.now) };
 }
 
-/// One whose items are bytes.
+/// An array type with offsets and bytes.
 pub(crate) trait SpannedBytes<O: Offset>: Spanned<O> {
-    /// The bytes of an array of this kind.
+    /// Returns the bytes of an array of this type.
     fn bytes(array: &AnyArray) -> &[u8]
         requires { physical_type (layout_type (layout_of array.now)) ≡ Self.kind }
         ensures bytes { result.now ≡ bytes_of (layout_of array.now) }
         ensures within { last_of (offsets_of (layout_of array.now)) ≤ length result.now };
 }
 
-/// One whose items are an array.
+/// An array type with offsets and a child.
 pub(crate) trait SpannedItems<O: Offset>: Spanned<O> {
-    /// The items of an array of this kind.
+    /// Returns the child of an array of this type.
     fn items(array: &AnyArray) -> &AnyArray
         requires { physical_type (layout_type (layout_of array.now)) ≡ Self.kind }
         ensures items { layout_of result.now ≡ child_of (layout_of array.now) }
         ensures within { last_of (offsets_of (layout_of array.now)) ≤ len (layout_of result.now) };
 }
 
-/// The offset at place i.
+/// Returns the offset at index `i`.
 fn offset_at<O: Offset>(offsets: &OffsetsBuffer<O>, i: usize) -> usize
     requires { i ≤ count_rows offsets.now }
     ensures offset { result ≡ begin offsets.now i }
@@ -58,7 +58,7 @@ fn offset_at<O: Offset>(offsets: &OffsetsBuffer<O>, i: usize) -> usize
     }
 }
 
-/// Where the items of a window begin, and how many there are.
+/// Returns the index of the first item of a window, and the number of its items.
 fn range<O: Offset, K: Spanned<O>>(window: &Window<'_>) -> (usize, usize)
     requires kind { physical_type (layout_type window.now.array) ≡ K.kind }
     ensures first { result.0 ≡ first_item window.now }
@@ -77,7 +77,10 @@ fn range<O: Offset, K: Spanned<O>>(window: &Window<'_>) -> (usize, usize)
     (first, end - first)
 }
 
-/// How many items the windows have. `Overflow` where no offset can name as many.
+/// Returns the number of items of the windows.
+///
+/// # Errors
+/// `Overflow` where it is more than the largest offset.
 pub(crate) fn count<O: Offset, K: Spanned<O>>(windows: &[Window<'_>]) -> Result<usize, Error>
     requires kind { AreOfKind K.kind windows.now }
     ensures { MatchResult result
@@ -97,7 +100,7 @@ pub(crate) fn count<O: Offset, K: Spanned<O>>(windows: &[Window<'_>]) -> Result<
     Ok(count)
 }
 
-/// The offset of so many items.
+/// Converts a number of items to an offset.
 fn offset_of<O: Offset>(n: usize) -> O
     requires { n ≤ O.largest }
     ensures { O.value result ≡ pos n }
@@ -108,8 +111,8 @@ fn offset_of<O: Offset>(n: usize) -> O
     }
 }
 
-// Each end is told by the offset that it comes from, and not by the end before it: so none waits for another.
-/// Adds where n rows of others end, from row `start` on, where the first of them begins at `base`.
+// Each end is computed from the old offset and not from the end before it, so the iterations are independent.
+/// Appends the ends of `n` rows from row `start`, the first of which begins at `base`.
 fn push_rows<O: Offset>(
     ends: &mut Vec<O>,
     offsets: &OffsetsBuffer<O>,
@@ -131,7 +134,7 @@ fn push_rows<O: Offset>(
     Ok(())
 }
 
-/// Adds where the rows of a window end, the first of which begins at `base`, and tells where the last one ends.
+/// Appends the ends of the rows of a window, the first of which begins at `base`, and returns the last end.
 fn push_window<O: Offset, K: Spanned<O>>(
     ends: &mut Vec<O>,
     window: &Window<'_>,
@@ -152,7 +155,7 @@ fn push_window<O: Offset, K: Spanned<O>>(
     Ok(base + count)
 }
 
-/// The offsets of the rows of windows, from 0 on, of so many rows in all.
+/// Returns the offsets of the rows of windows, from 0. `total` is the number of rows.
 pub(crate) fn offsets<O: Offset, K: Spanned<O>>(
     alloc: Global,
     windows: &[Window<'_>],
@@ -172,7 +175,7 @@ pub(crate) fn offsets<O: Offset, K: Spanned<O>>(
     OffsetsBuffer::try_new(alloc, ends)
 }
 
-/// The bytes of a window.
+/// Returns the bytes of a window.
 fn bytes_of_window<'a, O: Offset, K: SpannedBytes<O>>(window: &Window<'a>) -> &'a [u8]
     requires kind { physical_type (layout_type window.now.array) ≡ K.kind }
     ensures { result.now ≡ bytes_in window.now }
@@ -182,7 +185,7 @@ fn bytes_of_window<'a, O: Offset, K: SpannedBytes<O>>(window: &Window<'a>) -> &'
     &bytes[first..first + n]
 }
 
-/// The bytes of windows, so many in all.
+/// Returns the bytes of windows, `count` in all.
 pub(crate) fn bytes<O: Offset, K: SpannedBytes<O>>(
     alloc: Global,
     windows: &[Window<'_>],
@@ -199,7 +202,7 @@ pub(crate) fn bytes<O: Offset, K: SpannedBytes<O>>(
     Buffer::from_vec(alloc, taken)
 }
 
-/// The window over the items of a window.
+/// Returns the window over the items of a window.
 fn items_of_window<'a, O: Offset, K: SpannedItems<O>>(window: &Window<'a>) -> Window<'a>
     requires kind { physical_type (layout_type window.now.array) ≡ K.kind }
     ensures parts { result ≡ items_in window.now }
@@ -211,7 +214,7 @@ fn items_of_window<'a, O: Offset, K: SpannedItems<O>>(window: &Window<'a>) -> Wi
     Window::new(items, first, n)
 }
 
-/// The windows over the items of windows.
+/// Returns the windows over the items of windows.
 pub(crate) fn items<'a, O: Offset, K: SpannedItems<O>>(
     alloc: Global,
     windows: &[Window<'a>],

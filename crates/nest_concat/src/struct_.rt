@@ -1,4 +1,4 @@
-//! Records.
+//! Concatenation of struct arrays, and of the children of structs and unions.
 ghost use Rattle.std.specs.Prelude.{◌≡◌, ◌<◌, ℕ, IfErr, IfOk, IsOkUnless, alloc_error, length, map};
 ghost use Rattle.nest_memory.specs.TypeTree.{count_fields, fields_of};
 ghost use Rattle.nest_memory.specs.declared.datatypes.physical_type.PhysicalType.TheVariants as physical;
@@ -16,7 +16,7 @@ use nest_memory::datatypes::DataType;
 use nest_memory::error::Error;
 use std::alloc::Global;
 
-/// Child f.
+/// Returns child `f`.
 pub(crate) fn child(children: &[AnyArray], f: usize) -> &AnyArray
     requires { f < length children.now }
     ensures { layout_of result.now ≡ child_at (layouts_of children.now) f }
@@ -24,7 +24,7 @@ pub(crate) fn child(children: &[AnyArray], f: usize) -> &AnyArray
     &children[f]
 }
 
-/// The same slots of child f of a window.
+/// Returns the window over the same slots of child `f` of a struct array.
 fn field_of_window<'a>(window: &Window<'a>, f: usize) -> Window<'a>
     requires kind { physical_type (layout_type window.now.array) ≡ physical.Struct }
     requires field { f < count_fields (fields_of (layout_type window.now.array)) }
@@ -42,7 +42,7 @@ fn field_of_window<'a>(window: &Window<'a>, f: usize) -> Window<'a>
     Window::new(child, window.offset(), window.len())
 }
 
-/// The part of child f that a window over records or unions lies in.
+/// Returns the window over the part of child `f` that the slots of a struct or union window are in.
 fn part_of_window<'a>(window: &Window<'a>, f: usize) -> Window<'a>
     requires kind { HasFields (layout_type window.now.array) }
     requires field { f < count_fields (fields_of (layout_type window.now.array)) }
@@ -56,7 +56,7 @@ fn part_of_window<'a>(window: &Window<'a>, f: usize) -> Window<'a>
     }
 }
 
-/// The parts of child f of windows over records, or over unions, of one data type.
+/// Returns the windows over child `f` of windows over struct or union arrays of one data type.
 fn field<'a>(alloc: Global, windows: &[Window<'a>], f: usize) -> Result<Vec<Window<'a>>, Error>
     requires kind { HasFields (layout_type (first_array windows.now)) }
     requires within { AreWithin (layout_type (first_array windows.now)) windows.now }
@@ -72,7 +72,10 @@ fn field<'a>(alloc: Global, windows: &[Window<'a>], f: usize) -> Result<Vec<Wind
     Ok(fields)
 }
 
-/// The slots of windows over records, of so many slots in all, under the data type of the first array. What lies under a null row stays.
+/// Concatenates windows over struct arrays, with the data type of `array`, the first array.
+/// `total` is the number of slots.
+///
+/// Child slots under a null are kept.
 #[cycle(join)]
 #[inline(never)]
 pub(crate) fn join_records(
@@ -98,7 +101,7 @@ pub(crate) fn join_records(
     }
 }
 
-/// Each child of windows over records or unions; `children` are those of the first array.
+/// Concatenates each child of windows over struct or union arrays. `children` are those of the first array.
 #[cycle(join)]
 pub(crate) fn join_fields(
     alloc: Global,
@@ -125,7 +128,7 @@ pub(crate) fn join_fields(
     Ok(joined)
 }
 
-/// The array of these parts.
+/// Returns the array with these parts.
 fn array_of(
     alloc: Global,
     data_type: &DataType,

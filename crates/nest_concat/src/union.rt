@@ -1,4 +1,4 @@
-//! Unions.
+//! Concatenation of union arrays.
 ghost use Rattle.std.specs.Prelude.{◌≡◌, ◌⊎◌, ◌+◌, ◌-◌, ◌<◌, ◌≤◌, ◌^◌, ◌++◌, ◌∷◌, [], ℕ, List, IfErr, IfOk, IsOkUnless, None, OnOk, alloc_error, length, map};
 ghost use Rattle.std.specs.List.{flat_map, range_with_len};
 ghost use Rattle.nest_memory.specs.TypeTree.{count_fields, fields_of};
@@ -17,7 +17,7 @@ use nest_memory::datatypes::DataType;
 use nest_memory::error::Error;
 use std::alloc::Global;
 
-/// The union that a window lies over.
+/// Returns the union array of a window.
 fn union_of<'a>(window: &Window<'a>) -> &'a UnionArray
     requires { physical_type (layout_type window.now.array) ≡ physical.Union }
     ensures { result.now ≡ window.now.array }
@@ -28,7 +28,7 @@ fn union_of<'a>(window: &Window<'a>) -> &'a UnionArray
     array
 }
 
-/// The lowest of some places, and one more than the highest, with one place more. There was none where the end is 0.
+/// Extends a range, from the lowest index to one past the highest, by one index. A range that ends at 0 is empty.
 fn widened(span: (usize, usize), place: usize) -> (usize, usize)
     requires { place < 2 ^ 64 - 1 }
     ensures first { (ps : List ℕ) → span.0 ≡ lowest ps → span.1 ≡ behind ps → result.0 ≡ lowest (ps ++ place ∷ []) }
@@ -41,7 +41,7 @@ fn widened(span: (usize, usize), place: usize) -> (usize, usize)
     (first.min(place), end.max(place + 1))
 }
 
-/// From where the n slots from place o on pick field f, and up to where.
+/// Returns the lowest index at which the `n` slots from slot `o` pick field `f`, and one past the highest.
 fn span(array: &UnionArray, f: usize, o: usize, n: usize) -> (usize, usize)
     requires within { o + n ≤ len array.now }
     requires field { f < count_layouts (children_of array.now) }
@@ -61,7 +61,7 @@ fn span(array: &UnionArray, f: usize, o: usize, n: usize) -> (usize, usize)
     span
 }
 
-/// Where in field f the n slots from place o on lie, and how many there are.
+/// Returns the start and the length of the part of field `f` that the `n` slots from slot `o` are in.
 fn part(array: &UnionArray, f: usize, o: usize, n: usize) -> (usize, usize)
     requires within { o + n ≤ len array.now }
     requires field { f < count_layouts (children_of array.now) }
@@ -79,7 +79,7 @@ fn part(array: &UnionArray, f: usize, o: usize, n: usize) -> (usize, usize)
     (array.index(o).1, n)
 }
 
-/// The part of field f that the slots of a window lie in.
+/// Returns the window over the part of field `f` that the slots of a window are in.
 pub(crate) fn field_of_window<'a>(window: &Window<'a>, f: usize) -> Window<'a>
     requires kind { physical_type (layout_type window.now.array) ≡ physical.Union }
     requires field { f < count_fields (fields_of (layout_type window.now.array)) }
@@ -95,7 +95,7 @@ pub(crate) fn field_of_window<'a>(window: &Window<'a>, f: usize) -> Window<'a>
     Window::new(field, first, n)
 }
 
-/// The types of windows of so many slots in all.
+/// Returns the type ids of windows. `total` is the number of slots.
 fn types(alloc: Global, windows: &[Window<'_>], total: usize) -> Result<Buffer<i8>, Error>
     requires { AreOfKind physical.Union windows.now }
     ensures ok { IfOk result (λ b. b ≡ flat_map types_in windows.now) }
@@ -108,7 +108,7 @@ fn types(alloc: Global, windows: &[Window<'_>], total: usize) -> Result<Buffer<i
     Buffer::from_vec(alloc, taken)
 }
 
-/// The types of a window.
+/// Returns the type ids of a window.
 fn types_of_window<'a>(window: &Window<'a>) -> &'a [i8]
     requires { physical_type (layout_type window.now.array) ≡ physical.Union }
     ensures { result.now ≡ types_in window.now }
@@ -120,7 +120,10 @@ fn types_of_window<'a>(window: &Window<'a>) -> &'a [i8]
     natives::part(array.types().as_slice(), window.offset(), window.len())
 }
 
-/// Adds how many slots a window's part of each field has, and says where each part ends. `Overflow` where no offset can name as many.
+/// Adds the length of a window's part of each field to `counts`, and stores where each part ends in `ends`.
+///
+/// # Errors
+/// `Overflow` where a count is more than 2^31.
 fn advance(
     window: &Window<'_>,
     n: usize,
@@ -148,7 +151,7 @@ fn advance(
     Ok(())
 }
 
-/// Adds the offsets of a window; its parts end there, and that many slots of each field stand before those ends.
+/// Appends the offsets of a window. Its parts end at `ends`, and `counts` slots of each field precede those ends.
 fn push_offsets(
     offsets: &mut Vec<i32>,
     window: &Window<'_>,
@@ -173,7 +176,7 @@ fn push_offsets(
     Ok(())
 }
 
-/// The offsets of windows over dense unions, of so many slots in all.
+/// Returns the offsets of windows over dense unions. `total` is the number of slots.
 fn offsets_behind(
     alloc: Global,
     array: &UnionArray,
@@ -198,7 +201,7 @@ fn offsets_behind(
     Buffer::from_vec(alloc, offsets)
 }
 
-/// The offsets of windows over unions of one mode, of so many slots in all; none where they are sparse.
+/// Returns the offsets of windows over unions of one mode, `None` for sparse unions. `total` is the number of slots.
 fn offsets(
     alloc: Global,
     array: &UnionArray,
@@ -216,8 +219,10 @@ fn offsets(
     Ok(Some(offsets_behind(alloc, array, windows, total)?))
 }
 
-/// The slots of windows over unions, of so many slots in all, under the data type of the first array. Of each field of dense
-/// ones what lies between the lowest and the highest slot that a window picks is joined.
+/// Concatenates windows over union arrays, with the data type of `array`, the first array.
+/// `total` is the number of slots.
+///
+/// Of each field of a dense union, a window contributes the slots from the lowest picked one to the highest.
 #[cycle(join)]
 #[inline(never)]
 pub(crate) fn join_unions(
@@ -244,7 +249,7 @@ pub(crate) fn join_unions(
     }
 }
 
-/// The array of these parts.
+/// Returns the array with these parts.
 fn array_of(
     alloc: Global,
     data_type: &DataType,

@@ -1,8 +1,8 @@
-//! Texts.
+//! Concatenation of UTF-8 arrays.
 ghost use Rattle.std.specs.Prelude.{◌≡◌, ◌⊎◌, IfErr, IfOk, alloc_error};
 ghost use Rattle.nest_memory.specs.declared.datatypes.physical_type.PhysicalType.TheVariants as physical;
 ghost use Rattle.nest_array.specs.Seen.{layout_of};
-ghost use Rattle.nest_concat.specs.Words.{AreWithin, IsJoined, Memory, Overflow, PassesOffsets, RefusesJoin, text_of_width, count_slots, layout_type, physical_type, laid, PassesLimits};
+ghost use Rattle.nest_concat.specs.Words.{AreWithin, IsJoined, Memory, Overflow, PassesOffsets, RefusesJoin, utf8_of_width, count_slots, layout_type, physical_type, laid, PassesLimits};
 
 use crate::bits;
 use crate::spans::{self, Spanned, SpannedBytes};
@@ -13,10 +13,10 @@ use nest_memory::offset::Offset;
 use nest_memory::offsets::OffsetsBuffer;
 use std::alloc::Global;
 
-/// Texts by offsets of 32 bits.
+/// UTF-8 arrays with 32-bit offsets.
 struct Small;
 
-/// Texts by offsets of 64 bits.
+/// UTF-8 arrays with 64-bit offsets.
 struct Large;
 
 impl Spanned<i32> for Small {
@@ -63,14 +63,14 @@ impl SpannedBytes<i64> for Large {
     }
 }
 
-/// The slots of windows over texts, of so many slots in all, under the data type of one of the arrays.
+/// Concatenates windows over UTF-8 arrays, with the data type of one of them. `total` is the number of slots.
 fn joined<O: Offset, K: SpannedBytes<O>>(
     alloc: Global,
     array: &Utf8Array<O>,
     windows: &[Window<'_>],
     total: usize,
 ) -> Result<Utf8Array<O>, Error>
-    requires kind { K.kind ≡ text_of_width O.IS_LARGE }
+    requires kind { K.kind ≡ utf8_of_width O.IS_LARGE }
     requires within { AreWithin (layout_type array.now) windows.now }
     requires total { total ≡ count_slots windows.now }
     ensures ok { IfOk result (λ a. IsJoined (layout_type array.now) windows.now a) }
@@ -87,7 +87,7 @@ fn joined<O: Offset, K: SpannedBytes<O>>(
     Ok(Utf8Array::new(data_type, offsets, bytes, validity))
 }
 
-/// The slots of windows over texts by offsets of 32 bits.
+/// Concatenates windows over UTF-8 arrays with 32-bit offsets.
 #[inline(never)]
 pub(crate) fn join(
     alloc: Global,
@@ -109,7 +109,7 @@ pub(crate) fn join(
     }
 }
 
-/// The slots of windows over texts by offsets of 64 bits.
+/// Concatenates windows over UTF-8 arrays with 64-bit offsets.
 #[inline(never)]
 pub(crate) fn join_large(
     alloc: Global,

@@ -1,8 +1,8 @@
--- How many bytes the slots of a builder of bytes or of texts hold: as many as lie before its last offset.
+-- The number of bytes of a binary or UTF-8 builder is its last offset.
 use Rattle.std.specs.Prelude.{if◌then◌else◌}
 use Rattle.std.proofs.Common.{◌≡◌, ℕ, zero, suc, ◌+◌, ◌<◌, ◌≤◌, Bool, true, false, List, length, refl, ap, sym, ◌∙◌, arith}
-use Rattle.nest_memory.specs.Cut.{cut}
-use Rattle.nest_memory.specs.CutLaws.{length-cut}
+use Rattle.nest_memory.specs.Sublist.{sublist}
+use Rattle.nest_memory.specs.SliceLaws.{length-cut}
 use Rattle.nest_memory.specs.Rising.{last_of}
 use Rattle.nest_model.specs.BuilderItem.{byte_count, bytes_held}
 use Rattle.nest_model.specs.Layout.{Layout}
@@ -23,7 +23,7 @@ module _ (make : Spans → Layout) (wrap : List ℕ → Slot) (kind : SpansKind 
   held-at i k =
       let w = extent-fits s.offsets (length s.bytes) i h.rising (let e = h.ends in omega arith) k in
       ap byte_count (kind.place s i)
-      ∙ counted wrap weigh (valid_at s.validity i) (cut s.bytes (begin s.offsets i) (extent s.offsets i)) (extent s.offsets i) (length-cut s.bytes (begin s.offsets i) (extent s.offsets i) w) (h.bare i k)
+      ∙ counted wrap weigh (valid_at s.validity i) (sublist s.bytes (begin s.offsets i) (extent s.offsets i)) (extent s.offsets i) (length-cut s.bytes (begin s.offsets i) (extent s.offsets i) w) (h.bare i k)
 
   held-run : (o n : ℕ) → o + n ≤ count_rows s.offsets → bytes_held (run (slot (make s)) o n) + begin s.offsets o ≡ begin s.offsets (o + n)
   held-run o zero k = let p = ap (begin s.offsets) (let e : o ≡ o + 0 = omega arith in e) in omega arith

@@ -1,4 +1,4 @@
--- Items that a builder took one after another.
+-- Items appended to a builder in order.
 use Rattle.std.specs.Prelude.{map, Option, None}
 use Rattle.std.proofs.Common.{◌≡◌, ℕ, ◌+◌, Bool, List, [], ◌∷◌, ◌++◌, length, refl, ap, sym, ◌∙◌, arith, append_assoc}
 use Rattle.std.proofs.lemmas.List.{length-append, append-nil, map_push}
@@ -6,7 +6,7 @@ use Rattle.nest_model.specs.Slot.{Slot}
 use Rattle.nest_model.specs.Layout.{Layout}
 use Rattle.nest_model.specs.Meaning.{len, slots_of}
 use Rattle.nest_model.specs.Reads.{slots-length}
-use Rattle.nest_flat.specs.Growth.{pushed_all, refusal_of_all, Extended, Grew, is_masked, taken_back}
+use Rattle.nest_flat.specs.Growth.{pushed_all, refusal_of_all, Extended, Grew, is_masked, rolled_back}
 use Rattle.nest_flat.proofs.Refusing.{refusal-next}
 use Rattle.nest_memory.specs.declared.error.Error.{Error}
 
@@ -33,28 +33,28 @@ pushed-last : {A : Type 0} (pushed : Layout → A → Layout) (xs : List A) (x :
 pushed-last pushed [] x a = refl
 pushed-last pushed (y ∷ xs) x a = pushed-last pushed xs x (pushed a y)
 
--- the items that were taken so far
-pub record Took {A : Type 0} (pushed : Layout → A → Layout) (refusal : Layout → A → Option Error) (slot_of_item : A → Slot) (xs : List A) (old new : Layout) : Type 0 where
+-- the items appended so far
+pub record Consumed {A : Type 0} (pushed : Layout → A → Layout) (refusal : Layout → A → Option Error) (slot_of_item : A → Slot) (xs : List A) (old new : Layout) : Type 0 where
   pub parts : new ≡ pushed_all pushed old xs
   pub unrefused : refusal_of_all pushed refusal old xs ≡ None
   pub grew : Grew (map slot_of_item xs) old new
 
-pub took-none : {A : Type 0} (pushed : Layout → A → Layout) (refusal : Layout → A → Option Error) (slot_of_item : A → Slot) (a : Layout) → Took pushed refusal slot_of_item [] a a
+pub took-none : {A : Type 0} (pushed : Layout → A → Layout) (refusal : Layout → A → Option Error) (slot_of_item : A → Slot) (a : Layout) → Consumed pushed refusal slot_of_item [] a a
 took-none pushed refusal slot_of_item a = record { parts = refl; unrefused = refl; grew = grew-none a }
 
-pub took-more : {A : Type 0} (pushed : Layout → A → Layout) (refusal : Layout → A → Option Error) (slot_of_item : A → Slot) (xs : List A) (x : A) (a b c : Layout) → Took pushed refusal slot_of_item xs a b
-    → c ≡ pushed b x → refusal b x ≡ None → Grew (slot_of_item x ∷ []) b c → Took pushed refusal slot_of_item (xs ++ x ∷ []) a c
+pub took-more : {A : Type 0} (pushed : Layout → A → Layout) (refusal : Layout → A → Option Error) (slot_of_item : A → Slot) (xs : List A) (x : A) (a b c : Layout) → Consumed pushed refusal slot_of_item xs a b
+    → c ≡ pushed b x → refusal b x ≡ None → Grew (slot_of_item x ∷ []) b c → Consumed pushed refusal slot_of_item (xs ++ x ∷ []) a c
 took-more pushed refusal slot_of_item xs x a b c h e n g = record {
   parts = e ∙ ap (λ l. pushed l x) h.parts ∙ sym (pushed-last pushed xs x a);
   unrefused = refusal-next pushed refusal xs x a b h.unrefused h.parts ∙ n;
   grew = rw (map_push slot_of_item xs x) (grew-more (map slot_of_item xs) (slot_of_item x ∷ []) a b c h.grew g);
 }
 
-pub took-extended : {A : Type 0} (pushed : Layout → A → Layout) (refusal : Layout → A → Option Error) (slot_of_item : A → Slot) (xs : List A) (a b : Layout) → Took pushed refusal slot_of_item xs a b → Extended pushed refusal slot_of_item xs a b
+pub took-extended : {A : Type 0} (pushed : Layout → A → Layout) (refusal : Layout → A → Option Error) (slot_of_item : A → Slot) (xs : List A) (a b : Layout) → Consumed pushed refusal slot_of_item xs a b → Extended pushed refusal slot_of_item xs a b
 took-extended pushed refusal slot_of_item xs a b h = record { parts = h.parts; unrefused = h.unrefused; slots = h.grew.slots }
 
 -- all of them taken back
-pub took-back : {A : Type 0} (pushed : Layout → A → Layout) (refusal : Layout → A → Option Error) (slot_of_item : A → Slot) (xs : List A) (a b c : Layout) (n : ℕ) (m : Bool) → Took pushed refusal slot_of_item xs a b
-    → n ≡ len a → m ≡ is_masked a → taken_back a (len a) (is_masked a) ≡ a → c ≡ taken_back b n m → c ≡ a
+pub took-back : {A : Type 0} (pushed : Layout → A → Layout) (refusal : Layout → A → Option Error) (slot_of_item : A → Slot) (xs : List A) (a b c : Layout) (n : ℕ) (m : Bool) → Consumed pushed refusal slot_of_item xs a b
+    → n ≡ len a → m ≡ is_masked a → rolled_back a (len a) (is_masked a) ≡ a → c ≡ rolled_back b n m → c ≡ a
 took-back pushed refusal slot_of_item xs a b c n m h e f w k =
-    k ∙ h.grew.back n m (omega arith) (λ g. sym f ∙ g) ∙ ap (λ i. taken_back a i m) e ∙ ap (taken_back a (len a)) f ∙ w
+    k ∙ h.grew.back n m (omega arith) (λ g. sym f ∙ g) ∙ ap (λ i. rolled_back a i m) e ∙ ap (rolled_back a (len a)) f ∙ w

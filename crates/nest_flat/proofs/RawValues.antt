@@ -1,9 +1,9 @@
--- Native values as slots: the runs of an array without validity, and when such runs are the same.
+-- Native values as slots: ranges of an array without validity, and their equality.
 use Rattle.std.specs.Prelude.{Bool, ◌↔◌, IsTrue, None, map}
 use Rattle.std.specs.Bool.{Decides}
 use Rattle.std.proofs.Common.{◌≡◌, ℕ, ◌+◌, ◌-◌, ◌≤◌, ℤ, List, [], ◌∷◌, length, take, drop, refl, ap, sym, ◌∙◌, arith}
 use Rattle.std.proofs.lemmas.List.{length-map}
-use Rattle.nest_memory.specs.Cut.{cut}
+use Rattle.nest_memory.specs.Sublist.{sublist}
 use Rattle.nest_memory.specs.TypeTree.{TypeTree}
 use Rattle.nest_memory.specs.declared.datatypes.physical_type.PrimitiveType.{PrimitiveType}
 use Rattle.nest_model.specs.Part.{Validity}
@@ -35,14 +35,14 @@ map-one f h (x ∷ xs) (y ∷ ys) e =
 module _ {A : Type 0} (numbers : A → List ℤ) where
   -- the slots of raw values
   pub values-run : (k : PrimitiveType) (t : TypeTree) (xs : List A) (o n : ℕ) → o + n ≤ length xs
-      → run (slot (primitive k t (map numbers xs) None)) o n ≡ map (λ x. slots.number (numbers x)) (cut xs o n)
+      → run (slot (primitive k t (map numbers xs) None)) o n ≡ map (λ x. slots.number (numbers x)) (sublist xs o n)
   values-run k t xs o n h =
       let a = primitive k t (map numbers xs) None in
       items-cut a o n (omega (arith, h, length-map xs numbers))
-      ∙ ap (λ ss. cut ss o n) (primitive-slots k t (map numbers xs) None ∙ map-map slots.number numbers xs)
+      ∙ ap (λ ss. sublist ss o n) (primitive-slots k t (map numbers xs) None ∙ map-map slots.number numbers xs)
       ∙ sym (map-cut (λ x. slots.number (numbers x)) xs o n)
 
-  -- so of an array under its validity, whose values a slice shows
+  -- the slots of an array with its validity, from a slice of its values
   pub values-shown : (k : PrimitiveType) (t : TypeTree) (va : Validity) (a : Layout) (xs ys : List A) (o n : ℕ) → primitive k t (map numbers xs) va ≡ a → ys ≡ xs → o + n ≤ len a
       → run (slot (bare a)) o n ≡ map (λ x. slots.number (numbers x)) (take (o + n - o) (drop o ys))
   values-shown k t va a xs ys o n e f h =
@@ -51,12 +51,12 @@ module _ {A : Type 0} (numbers : A → List ℤ) where
       ∙ values-run k t xs o n (omega (arith, h, ap len e, length-map xs numbers))
       ∙ (λ i. map (λ x. slots.number (numbers x)) (take (m i) (drop o (sym f i))))
 
-  -- the numbers that a slice shows of the values of such an array
+  -- the numbers of the values in a slice
   pub raw-shown : (k : PrimitiveType) (t : TypeTree) (va : Validity) (a : Layout) (xs ys : List A) (o n : ℕ) → primitive k t (map numbers xs) va ≡ a → ys ≡ xs
-      → map numbers (take (o + n - o) (drop o ys)) ≡ cut (natives_of a) o n
+      → map numbers (take (o + n - o) (drop o ys)) ≡ sublist (natives_of a) o n
   raw-shown k t va a xs ys o n e f =
       let m : o + n - o ≡ n = omega arith in
-      (λ i. map numbers (take (m i) (drop o (f i)))) ∙ map-cut numbers xs o n ∙ ap (λ b. cut (natives_of b) o n) e
+      (λ i. map numbers (take (m i) (drop o (f i)))) ∙ map-cut numbers xs o n ∙ ap (λ b. sublist (natives_of b) o n) e
 
   number-one : (zs ys : List ℤ) → slots.number zs ≡ slots.number ys → zs ≡ ys
   number-one zs ys e = cc
@@ -64,11 +64,11 @@ module _ {A : Type 0} (numbers : A → List ℤ) where
   pub slot-one : ((a b : A) → numbers a ≡ numbers b → a ≡ b) → (a b : A) → slots.number (numbers a) ≡ slots.number (numbers b) → a ≡ b
   slot-one one a b e = one a b (number-one (numbers a) (numbers b) e)
 
-  -- equality by the numbers is equality
+  -- values with equal numbers are equal
   pub numbers-decide : ((a b : A) → numbers a ≡ numbers b → a ≡ b) → (E : A → A → Bool) → ((a b : A) → Decides (E a b) (numbers a ≡ numbers b)) → (a b : A) → Decides (E a b) (a ≡ b)
   numbers-decide one E d a b = (λ h. one a b ((d a b).0 h), λ e. (d a b).1 (ap numbers e))
 
--- what tells values apart is the same of two lists where the lists are
+-- a comparison of two lists also decides equality of their images under an injective map
 pub mapped-same : {A B : Type 0} (f : A → B) → ((a b : A) → f a ≡ f b → a ≡ b) → (ss rs : List B) (xs ys : List A) (r : Bool)
     → ss ≡ map f xs → rs ≡ map f ys → Decides r (xs ≡ ys) → IsTrue r ↔ (ss ≡ rs)
 mapped-same f one ss rs xs ys r p q d =

@@ -1,4 +1,4 @@
--- Arrays from slices: the items that an iterator gives, and what builders are after them.
+-- Arrays from slices: the items of an iterator, and builders after they are appended.
 use mathlib.Core.Bool.{true≢false}
 use Rattle.std.specs.Prelude.{ℤ, Result, Ok, Err, OnOk, IfOk, IfErr, MatchResult, Option, Some, None, is_some, option_map, nat_lt, if◌then◌else◌, ◌⊎◌, alloc_error}
 use Rattle.std.specs.Borrow.{Bor}
@@ -27,7 +27,7 @@ use Rattle.nest_model.specs.Slot as slots
 use Rattle.nest_model.specs.Slot.{Slot}
 use Rattle.nest_flat.specs.BytesGrowth.{Spans, item_bytes, item_refusal, pushed_item, pushed_span, spans, with_spans}
 use Rattle.nest_flat.specs.FlatParts.{optional}
-use Rattle.nest_flat.specs.Growth.{Extended, IsDue, native_refusal, pushed_all, pushed_native, pushed_truth, pushed_validity, refusal_of_all, truth_refusal, zeros}
+use Rattle.nest_flat.specs.Growth.{Extended, IsReportedError, native_refusal, pushed_all, pushed_native, pushed_boolean, pushed_validity, refusal_of_all, boolean_refusal, zeros}
 use Rattle.nest_flat.specs.Slices.{has_null, option_bits}
 use Rattle.nest_flat.proofs.BytesGrown.{SpansKind}
 use Rattle.nest_flat.proofs.Refusing.{refusal-next}
@@ -59,21 +59,21 @@ first-later None s t e h f = f h
 first-later (Some d) s t e h f = h
 
 module _ {A : Type 0} (pushed : Layout → A → Layout) (refusal : Layout → A → Option Error) where
-  -- what is refused is refused before more items
+  -- an error of the first items is the error of all
   refused-more : (xs ys : List A) (a : Layout) (e : Error) → refusal_of_all pushed refusal a xs ≡ Some e → refusal_of_all pushed refusal a (xs ++ ys) ≡ Some e
   refused-more [] ys a e h = none-some h
   refused-more (x ∷ xs) ys a e h =
       first-later (refusal a x) (refusal_of_all pushed refusal (pushed a x) xs) (refusal_of_all pushed refusal (pushed a x) (xs ++ ys)) e h (refused-more xs ys (pushed a x) e)
 
   due-all : (front more all : List A) (next : A) (a : Layout) (e : Error) → all ≡ map (λ x. x) (front ++ next ∷ []) ++ more → refusal_of_all pushed refusal a front ≡ None
-      → IsDue (refusal (pushed_all pushed a front) next) e → (refusal_of_all pushed refusal a all ≡ Some e) ⊎ (e ≡ Memory alloc_error)
+      → IsReportedError (refusal (pushed_all pushed a front) next) e → (refusal_of_all pushed refusal a all ≡ Some e) ⊎ (e ≡ Memory alloc_error)
   due-all front more all next a e whole n (inl h) =
       let p : all ≡ (front ++ next ∷ []) ++ more = whole ∙ ap (λ xs. xs ++ more) (map-id (front ++ next ∷ [])) in
       inl (ap (refusal_of_all pushed refusal a) p ∙ refused-more (front ++ next ∷ []) more a e (refusal-next pushed refusal front next a (pushed_all pushed a front) n refl ∙ h))
   due-all front more all next a e whole n (inr h) = inr h.0
 
 pub refused-all : {A T X : Type 0} {B : T → Type 0} {steps : T → Option A → T → Type 0} (pushed : Layout → A → Layout) (refusal : Layout → A → Option Error) (a : Layout) (r : Result X Error) (all : List A)
-    → IfErr r (λ e. (front : List A) × (next : A) × ((it : T) × (rest : T) × B it × Yields steps it (front ++ next ∷ []) rest) × (refusal_of_all pushed refusal a front ≡ None) × IsDue (refusal (pushed_all pushed a front) next) e)
+    → IfErr r (λ e. (front : List A) × (next : A) × ((it : T) × (rest : T) × B it × Yields steps it (front ++ next ∷ []) rest) × (refusal_of_all pushed refusal a front ≡ None) × IsReportedError (refusal (pushed_all pushed a front) next) e)
     → ((it : T) → B it → YieldsList steps (λ x. x) it all) → IfErr r (λ e. (refusal_of_all pushed refusal a all ≡ Some e) ⊎ (e ≡ Memory alloc_error))
 refused-all pushed refusal a (Ok x) all h road = tt
 refused-all {steps = steps} pushed refusal a (Err e) all h road =
@@ -81,13 +81,13 @@ refused-all {steps = steps} pushed refusal a (Err e) all h road =
     due-all pushed refusal h.0 m.0 all h.1 a e m.1 h.3 h.4
 
 pub refused-at : {A T X : Type 0} {steps : T → Option A → T → Type 0} {s : T} (pushed : Layout → A → Layout) (refusal : Layout → A → Option Error) (a : Layout) (r : Result X Error) (all : List A)
-    → IfErr r (λ e. (front : List A) × (next : A) × ((it : T) × (rest : T) × (it ≡ s) × Yields steps it (front ++ next ∷ []) rest) × (refusal_of_all pushed refusal a front ≡ None) × IsDue (refusal (pushed_all pushed a front) next) e)
+    → IfErr r (λ e. (front : List A) × (next : A) × ((it : T) × (rest : T) × (it ≡ s) × Yields steps it (front ++ next ∷ []) rest) × (refusal_of_all pushed refusal a front ≡ None) × IsReportedError (refusal (pushed_all pushed a front) next) e)
     → YieldsList steps (λ x. x) s all → IfErr r (λ e. (refusal_of_all pushed refusal a all ≡ Some e) ⊎ (e ≡ Memory alloc_error))
 refused-at pushed refusal a r all h road = refused-all pushed refusal a r all h (λ it e. YieldsList-at e road)
 
 -- ---- the bits of items
 
--- the bits after these more, n places after the first
+-- the bits after items are appended to n slots
 abbrev grown : Validity → ℕ → List Bool → Validity
 grown va n [] = va
 grown va n (b ∷ bs) = grown (pushed_validity va n b) (n + 1) bs
@@ -152,37 +152,37 @@ pub natives-unrefused : {A : Type 0} (pushed : Layout → A → Layout) (a : Lay
 natives-unrefused pushed a [] = refl
 natives-unrefused pushed a (x ∷ xs) = natives-unrefused pushed (pushed a x) xs
 
-truths-grown : (t : TypeTree) (bs : List Bool) (va : Validity) (xs : List (Option Bool))
-    → pushed_all pushed_truth (boolean t bs va) xs ≡ boolean t (bs ++ map (λ x. unwrap_or x false) xs) (grown va (length bs) (map is_some xs))
-truths-grown t bs va [] = ap (λ cs. boolean t cs va) (sym (append-nil bs))
-truths-grown t bs va (x ∷ xs) =
+booleans-grown : (t : TypeTree) (bs : List Bool) (va : Validity) (xs : List (Option Bool))
+    → pushed_all pushed_boolean (boolean t bs va) xs ≡ boolean t (bs ++ map (λ x. unwrap_or x false) xs) (grown va (length bs) (map is_some xs))
+booleans-grown t bs va [] = ap (λ cs. boolean t cs va) (sym (append-nil bs))
+booleans-grown t bs va (x ∷ xs) =
     let v = unwrap_or x false in
     let w = pushed_validity va (length bs) (is_some x) in
     let l : length (bs ++ v ∷ []) ≡ length bs + 1 = omega (arith, length-append bs (v ∷ [])) in
-    truths-grown t (bs ++ v ∷ []) w xs
+    booleans-grown t (bs ++ v ∷ []) w xs
     ∙ ap (λ cs. boolean t cs (grown w (length (bs ++ v ∷ [])) (map is_some xs))) (append_assoc bs (v ∷ []) (map (λ y. unwrap_or y false) xs))
     ∙ ap (λ n. boolean t (bs ++ v ∷ map (λ y. unwrap_or y false) xs) (grown w n (map is_some xs))) l
 
-pub truths-made : (t : TypeTree) (xs : List (Option Bool)) → pushed_all pushed_truth (boolean t [] None) xs ≡ boolean t (map (λ x. unwrap_or x false) xs) (option_bits xs)
-truths-made t xs = truths-grown t [] None xs ∙ ap (boolean t (map (λ x. unwrap_or x false) xs)) (grown-none 0 xs)
+pub booleans-made : (t : TypeTree) (xs : List (Option Bool)) → pushed_all pushed_boolean (boolean t [] None) xs ≡ boolean t (map (λ x. unwrap_or x false) xs) (option_bits xs)
+booleans-made t xs = booleans-grown t [] None xs ∙ ap (boolean t (map (λ x. unwrap_or x false) xs)) (grown-none 0 xs)
 
--- as many as a length counts
-truths-within : (t : TypeTree) (bs : List Bool) (va : Validity) (xs : List (Option Bool)) → length bs + length xs ≤ largest_length → refusal_of_all pushed_truth truth_refusal (boolean t bs va) xs ≡ None
-truths-within t bs va [] h = refl
-truths-within t bs va (x ∷ xs) h =
+-- appending booleans returns no error up to the largest length
+booleans-within : (t : TypeTree) (bs : List Bool) (va : Validity) (xs : List (Option Bool)) → length bs + length xs ≤ largest_length → refusal_of_all pushed_boolean boolean_refusal (boolean t bs va) xs ≡ None
+booleans-within t bs va [] h = refl
+booleans-within t bs va (x ∷ xs) h =
     let v = unwrap_or x false in
     let w = pushed_validity va (length bs) (is_some x) in
     let l : length (bs ++ v ∷ []) ≡ length bs + 1 = omega (arith, length-append bs (v ∷ [])) in
-    ap (λ b. first_of (refuse_if b Overflow None) (refusal_of_all pushed_truth truth_refusal (boolean t (bs ++ v ∷ []) w) xs)) (within (length bs + 1) (omega arith))
-    ∙ truths-within t (bs ++ v ∷ []) w xs (omega arith)
+    ap (λ b. first_of (refuse_if b Overflow None) (refusal_of_all pushed_boolean boolean_refusal (boolean t (bs ++ v ∷ []) w) xs)) (within (length bs + 1) (omega arith))
+    ∙ booleans-within t (bs ++ v ∷ []) w xs (omega arith)
 
-pub truths-unrefused : (t : TypeTree) (a : Layout) (xs : List (Option Bool)) → a ≡ boolean t [] None → length xs ≤ largest_length → refusal_of_all pushed_truth truth_refusal a xs ≡ None
-truths-unrefused t a xs e h = ap (λ b. refusal_of_all pushed_truth truth_refusal b xs) e ∙ truths-within t [] None xs (omega arith)
+pub booleans-unrefused : (t : TypeTree) (a : Layout) (xs : List (Option Bool)) → a ≡ boolean t [] None → length xs ≤ largest_length → refusal_of_all pushed_boolean boolean_refusal a xs ≡ None
+booleans-unrefused t a xs e h = ap (λ b. refusal_of_all pushed_boolean boolean_refusal b xs) e ∙ booleans-within t [] None xs (omega arith)
 
-pub truths-slots : (t : TypeTree) (ys xs : List Bool) → ys ≡ xs → slots_of (boolean t ys None) ≡ map slots.truth xs
-truths-slots t ys xs e = boolean-slots t ys None ∙ ap (map slots.truth) e
+pub booleans-slots : (t : TypeTree) (ys xs : List Bool) → ys ≡ xs → slots_of (boolean t ys None) ≡ map slots.boolean xs
+booleans-slots t ys xs e = boolean-slots t ys None ∙ ap (map slots.boolean) e
 
--- ---- texts and bytes
+-- ---- UTF-8 and binary
 
 last-pushed : (os : List ℕ) (x : ℕ) → last_of (os ++ x ∷ []) ≡ x
 last-pushed [] x = refl
@@ -269,7 +269,7 @@ module _ (make : Spans → Layout) (wrap : List ℕ → Slot) (kind : SpansKind 
       inl (k.0, omega arith)
   spans-refused a e xs ss begins same (inr h) = inr h
 
--- ---- what was frozen, and what was made of parts
+-- ---- frozen arrays, and arrays from parts
 
 pub memory-alone : (e : Error) (o : Option Error) → o ≡ None → (o ≡ Some e) ⊎ (e ≡ Memory alloc_error) → e ≡ Memory alloc_error
 memory-alone e o n (inl h) = none-some (sym n ∙ h)

@@ -1,4 +1,4 @@
--- Runs of slots: their first, their last and how many they are.
+-- Ranges of slots: their first, their last and their number.
 use Rattle.std.proofs.Common.{◌≡◌, ℕ, zero, suc, ◌+◌, ◌-◌, ◌<◌, [], ◌∷◌, ◌++◌, length, ap, ◌∙◌, arith}
 use Rattle.nest_model.specs.Slot.{Slot}
 use Rattle.nest_model.specs.Meaning.{run}

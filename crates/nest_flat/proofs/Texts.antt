@@ -1,17 +1,17 @@
--- Texts that lie next to one another in one text.
+-- The strings of neighbouring slots as parts of one string.
 use Rattle.std.specs.Prelude.{◌↔◌, Bool, false, IsTrue, List, length, get_or, slice_get, slice_range, Some, ◌≤◌, ◌<◌, ◌-◌, ◌+◌, take, drop}
 use Rattle.std.specs.Str.{IsUtf8, IsCharBoundary}
 use Rattle.std.proofs.Common.{◌≡◌, ◌∙◌, ℕ, ap, sym, subst, refl, arith}
 use Rattle.std.proofs.lemmas.Option.{slice_get-get_or, slice_get_within}
 use Rattle.std.proofs.lemmas.Str.{IsCharBoundary-start}
-use Rattle.nest_memory.specs.Cut.{cut}
+use Rattle.nest_memory.specs.Sublist.{sublist}
 use Rattle.nest_memory.specs.Rising.{last_of}
 use Rattle.nest_memory.specs.TypeTree.{TypeTree}
 use Rattle.nest_model.specs.Array.{AreOffsets, TopFits}
 use Rattle.nest_model.specs.FactLaws.{text-facts}
-use Rattle.nest_model.specs.Fits.{EachText, WholeText, covered}
-use Rattle.nest_model.specs.Layout.{text}
-use Rattle.nest_model.specs.Part.{Validity, begin, count_rows, cut_validity, extent}
+use Rattle.nest_model.specs.Fits.{EachUtf8, ValidUtf8, covered}
+use Rattle.nest_model.specs.Layout.{utf8}
+use Rattle.nest_model.specs.Part.{Validity, begin, count_rows, sliced_validity, extent}
 use Rattle.nest_model.specs.Runs.{cut-cut, get_or-cut, length-cut}
 use Rattle.nest_model.specs.TextLaws.{text-whole}
 use Rattle.nest_flat.specs.Texts.{AreEdges, bytes_between}
@@ -34,34 +34,34 @@ first-edge os whole k h u =
     let e : 0 ≡ get_or os 0 0 - begin os 0 = omega arith in
     subst (λ j. IsCharBoundary whole (get_or os j 0 - begin os 0)) z (subst (λ n. IsCharBoundary whole n) e (IsCharBoundary-start whole u))
 
-pub texts-by-edges : (os bs whole : List ℕ) (b : Bool) → AreOffsets os → last_of os ≤ length bs → whole ≡ covered os bs → IsUtf8 (covered os bs) → (IsTrue b ↔ AreEdges os whole) → IsTrue b ↔ EachText os bs
+pub texts-by-edges : (os bs whole : List ℕ) (b : Bool) → AreOffsets os → last_of os ≤ length bs → whole ≡ covered os bs → IsUtf8 (covered os bs) → (IsTrue b ↔ AreEdges os whole) → IsTrue b ↔ EachUtf8 os bs
 texts-by-edges os bs whole b o l e u h =
     let w = text-whole os bs o l in
     (λ t. w.1 (u, subst (AreEdges os) e (h.0 t)), λ t. h.1 (subst (AreEdges os) (sym e) (w.0 t).1))
 
-pub no-texts : (os bs : List ℕ) (b : Bool) → AreOffsets os → last_of os ≤ length bs → ¬ (IsUtf8 (covered os bs)) → b ≡ false → IsTrue b ↔ EachText os bs
+pub no-texts : (os bs : List ℕ) (b : Bool) → AreOffsets os → last_of os ≤ length bs → ¬ (IsUtf8 (covered os bs)) → b ≡ false → IsTrue b ↔ EachUtf8 os bs
 no-texts os bs b o l n f = (λ t. cc, λ t. absurd (n ((text-whole os bs o l).0 t).0))
 
--- ---- the text of slots next to one another
+-- ---- the string of neighbouring slots
 
--- the offsets of the slots from one place to another
+-- the offsets of slots first..end
 abbrev offsets_between : List ℕ → ℕ → ℕ → List ℕ
-offsets_between os first end = cut os first (end - first + 1)
+offsets_between os first end = sublist os first (end - first + 1)
 
-module _ (l : Bool) (t : TypeTree) (os bs : List ℕ) (va : Validity) (first end : ℕ) (fits : TopFits (text l t os bs va)) (some : first ≤ end) (within : end ≤ count_rows os) where
-  -- they are those of an array of texts
-  between-fits : TopFits (text l t (offsets_between os first end) bs (cut_validity va first (end - first)))
-  between-fits = text-cut l t os (offsets_between os first end) bs va (cut_validity va first (end - first)) first (end - first) refl refl fits (omega arith)
+module _ (l : Bool) (t : TypeTree) (os bs : List ℕ) (va : Validity) (first end : ℕ) (fits : TopFits (utf8 l t os bs va)) (some : first ≤ end) (within : end ≤ count_rows os) where
+  -- they are offsets of a UTF-8 array
+  between-fits : TopFits (utf8 l t (offsets_between os first end) bs (sliced_validity va first (end - first)))
+  between-fits = text-cut l t os (offsets_between os first end) bs va (sliced_validity va first (end - first)) first (end - first) refl refl fits (omega arith)
 
-  between-whole : WholeText (offsets_between os first end) bs
+  between-whole : ValidUtf8 (offsets_between os first end) bs
   between-whole =
-      let f = text-facts l t (offsets_between os first end) bs (cut_validity va first (end - first)) between-fits in
+      let f = text-facts l t (offsets_between os first end) bs (sliced_validity va first (end - first)) between-fits in
       (text-whole (offsets_between os first end) bs f.rising f.within).0 f.texts
 
   pub between-text : IsUtf8 (bytes_between os bs first end)
   between-text = between-whole.0
 
-  -- an offset, by its place among all
+  -- an offset from its index among all
   pub between-at : (i : ℕ) → first ≤ i → i ≤ end → get_or (offsets_between os first end) (i - first) 0 ≡ get_or os i 0
   between-at i a b =
       let e : first + (i - first) ≡ i = omega arith in
@@ -79,9 +79,9 @@ module _ (l : Bool) (t : TypeTree) (os bs : List ℕ) (va : Validity) (first end
       let z : length (offsets_between os first end) - 1 ≡ end - first = omega arith in
       ap (λ k. get_or (offsets_between os first end) k 0) z ∙ between-at end some (omega arith)
 
-  -- where they begin and end
-  pub between-bytes : bytes_between os bs first end ≡ cut bs (get_or os first 0) (get_or os end 0 - get_or os first 0)
-  between-bytes = λ i. cut bs (between-begin i) (between-last i - between-begin i)
+  -- the first and the last of them
+  pub between-bytes : bytes_between os bs first end ≡ sublist bs (get_or os first 0) (get_or os end 0 - get_or os first 0)
+  between-bytes = λ i. sublist bs (between-begin i) (between-last i - between-begin i)
 
   pub between-edge : (i : ℕ) → first ≤ i → i ≤ end → IsCharBoundary (bytes_between os bs first end) (get_or os i 0 - get_or os first 0)
   between-edge i a b =
@@ -91,8 +91,8 @@ module _ (l : Bool) (t : TypeTree) (os bs : List ℕ) (va : Validity) (first end
       let e : get_or (offsets_between os first end) (i - first) 0 - begin (offsets_between os first end) 0 ≡ get_or os i 0 - get_or os first 0 = λ j. p j - q j in
       subst (λ k. IsCharBoundary (bytes_between os bs first end) k) e (between-whole.1 (i - first) (omega arith))
 
-  -- the text of a slot is a part of it
-  pub between-slot : (i : ℕ) → first ≤ i → i < end → slice_range (bytes_between os bs first end) (get_or os i 0 - get_or os first 0) (get_or os (i + 1) 0 - get_or os first 0) ≡ cut bs (begin os i) (extent os i)
+  -- the string of a slot is a part of it
+  pub between-slot : (i : ℕ) → first ≤ i → i < end → slice_range (bytes_between os bs first end) (get_or os i 0 - get_or os first 0) (get_or os (i + 1) 0 - get_or os first 0) ≡ sublist bs (begin os i) (extent os i)
   between-slot i a b =
       let o = (text-facts l t os bs va fits).rising in
       let x = o.1 first i a (omega arith) in
@@ -101,6 +101,6 @@ module _ (l : Bool) (t : TypeTree) (os bs : List ℕ) (va : Validity) (first end
       let n : get_or os (i + 1) 0 - get_or os first 0 - (get_or os i 0 - get_or os first 0) ≡ extent os i = omega arith in
       let s : get_or os first 0 + (get_or os i 0 - get_or os first 0) ≡ begin os i = omega arith in
       ap (λ w. slice_range w (get_or os i 0 - get_or os first 0) (get_or os (i + 1) 0 - get_or os first 0)) between-bytes
-      ∙ ap (λ k. take k (drop (get_or os i 0 - get_or os first 0) (cut bs (get_or os first 0) (get_or os end 0 - get_or os first 0)))) n
+      ∙ ap (λ k. take k (drop (get_or os i 0 - get_or os first 0) (sublist bs (get_or os first 0) (get_or os end 0 - get_or os first 0)))) n
       ∙ cut-cut bs (get_or os first 0) (get_or os end 0 - get_or os first 0) (get_or os i 0 - get_or os first 0) (extent os i) (omega arith)
-      ∙ ap (λ k. cut bs k (extent os i)) s
+      ∙ ap (λ k. sublist bs k (extent os i)) s

@@ -1,4 +1,4 @@
--- When arrays are the same, by what tests of them say.
+-- Equality of arrays from the results of the comparisons that `==` makes.
 use Rattle.std.specs.Prelude.{Bool, true, false, ◌↔◌, IsTrue}
 use Rattle.std.proofs.Common.{◌≡◌, ℕ, sym, ◌∙◌}
 use Rattle.nest_memory.specs.TypeTree.{TypeTree}

@@ -1,9 +1,9 @@
--- A builder of native values of any kind: its layout.
+-- The layout of a builder of a primitive array of any native type.
 use Rattle.nest_model.specs.Layout.{Layout}
 use Rattle.nest_flat.specs.declared.any_primitive.mutable.AnyMutablePrimitive.{AnyMutablePrimitive}
 use Rattle.nest_flat.specs.declared.any_primitive.mutable.AnyMutablePrimitive.TheVariants as any
 
--- the parts of the array so far
+-- the layout of the slots so far
 abbrev pub built_layout : AnyMutablePrimitive → Layout
 built_layout (any.Int8 b) = b
 built_layout (any.Int16 b) = b

@@ -1,4 +1,4 @@
--- A native value of any kind: its kind and its numbers.
+-- The kind and the numbers of a native value.
 use Rattle.std.specs.Prelude.{ℤ, List}
 use Rattle.nest_memory.specs.Native.{signed, unsigned}
 use Rattle.nest_memory.specs.NativeStructs.{halves, days_numbers, months_numbers}
@@ -21,7 +21,7 @@ native_kind (any.UInt64 x) = primitives.UInt64
 native_kind (any.DaysMs x) = primitives.DaysMs
 native_kind (any.MonthDayNano x) = primitives.MonthDayNano
 
--- its whole numbers, high half or longest unit first
+-- its integers, high half or longest unit first
 abbrev pub native_numbers : AnyNative → List ℤ
 native_numbers (any.Int8 x) = signed x
 native_numbers (any.Int16 x) = signed x

@@ -1,4 +1,4 @@
--- An array of native values of any kind: its layout and its kind.
+-- The layout and the kind of a primitive array of any native type.
 use Rattle.nest_memory.specs.declared.datatypes.physical_type.PrimitiveType.{PrimitiveType}
 use Rattle.nest_memory.specs.declared.datatypes.physical_type.PrimitiveType.TheVariants as primitives
 use Rattle.nest_model.specs.Layout.{Layout}

@@ -14,3 +14,5 @@ pub mod SameRuns
 pub mod Slices
 pub mod Words
 pub mod Texts
+pub mod Extensions
+pub mod NewArrays

@@ -1,4 +1,4 @@
--- As many bits are 0 as places are null.
+-- The number of 0 bits of a validity is the number of nulls.
 use Rattle.std.specs.Prelude.{Bool, true, not, cond, get_or, Some, None}
 use Rattle.std.specs.List.{count_by, range_with_len}
 use Rattle.std.proofs.Common.{◌≡◌, ℕ, zero, suc, ◌+◌, ◌<◌, List, [], ◌∷◌, length, refl, ap, sym, ◌∙◌, arith}

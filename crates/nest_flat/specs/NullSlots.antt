@@ -3,12 +3,12 @@ use Rattle.std.specs.Prelude.{Bool, true, false, not, IsTrue, if◌then◌else�
 use Rattle.std.proofs.Common.{◌≡◌, ℕ, refl}
 use Rattle.nest_model.specs.Part.{valid_at}
 use Rattle.nest_model.specs.Accessors.{validity_of}
-use Rattle.nest_model.specs.Layout.{Layout, null, boolean, primitive, binary, text, fixed_size_binary, fixed_size_list, list, map, struct, union, dictionary}
+use Rattle.nest_model.specs.Layout.{Layout, null, boolean, primitive, binary, utf8, fixed_size_binary, fixed_size_list, list, map, struct, union, dictionary}
 use Rattle.nest_model.specs.Slot as slots
 use Rattle.nest_model.specs.Slot.{Slot}
 use Rattle.nest_model.specs.Meaning.{slot}
 
--- its validity alone says which slots are null
+-- its validity alone determines which slots are null
 abbrev pub NullsByValidity : Layout → Type 0
 NullsByValidity (null t n) = ⊥
 NullsByValidity (union t ks cs os start) = ⊥
@@ -20,7 +20,7 @@ slot-invalid (null t n) i h = refl
 slot-invalid (boolean t bs va) i h = cc
 slot-invalid (primitive k t vs va) i h = cc
 slot-invalid (binary l t os bs va) i h = cc
-slot-invalid (text l t os bs va) i h = cc
+slot-invalid (utf8 l t os bs va) i h = cc
 slot-invalid (fixed_size_binary t bs va) i h = cc
 slot-invalid (fixed_size_list t c va) i h = cc
 slot-invalid (list l t os c va) i h = cc
@@ -37,7 +37,7 @@ pub slot-null : (a : Layout) (i : ℕ) → NullsByValidity a → slot a i ≡ sl
 slot-null (boolean t bs va) i k e = null-if (valid_at va i) _ (λ h. cc) e
 slot-null (primitive k t vs va) i n e = null-if (valid_at va i) _ (λ h. cc) e
 slot-null (binary l t os bs va) i k e = null-if (valid_at va i) _ (λ h. cc) e
-slot-null (text l t os bs va) i k e = null-if (valid_at va i) _ (λ h. cc) e
+slot-null (utf8 l t os bs va) i k e = null-if (valid_at va i) _ (λ h. cc) e
 slot-null (fixed_size_binary t bs va) i k e = null-if (valid_at va i) _ (λ h. cc) e
 slot-null (fixed_size_list t c va) i k e = null-if (valid_at va i) _ (λ h. cc) e
 slot-null (list l t os c va) i k e = null-if (valid_at va i) _ (λ h. cc) e
@@ -55,8 +55,8 @@ not-true : (b : Bool) → IsTrue (not b) → b ≡ false
 not-true true h = cc
 not-true false h = refl
 
--- what a test of the bit says of the slot
-pub null-told : (a : Layout) (i : ℕ) (b : Bool) → NullsByValidity a → b ≡ valid_at (validity_of a) i
+-- a slot is null exactly if its validity bit tests as 0
+pub null-shown : (a : Layout) (i : ℕ) (b : Bool) → NullsByValidity a → b ≡ valid_at (validity_of a) i
     → (IsTrue (not b) → slot a i ≡ slots.null) × (slot a i ≡ slots.null → IsTrue (not b))
-null-told a i b k e =
+null-shown a i b k e =
     (λ h. let f = not-true b h in slot-invalid a i cc, λ h. let f = slot-null a i k h in not-false b cc)

@@ -1,4 +1,4 @@
--- Sameness of arrays is an equivalence.
+-- Equality of flat arrays is an equivalence.
 use Rattle.std.specs.Cmp.{IsEquivalence, on_equiv, and_equiv}
 use Rattle.nest_memory.specs.TypeEq.{same_type-equiv}
 use Rattle.nest_model.specs.Layout.{layout_type}

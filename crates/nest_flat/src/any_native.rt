@@ -5,7 +5,7 @@ ghost use Rattle.nest_flat.specs.Words.{native_kind, native_numbers};
 use crate::any_primitive::Native;
 use nest_memory::types::{days_ms, i256, months_days_ns};
 
-/// A native value, in the variant of its kind.
+/// A native value: one variant for each native type.
 #[derive(Clone, Copy, Debug, PartialEq, Eq, Hash)]
 pub enum AnyNative {
     Int8(i8),
@@ -22,7 +22,7 @@ pub enum AnyNative {
     MonthDayNano(months_days_ns),
 }
 
-// Whether a value has the numbers of another one of its kind.
+// Returns whether `any` is of the kind of `T` and equals `value`.
 fn has_numbers<T: Native>(value: T, any: AnyNative) -> bool
     requires { native_kind any ≡ T.PRIMITIVE }
     ensures { IsTrue result ↔ (T.numbers value ≡ native_numbers any) }
@@ -34,7 +34,7 @@ fn has_numbers<T: Native>(value: T, any: AnyNative) -> bool
 }
 
 impl AnyNative {
-    /// Whether it has the numbers of another value of its kind.
+    /// Returns whether both are of one kind and equal.
     pub fn same_numbers(self, other: AnyNative) -> bool
         requires { native_kind self ≡ native_kind other }
         ensures { IsTrue result ↔ (native_numbers self ≡ native_numbers other) }

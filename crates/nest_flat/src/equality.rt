@@ -1,6 +1,6 @@
-//! Equality of flat arrays: equal data types and equal slots, and equal runs of slots.
+//! Equality of flat arrays (data type and slots), and of ranges of slots.
 ghost use Rattle.std.specs.Prelude.{◌≡◌, ◌↔◌, ◌+◌, ◌≤◌, IsTrue, None};
-ghost use Rattle.nest_flat.specs.Words.{IsSameArray, cut, len, natives_of, run, same_array, slot, with_validity};
+ghost use Rattle.nest_flat.specs.Words.{IsSameArray, sublist, len, natives_of, run, same_array, slot, with_validity};
 
 use crate::binary::BinaryArray;
 use crate::boolean::BooleanArray;
@@ -11,8 +11,8 @@ use nest_memory::offset::Offset;
 use nest_memory::types::NativeType;
 
 impl BooleanArray {
-    /// Whether the n slots from place o are those of the other array from place p. Where neither has a validity,
-    /// raw values alone are compared.
+    /// Returns whether slots `o..o + n` equal slots `p..p + n` of the other array. Without validities only raw values
+    /// are compared.
     pub fn same_run(&self, o: usize, other: &BooleanArray, p: usize, n: usize) -> bool
         requires within { o + n ≤ len self.now }
         requires other_within { p + n ≤ len other.now }
@@ -46,8 +46,8 @@ impl Eq for BooleanArray {
 }
 
 impl<T: NativeType> PrimitiveArray<T> {
-    /// Whether the n slots from place o are those of the other array from place p. Where neither has a validity,
-    /// raw values alone are compared.
+    /// Returns whether slots `o..o + n` equal slots `p..p + n` of the other array. Without validities only raw values
+    /// are compared.
     pub fn same_run(&self, o: usize, other: &PrimitiveArray<T>, p: usize, n: usize) -> bool
         requires within { o + n ≤ len self.now }
         requires other_within { p + n ≤ len other.now }
@@ -56,11 +56,12 @@ impl<T: NativeType> PrimitiveArray<T> {
         flat_array::same_run(self, o, other, p, n)
     }
 
-    /// Whether the n raw values from place o are those of the other array from place p, also under nulls.
+    /// Returns whether raw values `o..o + n` equal raw values `p..p + n` of the other array, including those of
+    /// nulls.
     pub fn equal_block(&self, o: usize, other: &PrimitiveArray<T>, p: usize, n: usize) -> bool
         requires within { o + n ≤ len self.now }
         requires other_within { p + n ≤ len other.now }
-        ensures raw { IsTrue result ↔ (cut (natives_of self.now) o n ≡ cut (natives_of other.now) p n) }
+        ensures raw { IsTrue result ↔ (sublist (natives_of self.now) o n ≡ sublist (natives_of other.now) p n) }
         ensures unmasked { IsTrue result
             ↔ (run (slot (with_validity self.now None)) o n ≡ run (slot (with_validity other.now None)) p n) }
     {
@@ -92,8 +93,8 @@ impl<T: NativeType> Eq for PrimitiveArray<T> {
 }
 
 impl<O: Offset> BinaryArray<O> {
-    /// Whether the n slots from place o are those of the other array from place p. Where neither has a validity,
-    /// raw values alone are compared.
+    /// Returns whether slots `o..o + n` equal slots `p..p + n` of the other array. Without validities only raw values
+    /// are compared.
     pub fn same_run(&self, o: usize, other: &BinaryArray<O>, p: usize, n: usize) -> bool
         requires within { o + n ≤ len self.now }
         requires other_within { p + n ≤ len other.now }
@@ -127,8 +128,8 @@ impl<O: Offset> Eq for BinaryArray<O> {
 }
 
 impl<O: Offset> Utf8Array<O> {
-    /// Whether the n slots from place o are those of the other array from place p. Where neither has a validity,
-    /// raw values alone are compared.
+    /// Returns whether slots `o..o + n` equal slots `p..p + n` of the other array. Without validities only raw values
+    /// are compared.
     pub fn same_run(&self, o: usize, other: &Utf8Array<O>, p: usize, n: usize) -> bool
         requires within { o + n ≤ len self.now }
         requires other_within { p + n ≤ len other.now }

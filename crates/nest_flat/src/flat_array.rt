@@ -1,4 +1,4 @@
-//! What the flat arrays have in common: a raw value and a bit of validity for each slot.
+//! A common interface of the flat arrays: a raw value and a validity bit per slot.
 ghost use Rattle.std.specs.Prelude.{◌≡◌, ◌↔◌, ◌+◌, ◌<◌, ◌≤◌, IsTrue, IsSome, None};
 ghost use Rattle.nest_model.specs.Slot as slots;
 ghost use Rattle.nest_flat.specs.Words.{IsSameArray, Layout, Slot, is_null_at, layout_type, len, null_count, optional, run, slot, slots_of, type_of, validity_of, with_validity};
@@ -8,50 +8,50 @@ use nest_memory::datatypes::DataType;
 
 /// A reference to a flat array.
 pub trait FlatArray: Copy {
-    /// The raw value of a slot.
+    /// The type of raw values.
     type Value;
 
-    /// The array.
+    /// The layout of the array.
     ghost layout: { Self → Layout };
 
-    /// The slot that a value is.
+    /// The slot that a value represents.
     ghost slot_of_value: { Self.Value → Slot };
 
-    /// Its data type.
+    /// Returns the data type.
     fn type_of_slots(&self) -> &DataType
         ensures { type_of result.now ≡ layout_type (layout self.now) };
 
-    /// How many slots it has.
+    /// Returns the number of slots.
     fn count(&self) -> usize
         ensures { result ≡ len (layout self.now) };
 
-    /// How many of them are null.
+    /// Returns the number of null slots.
     fn nulls(&self) -> usize
         ensures { result ≡ null_count (layout self.now) };
 
-    /// Whether slot i is null.
+    /// Returns whether slot `i` is null.
     fn is_null_slot(&self, i: usize) -> bool
         requires { i < len (layout self.now) }
         ensures slot { IsTrue result ↔ (slot (layout self.now) i ≡ slots.null) }
         ensures bit { result ≡ is_null_at (layout self.now) i };
 
-    /// The raw value of slot i.
+    /// Returns the raw value of slot `i`.
     fn value_at(&self, i: usize) -> Self::Value
         requires { i < len (layout self.now) }
         ensures { slot_of_value result ≡ slot (with_validity (layout self.now) None) i };
 
-    /// Whether it has a validity.
+    /// Returns whether the array has a validity.
     fn has_validity(&self) -> bool
         ensures { IsTrue result ↔ IsSome (validity_of (layout self.now)) };
 
-    /// Whether slot i has the same raw value as slot j of the other array.
+    /// Returns whether slot `i` has the same raw value as slot `j` of the other array.
     fn is_same_value(&self, i: usize, other: &Self, j: usize) -> bool
         requires within { i < len (layout self.now) }
         requires other_within { j < len (layout other.now) }
         ensures { IsTrue result
             ↔ (slot (with_validity (layout self.now) None) i ≡ slot (with_validity (layout other.now) None) j) };
 
-    /// Whether the n raw values from place o are those of the other array from place p.
+    /// Returns whether raw values `o..o + n` equal raw values `p..p + n` of the other array.
     fn same_values(&self, o: usize, other: &Self, p: usize, n: usize) -> bool
         requires within { o + n ≤ len (layout self.now) }
         requires other_within { p + n ≤ len (layout other.now) }
@@ -67,7 +67,7 @@ pub trait FlatArray: Copy {
         true
     }
 
-    /// Whether slot i is slot j of the other array.
+    /// Returns whether slot `i` equals slot `j` of the other array.
     fn is_same_slot(&self, i: usize, other: &Self, j: usize) -> bool
         requires within { i < len (layout self.now) }
         requires other_within { j < len (layout other.now) }
@@ -83,7 +83,7 @@ pub trait FlatArray: Copy {
         self.is_same_value(i, other, j)
     }
 
-    /// Whether the n slots from place o are those of the other array from place p, one after another.
+    /// Returns whether slots `o..o + n` equal slots `p..p + n` of the other array, compared one by one.
     fn each_same_slot(&self, o: usize, other: &Self, p: usize, n: usize) -> bool
         requires within { o + n ≤ len (layout self.now) }
         requires other_within { p + n ≤ len (layout other.now) }
@@ -99,7 +99,7 @@ pub trait FlatArray: Copy {
     }
 }
 
-/// The slots of an array, `None` where one is null.
+/// The slots of an array, `None` for nulls.
 #[derive(Clone, Copy)]
 pub struct Slots<A: FlatArray>(pub A);
 
@@ -122,7 +122,7 @@ impl<A: FlatArray> SlotItems for Slots<A> {
     }
 }
 
-/// The raw values of an array, also those under nulls.
+/// Iterator over the raw values of an array, including those of null slots.
 #[derive(Clone, Copy)]
 pub struct Values<A: FlatArray>(pub A);
 
@@ -146,8 +146,8 @@ impl<A: FlatArray> SlotItems for Values<A> {
     }
 }
 
-/// Whether the n slots of a from place o are those of b from place p. Where neither has a validity, raw
-/// values alone are compared.
+/// Returns whether slots `o..o + n` of `a` equal slots `p..p + n` of `b`. Without validities only raw values are
+/// compared.
 pub fn same_run<A: FlatArray>(a: A, o: usize, b: A, p: usize, n: usize) -> bool
     requires within { o + n ≤ len (A.layout a) }
     requires other_within { p + n ≤ len (A.layout b) }
@@ -159,7 +159,7 @@ pub fn same_run<A: FlatArray>(a: A, o: usize, b: A, p: usize, n: usize) -> bool
     a.same_values(o, &b, p, n)
 }
 
-/// Whether arrays of one length have the same slots. Where neither has a null, raw values alone are compared.
+/// Returns whether arrays of one length have the same slots. Without nulls only raw values are compared.
 pub(crate) fn same_slots<A: FlatArray>(a: A, b: A) -> bool
     requires { len (A.layout a) ≡ len (A.layout b) }
     ensures { IsTrue result ↔ (slots_of (A.layout a) ≡ slots_of (A.layout b)) }
@@ -171,7 +171,7 @@ pub(crate) fn same_slots<A: FlatArray>(a: A, b: A) -> bool
     a.each_same_slot(0, &b, 0, n)
 }
 
-/// Whether two arrays have the same data type and the same slots.
+/// Returns whether two arrays have the same data type and the same slots.
 pub fn same_arrays<A: FlatArray>(a: A, b: A) -> bool
     ensures { IsTrue result ↔ IsSameArray (A.layout a) (A.layout b) }
 {

@@ -1,4 +1,4 @@
-//! The slots of a flat array one after another, from both ends.
+//! Double-ended iterators over the slots of flat arrays.
 ghost use Rattle.std.specs.Prelude.{◌≡◌, ◌<◌, length, Some, IfSome};
 ghost use Rattle.std.specs.Iterator.{at_most, UpTo};
 ghost use Rattle.std.specs.Iterator.SizeHint.{IsWithinCount};
@@ -6,26 +6,26 @@ ghost use Rattle.nest_flat.specs.Words.{Layout, Slot, len, slot, slots_of};
 
 use std::marker::Model;
 
-/// What has an item for each slot of an array.
+/// A source of one item per slot of an array.
 pub trait SlotItems: Copy {
     type Item;
 
-    /// The array.
+    /// The layout of the array.
     ghost array: { Self → Layout };
 
-    /// The slot that an item is.
+    /// The slot that an item represents.
     ghost slot_of_item: { Self.Item → Slot };
 
-    /// How many slots there are.
+    /// Returns the number of slots.
     fn count(&self) -> usize
         ensures { result ≡ len (array self.now) };
 
-    /// The item of slot i.
+    /// Returns the item of slot `i`.
     fn item(&self, i: usize) -> Self::Item
         requires { i < len (array self.now) }
         ensures { slot_of_item result ≡ slot (array self.now) i };
 
-    /// The same items, prepared to be asked for slot i and those near it.
+    /// Returns the same source, optimized for access to slot `i` and its neighbours.
     fn prepared(self, i: usize) -> Self
         requires { i < len (array self) }
         ensures { array result ≡ array self }
@@ -35,7 +35,7 @@ pub trait SlotItems: Copy {
     }
 }
 
-/// The items of the slots that are still to come, from both ends; contracts see the list of these slots.
+/// A double-ended iterator over the items of a source. Its model is the list of the slots not yet returned.
 #[derive(Drop)]
 pub struct SlotsIter<S: SlotItems> {
     source: S,
@@ -61,7 +61,7 @@ impl<S: SlotItems> Model for SlotsIter<S> {
 }
 
 impl<S: SlotItems> SlotsIter<S> {
-    /// All slots.
+    /// Returns an iterator over all slots.
     pub fn new(source: S) -> SlotsIter<S>
         ensures { result ≡ slots_of (S.array source) }
     {

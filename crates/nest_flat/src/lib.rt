@@ -1,7 +1,7 @@
-//! Flat arrays in the Arrow format: each slot is null or a boolean, a native value, bytes or a text.
+//! Flat arrays of the Arrow columnar format: primitive, boolean, binary and UTF-8 arrays.
 //!
-//! A statement whose value is never read (`let _ends = ..`, `x.known()`) shows the prover a fact that the next step needs,
-//! and does nothing when it runs.
+//! A statement whose value is unused (`let _ends = ..`, `x.known()`) states a fact for the prover and does nothing at
+//! run time.
 #![tactic(auto)]
 
 pub mod any_native;

@@ -1,4 +1,4 @@
-//! Arrays in one call, from the values or the options of a slice.
+//! Constructors of arrays from slices of values or options.
 ghost use Rattle.std.specs.Prelude.{◌≡◌, ◌≤◌, ◌<◌, ◌⊎◌, ◌++◌, false, IfErr, IfOk, IsOkUnless, None, OnOk, Some, map, option_map, alloc_error};
 ghost use Rattle.std.specs.Option.{option_copied, unwrap_or};
 ghost use Rattle.nest_memory.specs.TypeTree as types;
@@ -25,7 +25,7 @@ use nest_memory::offset::Offset;
 use nest_memory::types::NativeType;
 use std::alloc::Global;
 
-/// Pushes each option of a slice.
+/// Appends each option of a slice.
 fn push_options<T: Copy, B: Grow<Option<T>>>(
     builder: &mut B,
     items: &[Option<T>],
@@ -37,7 +37,7 @@ fn push_options<T: Copy, B: Grow<Option<T>>>(
     extend_by_push(builder, items.iter().copied())
 }
 
-/// Pushes each value of a slice.
+/// Appends each value of a slice.
 fn push_values<T: Copy, B: Grow<Option<T>>>(builder: &mut B, values: &[T]) -> Result<(), Error>
     ensures ok { OnOk result (Extended B.pushed B.refusal B.slot_of_item (map Some values.now) (B.layout builder.old) (B.layout builder.new)) }
     ensures slots { OnOk result (slots_of (B.layout builder.new) ≡ slots_of (B.layout builder.old) ++ map (λ x. B.slot_of_item (Some x)) values.now) }
@@ -48,10 +48,10 @@ fn push_values<T: Copy, B: Grow<Option<T>>>(builder: &mut B, values: &[T]) -> Re
 }
 
 impl<T: NativeType> PrimitiveArray<T> {
-    /// The array of these values, of the data type that stands for such values.
+    /// Returns an array of these values, with the default data type of `T`.
     ///
     /// # Errors
-    /// `Memory`.
+    /// `Memory` if an allocation fails.
     pub fn from_slice(alloc: Global, values: &[T]) -> Result<PrimitiveArray<T>, Error>
         ensures parts { IfOk result (λ a. a ≡ layouts.primitive T.PRIMITIVE (primitive_tree T.PRIMITIVE) (map T.numbers values.now) None) }
         ensures slots { IfOk result (λ a. slots_of a ≡ map (λ x. slots.number (T.numbers x)) values.now) }
@@ -62,11 +62,11 @@ impl<T: NativeType> PrimitiveArray<T> {
         PrimitiveArray::try_new(DataType::from(T::PRIMITIVE), buffer, None)
     }
 
-    /// The array of these values and nulls, of the data type that stands for such values. A validity is made only where
-    /// one is null.
+    /// Returns an array of these values and nulls, with the default data type of `T`. There is a validity only if an
+    /// item is `None`.
     ///
     /// # Errors
-    /// `Memory`.
+    /// `Memory` if an allocation fails.
     pub fn from_options(alloc: Global, items: &[Option<T>]) -> Result<PrimitiveArray<T>, Error>
         ensures parts { IfOk result (λ a. a ≡ layouts.primitive T.PRIMITIVE (primitive_tree T.PRIMITIVE)
             (map (λ x. unwrap_or (option_map T.numbers x) (zeros T.PRIMITIVE)) items.now) (option_bits items.now)) }
@@ -80,26 +80,27 @@ impl<T: NativeType> PrimitiveArray<T> {
 }
 
 impl BooleanArray {
-    /// The array of these booleans, of the type Boolean.
+    /// Returns an array of these booleans, of the type Boolean.
     ///
     /// # Errors
-    /// `Memory`.
+    /// `Memory` if an allocation fails.
     pub fn from_slice(alloc: Global, values: &[bool]) -> Result<BooleanArray, Error>
         ensures parts { IfOk result (λ a. a ≡ layouts.boolean types.boolean values.now None) }
-        ensures slots { IfOk result (λ a. slots_of a ≡ map slots.truth values.now) }
+        ensures slots { IfOk result (λ a. slots_of a ≡ map slots.boolean values.now) }
         ensures memory { IsOkUnless result (Memory alloc_error) }
     {
         let bits = Bitmap::from_bools(alloc, values)?;
         BooleanArray::try_new(DataType::Boolean, bits, None)
     }
 
-    /// The array of these booleans and nulls, of the type Boolean. A validity is made only where one is null.
+    /// Returns an array of these booleans and nulls, of the type Boolean. There is a validity only if an item is
+    /// `None`.
     ///
     /// # Errors
-    /// `Memory`.
+    /// `Memory` if an allocation fails.
     pub fn from_options(alloc: Global, items: &[Option<bool>]) -> Result<BooleanArray, Error>
         ensures parts { IfOk result (λ a. a ≡ layouts.boolean types.boolean (map (λ x. unwrap_or x false) items.now) (option_bits items.now)) }
-        ensures slots { IfOk result (λ a. slots_of a ≡ map (optional slots.truth) items.now) }
+        ensures slots { IfOk result (λ a. slots_of a ≡ map (optional slots.boolean) items.now) }
         ensures memory { IsOkUnless result (Memory alloc_error) }
     {
         let _count = items.len();
@@ -110,16 +111,16 @@ impl BooleanArray {
 }
 
 impl<O: Offset> Utf8Array<O> {
-    /// The array of these texts, of the type `LargeUtf8` or `Utf8` by the width of the offsets.
+    /// Returns an array of these strings, of the type `LargeUtf8` or `Utf8` by the width of the offsets.
     ///
     /// # Errors
-    /// `Overflow` where no offset can stand for the end of the bytes, `Memory`.
+    /// `Overflow` if the number of bytes exceeds the offset type, `Memory` if an allocation fails.
     pub fn from_slice(alloc: Global, texts: &[&str]) -> Result<Utf8Array<O>, Error>
-        ensures slots { IfOk result (λ a. slots_of a ≡ map (λ x. slots.text x.now) texts.now) }
+        ensures slots { IfOk result (λ a. slots_of a ≡ map (λ x. slots.utf8 x.now) texts.now) }
         ensures typed { IfOk result (λ a. layout_type a ≡ text_tree O.IS_LARGE) }
         ensures valid { IfOk result (λ a. validity_of a ≡ None) }
-        ensures room { OnOk result (bytes_held (map (λ x. slots.text x.now) texts.now) ≤ O.largest) }
-        ensures errors { IfErr result (λ e. ((e ≡ Overflow) × (O.largest < bytes_held (map (λ x. slots.text x.now) texts.now))) ⊎ (e ≡ Memory alloc_error)) }
+        ensures room { OnOk result (bytes_held (map (λ x. slots.utf8 x.now) texts.now) ≤ O.largest) }
+        ensures errors { IfErr result (λ e. ((e ≡ Overflow) × (O.largest < bytes_held (map (λ x. slots.utf8 x.now) texts.now))) ⊎ (e ≡ Memory alloc_error)) }
     {
         let mut builder = MutableUtf8Array::new(alloc)?;
         push_values(&mut builder, texts)?;
@@ -127,17 +128,17 @@ impl<O: Offset> Utf8Array<O> {
         builder.freeze()
     }
 
-    /// The array of these texts and nulls, of the type `LargeUtf8` or `Utf8` by the width of the offsets. A validity is made
-    /// only where one is null.
+    /// Returns an array of these strings and nulls, of the type `LargeUtf8` or `Utf8` by the width of the offsets.
+    /// There is a validity only if an item is `None`.
     ///
     /// # Errors
-    /// `Overflow` where no offset can stand for the end of the bytes, `Memory`.
+    /// `Overflow` if the number of bytes exceeds the offset type, `Memory` if an allocation fails.
     pub fn from_options(alloc: Global, items: &[Option<&str>]) -> Result<Utf8Array<O>, Error>
-        ensures slots { IfOk result (λ a. slots_of a ≡ map (λ x. optional slots.text (option_copied x)) items.now) }
+        ensures slots { IfOk result (λ a. slots_of a ≡ map (λ x. optional slots.utf8 (option_copied x)) items.now) }
         ensures typed { IfOk result (λ a. layout_type a ≡ text_tree O.IS_LARGE) }
         ensures valid { IfOk result (λ a. validity_of a ≡ option_bits items.now) }
-        ensures room { OnOk result (bytes_held (map (λ x. optional slots.text (option_copied x)) items.now) ≤ O.largest) }
-        ensures errors { IfErr result (λ e. ((e ≡ Overflow) × (O.largest < bytes_held (map (λ x. optional slots.text (option_copied x)) items.now))) ⊎ (e ≡ Memory alloc_error)) }
+        ensures room { OnOk result (bytes_held (map (λ x. optional slots.utf8 (option_copied x)) items.now) ≤ O.largest) }
+        ensures errors { IfErr result (λ e. ((e ≡ Overflow) × (O.largest < bytes_held (map (λ x. optional slots.utf8 (option_copied x)) items.now))) ⊎ (e ≡ Memory alloc_error)) }
     {
         let mut builder = MutableUtf8Array::new(alloc)?;
         push_options(&mut builder, items)?;
@@ -147,10 +148,10 @@ impl<O: Offset> Utf8Array<O> {
 }
 
 impl<O: Offset> BinaryArray<O> {
-    /// The array of these byte strings, of the type `LargeBinary` or `Binary` by the width of the offsets.
+    /// Returns an array of these byte strings, of the type `LargeBinary` or `Binary` by the width of the offsets.
     ///
     /// # Errors
-    /// `Overflow` where no offset can stand for the end of the bytes, `Memory`.
+    /// `Overflow` if the number of bytes exceeds the offset type, `Memory` if an allocation fails.
     pub fn from_slice(alloc: Global, strings: &[&[u8]]) -> Result<BinaryArray<O>, Error>
         ensures slots { IfOk result (λ a. slots_of a ≡ map (λ x. slots.bytes x.now) strings.now) }
         ensures typed { IfOk result (λ a. layout_type a ≡ binary_tree O.IS_LARGE) }
@@ -164,11 +165,11 @@ impl<O: Offset> BinaryArray<O> {
         builder.freeze()
     }
 
-    /// The array of these byte strings and nulls, of the type `LargeBinary` or `Binary` by the width of the offsets. A validity
-    /// is made only where one is null.
+    /// Returns an array of these byte strings and nulls, of the type `LargeBinary` or `Binary` by the width of the
+    /// offsets. There is a validity only if an item is `None`.
     ///
     /// # Errors
-    /// `Overflow` where no offset can stand for the end of the bytes, `Memory`.
+    /// `Overflow` if the number of bytes exceeds the offset type, `Memory` if an allocation fails.
     pub fn from_options(alloc: Global, items: &[Option<&[u8]>]) -> Result<BinaryArray<O>, Error>
         ensures slots { IfOk result (λ a. slots_of a ≡ map (λ x. optional slots.bytes (option_copied x)) items.now) }
         ensures typed { IfOk result (λ a. layout_type a ≡ binary_tree O.IS_LARGE) }

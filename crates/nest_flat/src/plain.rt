@@ -1,13 +1,13 @@
-//! Plain values: what one slot of a flat array holds, borrowed.
+//! The borrowed value of one slot of a flat array.
 ghost use Rattle.std.specs.Prelude.{◌≡◌};
 ghost use Rattle.nest_flat.specs.Words.{PlainValue, plain_value};
 
 use crate::any_native::AnyNative;
 use crate::any_primitive::Native;
 
-/// A boolean, a native value of any kind, a text or bytes.
+/// A boolean, a native value, a string or bytes.
 ///
-/// Two are equal where they are of one kind and have the same value: a text is no bytes, and 5 of 8 bits is not 5 of 16.
+/// Two are equal if they are of one kind and have the same value: `"a"` is not `b"a"`, and `5_i8` is not `5_i16`.
 #[derive(Clone, Copy, Debug, PartialEq, Eq, Hash)]
 pub enum Plain<'a> {
     Boolean(bool),
@@ -16,12 +16,12 @@ pub enum Plain<'a> {
     Bytes(&'a [u8]),
 }
 
-/// A value that a flat array can hold: a boolean, one of the twelve natives, a text or bytes.
+/// A type whose values a flat array can hold: a boolean, a native type, a string or bytes.
 pub trait AsPlain {
-    /// The value that it is.
+    /// The plain value that it represents.
     ghost value: { Self → PlainValue };
 
-    /// The same value, as a plain one.
+    /// Returns the value as a [`Plain`].
     fn as_plain(&self) -> Plain<'_>
         ensures { plain_value result ≡ value self.now };
 }
@@ -39,7 +39,7 @@ impl<T: Native> AsPlain for T {
 impl AsPlain for bool {
     ghost use Rattle.nest_model.specs.BuilderItem as items;
 
-    ghost value = { items.truth };
+    ghost value = { items.boolean };
 
     fn as_plain(&self) -> Plain<'_> {
         Plain::Boolean(*self)
@@ -49,7 +49,7 @@ impl AsPlain for bool {
 impl<'a> AsPlain for &'a str {
     ghost use Rattle.nest_model.specs.BuilderItem as items;
 
-    ghost value = { λ text. items.text text.now };
+    ghost value = { λ text. items.utf8 text.now };
 
     fn as_plain(&self) -> Plain<'_> {
         Plain::Text(*self)

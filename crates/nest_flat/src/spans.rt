@@ -1,8 +1,8 @@
-//! Offsets over bytes: what arrays of bytes and of texts share.
+//! Offsets into bytes, shared by binary and UTF-8 arrays.
 ghost use Rattle.std.specs.Prelude.{◌≡◌, ◌+◌, ◌↔◌, ◌≤◌, ◌<◌, ◌^◌, [], IfOk, IsOkUnless, IsTrue, IsUtf8, alloc_error, length, replicate, suc};
 ghost use Rattle.nest_model.specs.Fits.{covered as covered_lem};
 ghost use Rattle.nest_flat.specs.Texts.{AreEdges};
-ghost use Rattle.nest_flat.specs.Words.{AreOffsets, EachText, Memory, begin, cut, extent, last_of, count_rows};
+ghost use Rattle.nest_flat.specs.Words.{AreOffsets, EachUtf8, Memory, begin, sublist, extent, last_of, count_rows};
 
 use nest_memory::buffer::Buffer;
 use nest_memory::error::Error;
@@ -12,7 +12,7 @@ use simdutf8::compat::from_utf8;
 use std::alloc::Global;
 use std::str;
 
-/// The last offset.
+/// Returns the last offset.
 pub(crate) fn last<O: Offset>(offsets: &OffsetsBuffer<O>) -> usize
     ensures last { result ≡ last_of offsets.now }
     ensures known { AreOffsets offsets.now }
@@ -21,7 +21,7 @@ pub(crate) fn last<O: Offset>(offsets: &OffsetsBuffer<O>) -> usize
     offsets.last()
 }
 
-/// The bytes of slot i, those between offsets i and i + 1.
+/// Returns the bytes of slot `i`, from offset `i` to offset `i + 1`.
 pub(crate) fn span<'a, O: Offset>(
     offsets: &OffsetsBuffer<O>,
     bytes: &'a Buffer<u8>,
@@ -29,14 +29,14 @@ pub(crate) fn span<'a, O: Offset>(
 ) -> &'a [u8]
     requires fits { last_of offsets.now ≤ length bytes.now }
     requires within { i < count_rows offsets.now }
-    ensures { result.now ≡ cut bytes.now (begin offsets.now i) (extent offsets.now i) }
+    ensures { result.now ≡ sublist bytes.now (begin offsets.now i) (extent offsets.now i) }
 {
     offsets.known();
     let (start, end) = offsets.start_end(i);
     &bytes.as_slice()[start..end]
 }
 
-/// The text that UTF-8 bytes are: those of one slot, which are few.
+/// Returns valid UTF-8 bytes as a string. For the few bytes of one slot.
 pub(crate) fn text_of(bytes: &[u8]) -> &str
     requires { IsUtf8 bytes.now }
     ensures { result.now ≡ bytes.now }
@@ -47,7 +47,7 @@ pub(crate) fn text_of(bytes: &[u8]) -> &str
     }
 }
 
-/// The text that UTF-8 bytes are: those of many slots.
+/// Returns valid UTF-8 bytes as a string. For the bytes of many slots.
 pub(crate) fn long_text_of(bytes: &[u8]) -> &str
     requires { IsUtf8 bytes.now }
     ensures { result.now ≡ bytes.now }
@@ -58,7 +58,7 @@ pub(crate) fn long_text_of(bytes: &[u8]) -> &str
     }
 }
 
-/// The bytes that the offsets cover, from the first to the last.
+/// Returns the bytes from the first offset to the last.
 fn covered<'a, O: Offset>(offsets: &OffsetsBuffer<O>, bytes: &'a Buffer<u8>) -> &'a [u8]
     requires { last_of offsets.now ≤ length bytes.now }
     ensures { result.now ≡ covered_lem offsets.now bytes.now }
@@ -69,7 +69,7 @@ fn covered<'a, O: Offset>(offsets: &OffsetsBuffer<O>, bytes: &'a Buffer<u8>) -> 
     &bytes.as_slice()[first..last]
 }
 
-/// Whether no offset lies inside a character of the text that the offsets cover.
+/// Returns whether every offset is at a character boundary of the string between the first and the last offset.
 fn are_edges<O: Offset>(offsets: &OffsetsBuffer<O>, text: &str) -> bool
     ensures { IsTrue result ↔ AreEdges offsets.now text.now }
 {
@@ -84,11 +84,11 @@ fn are_edges<O: Offset>(offsets: &OffsetsBuffer<O>, text: &str) -> bool
     true
 }
 
-/// Whether the bytes of each slot are UTF-8: all that the offsets cover are tested as one text, of which no offset may
-/// lie inside a character.
+/// Returns whether the bytes of each slot are UTF-8. The bytes of all slots are validated as one string, in which
+/// every offset must be at a character boundary.
 pub(crate) fn are_texts<O: Offset>(offsets: &OffsetsBuffer<O>, bytes: &Buffer<u8>) -> bool
     requires { last_of offsets.now ≤ length bytes.now }
-    ensures { IsTrue result ↔ EachText offsets.now bytes.now }
+    ensures { IsTrue result ↔ EachUtf8 offsets.now bytes.now }
 {
     offsets.known();
     match from_utf8(covered(offsets, bytes)) {
@@ -97,7 +97,7 @@ pub(crate) fn are_texts<O: Offset>(offsets: &OffsetsBuffer<O>, bytes: &Buffer<u8
     }
 }
 
-/// The offsets and the bytes of `length` slots that have none.
+/// Returns the offsets and the bytes of `length` empty slots.
 pub(crate) fn no_bytes<O: Offset>(
     alloc: Global,
     length: usize,

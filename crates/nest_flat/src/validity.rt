@@ -1,17 +1,17 @@
-//! Validities, which may be absent: a bit a slot, 1 where the slot is valid.
+//! Optional validity bitmaps: one bit per slot, 1 if valid.
 ghost use Rattle.std.specs.Prelude.{◌≡◌, ◌+◌, ◌≤◌, ◌<◌, ◌↔◌, IsTrue, IfOk, IsOkUnless, MatchOption, MatchResult, alloc_error};
 ghost use Rattle.nest_memory.specs.declared.error.Error.TheVariants.{OutOfSpec};
-ghost use Rattle.nest_memory.specs.declared.error.Spec.TheVariants.{ValidityLength};
-ghost use Rattle.nest_flat.specs.Words.{FailFirst, Memory, Pass, ValidityCovers, ValidityFits, cut_validity, flat_checks, none_valid, type_of, unset_count, valid_at};
+ghost use Rattle.nest_memory.specs.declared.error.SpecError.TheVariants.{ValidityLength};
+ghost use Rattle.nest_flat.specs.Words.{FailFirst, Memory, Pass, ValidityCovers, ValidityFits, sliced_validity, flat_checks, none_valid, type_of, unset_count, valid_at};
 
 use nest_memory::bitmap::immutable::Bitmap;
 use nest_memory::datatypes::DataType;
 use nest_memory::datatypes::physical_type::PhysicalType;
-use nest_memory::error::{Error, Spec};
+use nest_memory::error::{Error, SpecError};
 use nest_model::fill::Fill;
 use std::alloc::Global;
 
-/// Whether it has a bit for each of n slots.
+/// Returns whether the validity is absent or has one bit for each of `n` slots.
 pub fn fits(validity: &Option<Bitmap>, n: usize) -> bool
     ensures { IsTrue result ↔ ValidityFits validity.now n }
 {
@@ -21,30 +21,33 @@ pub fn fits(validity: &Option<Bitmap>, n: usize) -> bool
     }
 }
 
-/// Takes another validity. `ValidityLength` where it has not a bit for each of n slots; the old one stays then.
+/// Replaces the validity.
+///
+/// # Errors
+/// `ValidityLength` if the new one does not have `n` bits; the old one is kept then.
 pub fn replace(validity: &mut Option<Bitmap>, other: Option<Bitmap>, n: usize) -> Result<(), Error>
     ensures { MatchResult result
         (λ _. ValidityFits other n × (validity.new ≡ other))
         (λ e. (e ≡ OutOfSpec ValidityLength) × (ValidityFits other n → ⊥) × (validity.new ≡ validity.old)) }
 {
     if !fits(&other, n) {
-        return Err(Error::OutOfSpec(Spec::ValidityLength));
+        return Err(Error::OutOfSpec(SpecError::ValidityLength));
     }
     *validity = other;
     Ok(())
 }
 
-/// Keeps the bits of the n slots from place o.
+/// Slices the bits in place to those of slots `o..o + n`.
 pub fn slice(validity: &mut Option<Bitmap>, o: usize, n: usize)
     requires { ValidityCovers validity.old (o + n) }
-    ensures { validity.new ≡ cut_validity validity.old o n }
+    ensures { validity.new ≡ sliced_validity validity.old o n }
 {
     if let Some(bits) = validity {
         bits.slice(o, n);
     }
 }
 
-/// Whether slot i is valid.
+/// Returns whether slot `i` is valid.
 pub fn is_valid(validity: &Option<Bitmap>, i: usize) -> bool
     requires { ValidityCovers validity.now (i + 1) }
     ensures { result ≡ valid_at validity.now i }
@@ -55,7 +58,7 @@ pub fn is_valid(validity: &Option<Bitmap>, i: usize) -> bool
     }
 }
 
-/// How many slots are null.
+/// Returns the number of null slots.
 pub fn null_count(validity: &Option<Bitmap>) -> usize
     ensures { result ≡ unset_count validity.now }
 {
@@ -65,7 +68,10 @@ pub fn null_count(validity: &Option<Bitmap>) -> usize
     }
 }
 
-/// The same bits, shared.
+/// Returns a copy that shares the bits.
+///
+/// # Errors
+/// `Memory` if an allocation fails.
 pub fn clone(validity: &Option<Bitmap>) -> Result<Option<Bitmap>, Error>
     ensures ok { IfOk result (λ v. v ≡ validity.now) }
     ensures err { IsOkUnless result (Memory alloc_error) }
@@ -76,7 +82,10 @@ pub fn clone(validity: &Option<Bitmap>) -> Result<Option<Bitmap>, Error>
     }
 }
 
-/// Of an array filled with nulls: none of its n slots is valid. One of nothing has no validity.
+/// Returns the validity of `n` slots that are all null. With `Fill::Nothing` there is none.
+///
+/// # Errors
+/// `Memory` if an allocation fails.
 pub fn none_valid(alloc: Global, n: usize, fill: Fill) -> Result<Option<Bitmap>, Error>
     ensures ok { IfOk result (λ v. v ≡ none_valid fill n) }
     ensures err { IsOkUnless result (Memory alloc_error) }
@@ -87,9 +96,9 @@ pub fn none_valid(alloc: Global, n: usize, fill: Fill) -> Result<Option<Bitmap>,
     }
 }
 
-/// The first check that fails of a flat array of n slots, of those that every kind ends with: a bit
-/// for each slot, and a data type of this physical type.
-pub(crate) fn fault(
+/// Returns the error of the first failing check of those that every flat array of `n` slots ends with: validity
+/// length, then physical type.
+pub(crate) fn first_error(
     validity: &Option<Bitmap>,
     n: usize,
     data_type: &DataType,
@@ -99,10 +108,10 @@ pub(crate) fn fault(
         MatchOption result (Pass checks) (λ e. FailFirst e checks) }
 {
     if !fits(validity, n) {
-        return Some(Error::OutOfSpec(Spec::ValidityLength));
+        return Some(Error::OutOfSpec(SpecError::ValidityLength));
     }
     if data_type.to_physical_type() != physical {
-        return Some(Error::OutOfSpec(Spec::WrongType));
+        return Some(Error::OutOfSpec(SpecError::WrongType));
     }
     None
 }

@@ -1,4 +1,4 @@
--- Unset bits, counted by whole bytes.
+-- Unset bits, counted a byte at a time.
 use Rattle.std.proofs.Common.{◌≡◌, ℕ, zero, suc, ◌+◌, ◌-◌, ◌*◌, ◌/◌, ◌%◌, ◌^◌, ◌≤◌, ◌<◌, Bool, true, false, not, cond, List, [], ◌∷◌, ◌++◌, map, arith, ap, sym, ◌∙◌, refl, nat_eq, get_or, count_by, take, replicate, IsTrue, ◌⊎◌, inl, inr}
 use Rattle.std.specs.List.{range_with_len}
 use Rattle.std.specs.Int.{bit_at, w8, count_zeros}
@@ -6,18 +6,18 @@ use lib.Count.{ones, ones_step, ones-le}
 use Rattle.std.proofs.lemmas.List.Sums.{sum_by-cons, sum_by-append, count_by-le-length}
 use Rattle.std.proofs.lemmas.Nat.Bits.{bit_at-suc, bit_at_not, bit_at-lt}
 use Rattle.nest_memory.specs.Bits.{bit, bits_from}
-use Rattle.nest_memory.specs.Cut.{cut}
+use Rattle.nest_memory.specs.Sublist.{sublist}
 use Rattle.std.proofs.lemmas.List.{get_or-take}
 use Rattle.std.proofs.lemmas.Bool.{eqb-true}
 use Rattle.nest_memory.proofs.BitLists.{bits_cut, bits_len, bits_same, bits_none}
 
--- a digit as a truth and back
+-- a digit as a Boolean and back
 digit_cond : (b : ℕ) → b < 2 → cond (nat_eq b 1) 1 0 ≡ b
 digit_cond zero h = refl
 digit_cond (suc zero) h = refl
 digit_cond (suc (suc n)) h = absurd (omega arith)
 
--- where the list's unset places are the set digits of m
+-- the unset indices of the list are the set digits of m
 ones_counted : (f : ℕ → Bool) (o k m : ℕ) → m < 2 ^ k → ((i : ℕ) → i < k → not (f (o + i)) ≡ nat_eq (bit_at m i) 1) → count_by not (map f (range_with_len o k)) ≡ ones m
 ones_counted f o zero m h same = omega (arith, ones-le 0 m h)
 ones_counted f o (suc k) m h same =
@@ -49,7 +49,7 @@ byte_unset bytes q b e h =
     ∙ flip (bit_at b i) (bit_at-lt b i)
     ∙ ap (λ x. nat_eq x 1) (sym (bit_at_not w8 b i (omega arith) lt)))
 
--- bits after bits
+-- bits appended to bits
 range_append : {X : Type 0} (f : ℕ → X) (o a b : ℕ) → map f (range_with_len o (a + b)) ≡ map f (range_with_len o a) ++ map f (range_with_len (o + a) b)
 range_append f o zero b =
     let n : 0 + b ≡ b = omega arith in
@@ -69,11 +69,11 @@ bits_append bytes = range_append (bit bytes)
 pub unset_append : (bytes : List ℕ) (o a b : ℕ) → count_by not (bits_from bytes o (a + b)) ≡ count_by not (bits_from bytes o a) + count_by not (bits_from bytes (o + a) b)
 unset_append bytes o a b = ap (count_by not) (bits_append bytes o a b) ∙ sum_by-append (λ x. cond (not x) 1 0) (bits_from bytes o a) (bits_from bytes (o + a) b)
 
--- no more than there are
+-- at most as many as there are bits
 pub unset_le : (bytes : List ℕ) (o n : ℕ) → count_by not (bits_from bytes o n) ≤ n
 unset_le bytes o n = omega (arith, count_by-le-length not (bits_from bytes o n), bits_len bytes o n)
 
--- no bits, and one bit more
+-- no bits, and one more bit
 pub unset_none : (bytes : List ℕ) (o : ℕ) → count_by not (bits_from bytes o 0) ≡ 0
 unfolding bits_from
 unset_none bytes o = refl
@@ -92,7 +92,7 @@ unset_more_no bytes o n e =
     let d : cond (not (bit bytes (o + n))) 1 0 ≡ zero = ap (λ b. cond b 1 0) e in
     omega (arith, unset_append bytes o n 1, unset_one bytes (o + n), d)
 
--- of a part, and of what is before it and behind it
+-- of a slice, and of the bits before and after it
 unset_around : (bytes : List ℕ) (o n a m : ℕ) → a + m ≤ n → count_by not (bits_from bytes o n) ≡ count_by not (bits_from bytes o a) + count_by not (bits_from bytes (o + a) m) + count_by not (bits_from bytes (o + (a + m)) (n - (a + m)))
 unset_around bytes o n a m h =
     let e : n ≡ a + (m + (n - (a + m))) = omega arith in
@@ -101,23 +101,23 @@ unset_around bytes o n a m h =
     let u = ap (λ k. count_by not (bits_from bytes k (n - (a + m)))) s in
     omega (arith, t, u, unset_append bytes o a (m + (n - (a + m))), unset_append bytes (o + a) m (n - (a + m)))
 
-unset_cut : (bytes : List ℕ) (bits : List Bool) (o n a m : ℕ) → bits_from bytes o n ≡ bits → a + m ≤ n → count_by not (cut bits a m) ≡ count_by not (bits_from bytes (o + a) m)
-unset_cut bytes bits o n a m e h = ap (λ xs. count_by not (cut xs a m)) (sym e) ∙ ap (count_by not) (bits_cut bytes o n a m h)
+unset_cut : (bytes : List ℕ) (bits : List Bool) (o n a m : ℕ) → bits_from bytes o n ≡ bits → a + m ≤ n → count_by not (sublist bits a m) ≡ count_by not (bits_from bytes (o + a) m)
+unset_cut bytes bits o n a m e h = ap (λ xs. count_by not (sublist xs a m)) (sym e) ∙ ap (count_by not) (bits_cut bytes o n a m h)
 
--- known of the whole, it is known of a part that is all of it, or where it is none
-pub unset_kept : (bytes : List ℕ) (bits : List Bool) (o n a m k : ℕ) → bits_from bytes o n ≡ bits → a + m ≤ n → (k ≡ 0) ⊎ (m ≡ n) → k ≡ count_by not (bits_from bytes o n) → k ≡ count_by not (cut bits a m)
+-- if the count of the list is known, so is that of a slice that is all of it, or that of any slice if the count is 0
+pub unset_kept : (bytes : List ℕ) (bits : List Bool) (o n a m k : ℕ) → bits_from bytes o n ≡ bits → a + m ≤ n → (k ≡ 0) ⊎ (m ≡ n) → k ≡ count_by not (bits_from bytes o n) → k ≡ count_by not (sublist bits a m)
 unset_kept bytes bits o n a m k e h (inl z) c = omega (arith, unset_cut bytes bits o n a m e h, unset_around bytes o n a m h)
 unset_kept bytes bits o n a m k e h (inr w) c =
     omega (arith, unset_cut bytes bits o n a m e h, unset_around bytes o n a m h, unset_le bytes o a, unset_le bytes (o + (a + m)) (n - (a + m)))
 
--- and of any part, where what is around it was counted
-pub unset_between : (bytes : List ℕ) (bits : List Bool) (o n a m k before after : ℕ) → bits_from bytes o n ≡ bits → a + m ≤ n → k ≡ count_by not (bits_from bytes o n) → before ≡ count_by not (bits_from bytes o a) → after ≡ count_by not (bits_from bytes (o + (a + m)) (n - (a + m))) → (before + after ≤ k) × (k - before - after ≡ count_by not (cut bits a m))
+-- and that of any slice, if the bits around it were counted
+pub unset_between : (bytes : List ℕ) (bits : List Bool) (o n a m k before after : ℕ) → bits_from bytes o n ≡ bits → a + m ≤ n → k ≡ count_by not (bits_from bytes o n) → before ≡ count_by not (bits_from bytes o a) → after ≡ count_by not (bits_from bytes (o + (a + m)) (n - (a + m))) → (before + after ≤ k) × (k - before - after ≡ count_by not (sublist bits a m))
 unset_between bytes bits o n a m k before after e h c p q =
     let x = unset_cut bytes bits o n a m e h in
     let y = unset_around bytes o n a m h in
     (omega arith, omega arith)
 
--- one byte more
+-- one more byte
 pub unset_byte_more : (bytes : List ℕ) (first i b : ℕ) → get_or bytes (first + i) 0 ≡ b → b < 256 → count_by not (bits_from bytes (8 * first) (8 * (i + 1))) ≡ count_by not (bits_from bytes (8 * first) (8 * i)) + count_zeros w8 b
 unset_byte_more bytes first i b e h =
     let n : 8 * (i + 1) ≡ 8 * i + 8 = omega arith in
@@ -127,7 +127,7 @@ unset_byte_more bytes first i b e h =
     ∙ ap (λ m. count_by not (bits_from bytes (8 * first) (8 * i)) + count_by not (bits_from bytes m 8)) s
     ∙ ap (λ m. count_by not (bits_from bytes (8 * first) (8 * i)) + m) (byte_unset bytes (first + i) b e h)
 
--- a part of a byte, whole bytes, and a part of a byte
+-- part of a byte, full bytes, and part of a byte
 pub unset_parts : (bytes : List ℕ) (start head whole tail : ℕ) → (0 < whole → (start + head) % 8 ≡ 0) → count_by not (bits_from bytes start head) + count_by not (bits_from bytes (8 * ((start + head) / 8)) (8 * whole)) + count_by not (bits_from bytes (start + head + 8 * whole) tail) ≡ count_by not (bits_from bytes start (head + 8 * whole + tail))
 unset_parts bytes start head whole tail h =
     let e = middle whole h in
@@ -142,7 +142,7 @@ unset_parts bytes start head whole tail h =
         let e : 8 * ((start + head) / 8) ≡ start + head = omega arith in
         ap (λ k. count_by not (bits_from bytes k (8 * suc n))) e
 
--- ---- bits that are all one truth
+-- ---- bits of one value
 pub bits_filled : (bytes : List ℕ) (o k : ℕ) (v : Bool) → ((j : ℕ) → o ≤ j → j < o + k → bit bytes j ≡ v) → bits_from bytes o k ≡ replicate k v
 unfolding bits_from
 bits_filled bytes o k v = filled (bit bytes) o k
@@ -154,7 +154,7 @@ bits_filled bytes o k v = filled (bit bytes) o k
         let rest = filled f (o + 1) k (λ j low high. h j (omega arith) (omega arith)) in
         λ i. here i ∷ rest i
 
--- the first n kept, and k of one truth after them
+-- the first n bits are kept, and k bits of one value follow
 pub bits_extended : (bs cs : List ℕ) (n k : ℕ) (v : Bool) → ((j : ℕ) → n ≤ j → j < n + k → bit bs j ≡ v) → ((j : ℕ) → j < n → bit bs j ≡ bit cs j) → bits_from bs 0 (n + k) ≡ bits_from cs 0 n ++ replicate k v
 bits_extended bs cs n k v filled keeps =
     let z : 0 + n ≡ n = omega arith in
@@ -175,7 +175,7 @@ bit_same_byte bs cs j e = ap (λ x. nat_eq (bit_at x (j % 8)) 1) e
 pub bit_take : (bytes cs : List ℕ) (q j : ℕ) → cs ≡ take q bytes → j < 8 * q → bit cs j ≡ bit bytes j
 bit_take bytes cs q j e h = bit_same_byte cs bytes j (ap (λ xs. get_or xs (j / 8) 0) e ∙ get_or-take q bytes (j / 8) 0 (omega arith))
 
--- no bits where there is no length
+-- no bits if the length is 0
 pub bits_empty : (bytes : List ℕ) (o n : ℕ) (ys : List Bool) → bits_from bytes o n ≡ ys → (IsTrue (nat_eq n 0) → ys ≡ []) × (ys ≡ [] → IsTrue (nat_eq n 0))
 unfolding bits_from
 bits_empty bytes o zero ys e = (λ t. sym e, λ t. refl)

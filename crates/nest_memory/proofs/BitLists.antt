@@ -1,4 +1,4 @@
--- Lists of bits of bytes: their length, their items and their cuts.
+-- Lists of bits of bytes: their length, their items and their slices.
 use Rattle.std.proofs.Common.{◌≡◌, ◌≢◌, ℕ, zero, suc, ◌+◌, ◌-◌, ◌*◌, ◌/◌, ◌%◌, ◌≤◌, ◌<◌, Bool, true, List, [], ◌∷◌, take, drop, length, map, arith, ap, sym, ◌∙◌, refl, nat_eq, get_or, get_or-set_same, get_or-set_other}
 use Rattle.std.specs.Prelude.{Some, slice_get, slice_set, ◌++◌}
 use Rattle.std.specs.List.{range_with_len}
@@ -8,7 +8,7 @@ use Rattle.std.proofs.lemmas.Bool.{cases_eq}
 use Rattle.std.proofs.lemmas.List.{get_or_read, ext_get_or, length-set, get_or_append_left}
 use Rattle.std.proofs.lemmas.List.FromFn.{get_or-map-range_with_len, length-map-range_with_len, take-map-range_with_len, map-range_with_len_more}
 use Rattle.nest_memory.specs.Bits.{bit, bits_from}
-use Rattle.nest_memory.specs.Cut.{cut}
+use Rattle.nest_memory.specs.Sublist.{sublist}
 
 module _ {X : Type 0} (f : ℕ → X) where
   made_get : (o n i : ℕ) → i < n → slice_get (map f (range_with_len o n)) i ≡ Some (f (o + i))
@@ -28,7 +28,7 @@ module _ {X : Type 0} (f : ℕ → X) where
       let m : n - a ≡ suc n - suc a = omega arith in
       made_drop (o + 1) n a ∙ λ i. map f (range_with_len (e i) (m i))
 
-  made_cut : (o n a m : ℕ) → a + m ≤ n → cut (map f (range_with_len o n)) a m ≡ map f (range_with_len (o + a) m)
+  made_cut : (o n a m : ℕ) → a + m ≤ n → sublist (map f (range_with_len o n)) a m ≡ map f (range_with_len (o + a) m)
   made_cut o n a m h = ap (take m) (made_drop o n a) ∙ take-map-range_with_len f (o + a) (n - a) m (omega arith)
 
 pub bits_len : (bytes : List ℕ) (o n : ℕ) → length (bits_from bytes o n) ≡ n
@@ -39,7 +39,7 @@ pub bits_get : (bytes : List ℕ) (o n i : ℕ) → i < n → slice_get (bits_fr
 unfolding bits_from
 bits_get bytes = made_get (bit bytes)
 
-pub bits_cut : (bytes : List ℕ) (o n a m : ℕ) → a + m ≤ n → cut (bits_from bytes o n) a m ≡ bits_from bytes (o + a) m
+pub bits_cut : (bytes : List ℕ) (o n a m : ℕ) → a + m ≤ n → sublist (bits_from bytes o n) a m ≡ bits_from bytes (o + a) m
 unfolding bits_from
 bits_cut bytes = made_cut (bit bytes)
 
@@ -56,7 +56,7 @@ pub bit_kept : (bytes : List ℕ) (q b j : ℕ) → j / 8 ≢ q → bit (slice_s
 unfolding bit
 bit_kept bytes q b j e = ap (λ x. nat_eq (bit_at x (j % 8)) 1) (get_or-set_other bytes q (j / 8) b 0 e)
 
--- after a write of a byte in which bit k % 8 alone may differ
+-- after a write of a byte that changes at most bit k % 8
 pub bit_put_other : (bytes : List ℕ) (k b x j : ℕ) → k < 8 * length bytes → x ≡ get_or bytes (k / 8) x → ((i : ℕ) → i < 8 → i ≢ k % 8 → bit_at b i ≡ bit_at x i) → j ≢ k → bit (slice_set bytes (k / 8) b) j ≡ bit bytes j
 unfolding bit
 bit_put_other bytes k b x j h e same n =

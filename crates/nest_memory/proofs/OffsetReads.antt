@@ -1,4 +1,4 @@
--- Offsets read by place, pushed many at a time, and joined.
+-- Offsets: reads by index, appends of several, and joins.
 use Rattle.std.proofs.Common.{◌≡◌, ℕ, zero, suc, ◌+◌, ◌-◌, ◌≤◌, ◌<◌, true, false, List, [], ◌∷◌, ◌++◌, take, drop, length, map, replicate, sum, arith, ap, sym, ◌∙◌, refl, get_or, length-drop, subst, append_assoc}
 use Rattle.std.specs.Prelude.{ℤ, pos, negsuc, ◌&&◌, ◌==◌, slice_get, slice_index, Some}
 use Rattle.std.proofs.lemmas.List.{take_more, take_all, map-append, append-nil, get_or-drop}
@@ -6,11 +6,11 @@ use Rattle.std.proofs.lemmas.List.Sums.{sum_by-cons}
 use Rattle.std.specs.Cmp.{first_so, second_so}
 use Rattle.std.proofs.lemmas.Bool.{eqb-true}
 use Rattle.std.proofs.lemmas.Option.{slice_get-get_or, slice_get_within}
-use Rattle.nest_memory.specs.Rising.{numbers, are_offsets, are_offsets_from_zero, ends_from, rises_from, last_of, last_of-cons, below_zero, to_nat, NeverFalls}
+use Rattle.nest_memory.specs.Rising.{numbers, are_offsets, are_offsets_from_zero, ends_from, rises_from, last_of, last_of-cons, below_zero, to_nat, IsNondecreasing}
 use Rattle.nest_memory.proofs.Rises.{offsets_at, offsets_order, offsets_some, numbers_get, numbers_push, numbers_last, start_push, Starts, last_more, last_before}
 
 module _ {A : Type 0} (v : A → ℤ) where
-  -- ---- one offset, by its place
+  -- ---- one offset, by index
   pub read_plain : (xs : List A) (i : ℕ) (x : A) → are_offsets (map v xs) ≡ true → i < length xs → x ≡ get_or xs i x → below_zero (v x) ≡ false
   read_plain xs i x r h e = ap (λ y. below_zero (v y)) e ∙ offsets_at v xs i x r h
 
@@ -44,7 +44,7 @@ module _ {A : Type 0} (v : A → ℤ) where
     eqb-true (to_nat (v x)) 0 (second_so (rises_from 0 (v x ∷ map v xs)) (to_nat (v x) == 0) r),
   )
 
-  -- ---- the last one, many times
+  -- ---- the last one, repeated
   plain_value : (z : ℤ) → below_zero z ≡ false → z ≡ pos (to_nat z)
   plain_value (pos n) e = refl
   plain_value (negsuc n) e = cc
@@ -81,14 +81,14 @@ module _ {A : Type 0} (v : A → ℤ) where
   start_repeat xs ys k y n e h l q = subst (Starts v) (sym e) (start_same k xs y n h l q)
 
 module _ {A : Type 0} where
-  -- what a `resize` to a larger length leaves
+  -- the list after a `resize` to a larger length
   pub resized : (xs ys : List A) (len room k : ℕ) (y : A) → ys ≡ take room xs ++ replicate (room - len) y → len ≡ length xs → room ≡ len + k → ys ≡ xs ++ replicate k y
   resized xs ys len room k y e l r =
       let a = take_all room xs (omega arith) in
       let b : room - len ≡ k = omega arith in
       e ∙ λ i. a i ++ replicate (b i) y
 
--- ---- many lengths
+-- ---- several lengths
 last_end : (a : ℕ) (ls : List ℕ) → last_of (a ∷ ends_from a ls) ≡ a + sum ls
 last_end a [] = omega arith
 last_end a (l ∷ ls) =
@@ -100,7 +100,7 @@ last_end a (l ∷ ls) =
 pub last_ends : (before ls : List ℕ) → 1 ≤ length before → last_of (before ++ ends_from (last_of before) ls) ≡ last_of before + sum ls
 last_ends before ls h = last_before before (ends_from (last_of before) ls) (last_of before) h refl ∙ last_end (last_of before) ls
 
--- ---- other offsets after these
+-- ---- offsets after other offsets
 pub joined_more : (ms ns : List ℕ) (i n : ℕ) → slice_get ns (i + 1) ≡ Some n → (ms ++ map (λ k. last_of ms + k) (take i (drop 1 ns))) ++ (last_of ms + n) ∷ [] ≡ ms ++ map (λ k. last_of ms + k) (take (i + 1) (drop 1 ns))
 joined_more ms ns i n e =
     let f = λ (k : ℕ). last_of ms + k in
@@ -114,14 +114,14 @@ joined_more ms ns i n e =
     ∙ ap (λ x. ms ++ map f (take i (drop 1 ns) ++ x ∷ [])) (sym here)
     ∙ ap (λ xs. ms ++ map f xs) (sym (take_more (drop 1 ns) i 0 lt))
 
--- a place that was read
+-- an index that was read
 pub index_read : (ns : List ℕ) (i n : ℕ) → slice_get ns i ≡ Some n → slice_index ns i ≡ n
 index_read ns i n e =
     let g = slice_get-get_or ns i 0 (slice_get_within ns i n e) in
     cc
 
--- no offset is past the last one
-pub within_last : (ns : List ℕ) (i n : ℕ) → NeverFalls ns → slice_get ns i ≡ Some n → n ≤ last_of ns
+-- no offset exceeds the last one
+pub within_last : (ns : List ℕ) (i n : ℕ) → IsNondecreasing ns → slice_get ns i ≡ Some n → n ≤ last_of ns
 within_last ns i n rising e =
     let w = slice_get_within ns i n e in
     let g = slice_get-get_or ns i 0 w in

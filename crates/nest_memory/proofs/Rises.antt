@@ -1,4 +1,4 @@
--- Offsets that never fall: their items, their cuts and one more of them.
+-- Offsets that never decrease: their items, their slices, and appends.
 use Rattle.std.proofs.Common.{◌≡◌, ℕ, zero, suc, ◌+◌, ◌-◌, ◌≤◌, ◌<◌, true, false, List, [], ◌∷◌, ◌++◌, take, drop, length, map, arith, ap, sym, ◌∙◌, refl, get_or, length-take, length-drop, subst, add-one, append_assoc}
 use Rattle.std.specs.Prelude.{ℤ, pos, negsuc, ◌&&◌, nat_le, slice_get, slice_index, Some}
 use Rattle.std.specs.Cmp.{first_so, second_so}
@@ -7,10 +7,10 @@ use Rattle.std.proofs.lemmas.List.{length-map, take-map, get_or-map}
 use Rattle.std.proofs.lemmas.Option.{slice_get-get_or, slice_get_within}
 use Rattle.std.specs.List.{drop-map}
 use Rattle.std.proofs.Math.Seq.{drop-cons}
-use Rattle.nest_memory.specs.Rising.{numbers, are_offsets, ends_from, rises_from, last_of, last_of-cons, below_zero, to_nat, NeverFalls}
-use Rattle.nest_memory.specs.Cut.{cut}
+use Rattle.nest_memory.specs.Rising.{numbers, are_offsets, ends_from, rises_from, last_of, last_of-cons, below_zero, to_nat, IsNondecreasing}
+use Rattle.nest_memory.specs.Sublist.{sublist}
 
--- ---- numbers that rise from a number
+-- ---- numbers that never decrease, from a start
 pub weaken : (low n : ℕ) (zs : List ℤ) → low ≤ n → rises_from n zs ≡ true → rises_from low zs ≡ true
 weaken low n [] h r = refl
 weaken low n (pos m ∷ zs) h r =
@@ -75,7 +75,7 @@ unfolding are_offsets
 to_offsets [] r h = absurd (omega arith)
 to_offsets (z ∷ zs) r h = r
 
--- ---- the loop that looks for a fall
+-- ---- the loop that looks for a decrease
 pub starts : (z : ℤ) (zs : List ℤ) → are_offsets (z ∷ zs) ≡ rises_from 0 (z ∷ zs)
 unfolding are_offsets
 starts z zs = refl
@@ -98,7 +98,7 @@ module _ {A : Type 0} (v : A → ℤ) where
   unfolding numbers
   numbers_len xs = length-map xs _
 
-  pub numbers_cut : (xs : List A) (o n : ℕ) → cut (numbers v xs) o n ≡ numbers v (cut xs o n)
+  pub numbers_cut : (xs : List A) (o n : ℕ) → sublist (numbers v xs) o n ≡ numbers v (sublist xs o n)
   unfolding numbers
   numbers_cut xs o n = ap (take n) (drop-map _ o xs) ∙ take-map _ n (drop o xs)
 
@@ -123,12 +123,12 @@ module _ {A : Type 0} (v : A → ℤ) where
       let b = ap to_nat (get_or-map v xs (i + 1) e (v e) h) in
       omega arith
 
-  pub offsets_cut : (xs : List A) (o n : ℕ) → are_offsets (map v xs) ≡ true → o + n ≤ length xs → 1 ≤ n → are_offsets (map v (cut xs o n)) ≡ true
+  pub offsets_cut : (xs : List A) (o n : ℕ) → are_offsets (map v xs) ≡ true → o + n ≤ length xs → 1 ≤ n → are_offsets (map v (sublist xs o n)) ≡ true
   offsets_cut xs o n r h k =
-      let e : take n (drop o (map v xs)) ≡ map v (cut xs o n) = ap (take n) (drop-map v o xs) ∙ take-map v n (drop o xs) in
-      to_offsets (map v (cut xs o n))
+      let e : take n (drop o (map v xs)) ≡ map v (sublist xs o n) = ap (take n) (drop-map v o xs) ∙ take-map v n (drop o xs) in
+      to_offsets (map v (sublist xs o n))
       (subst (λ (zs : List ℤ). rises_from 0 zs ≡ true) e (rises_take 0 (drop o (map v xs)) n (rises_drop 0 (map v xs) o (from_offsets (map v xs) r).0)))
-      (omega (arith, length-map (cut xs o n) v, length-take n (drop o xs), length-drop o xs))
+      (omega (arith, length-map (sublist xs o n) v, length-take n (drop o xs), length-drop o xs))
 
 module _ {A : Type 0} where
   read : (ys : List A) (i : ℕ) (x : A) → slice_get ys i ≡ Some x → (i < length ys) × (x ≡ get_or ys i x)
@@ -154,7 +154,7 @@ module _ {A : Type 0} where
       let d : to_nat (v (get_or ys (i + 1) y)) ≡ n = ap (λ z. to_nat (v z)) (sym b.1) ∙ ap to_nat (sym q) in
       omega arith
 
-  -- one turn of the loop that looks for a fall
+  -- one turn of the loop that looks for a decrease
   pub turn_drop : (xs : List A) (i : ℕ) (x : A) → i < length xs → x ≡ get_or xs i x → drop i xs ≡ x ∷ drop (i + 1) xs
   turn_drop xs i x h e = drop-cons xs i x h ∙ (λ k. sym e k ∷ drop (suc i) xs) ∙ (let s : suc i ≡ i + 1 = omega arith in ap (λ j. x ∷ drop j xs) s)
 
@@ -259,7 +259,7 @@ module _ {A : Type 0} (v : A → ℤ) where
   number_at : (xs : List A) (i : ℕ) → i < length xs → get_or (numbers v xs) i 0 ≡ to_nat (get_or (map v xs) i (pos 0))
   number_at xs i h = ap (λ ns. get_or ns i 0) (numbers_map xs) ∙ get_or-map to_nat (map v xs) i (pos 0) 0 (omega (arith, length-map xs v))
 
-  pub numbers_never_fall : (xs : List A) → are_offsets (map v xs) ≡ true → NeverFalls (numbers v xs)
+  pub numbers_never_fall : (xs : List A) → are_offsets (map v xs) ≡ true → IsNondecreasing (numbers v xs)
   numbers_never_fall xs r i j l h =
       let k : j < length xs = omega (arith, numbers_len v xs) in
       let a = number_at xs i (omega arith) in
@@ -267,8 +267,8 @@ module _ {A : Type 0} (v : A → ℤ) where
       let o = between 0 (map v xs) i j (pos 0) (pos 0) (from_offsets (map v xs) r).0 l (omega (arith, length-map xs v)) in
       omega arith
 
-  pub never_fall_as : (xs : List A) (ns : List ℕ) → numbers v xs ≡ ns → are_offsets (map v xs) ≡ true → NeverFalls ns
-  never_fall_as xs ns e r = subst NeverFalls e (numbers_never_fall xs r)
+  pub never_fall_as : (xs : List A) (ns : List ℕ) → numbers v xs ≡ ns → are_offsets (map v xs) ≡ true → IsNondecreasing ns
+  never_fall_as xs ns e r = subst IsNondecreasing e (numbers_never_fall xs r)
 
 module _ {A : Type 0} (v : A → ℤ) where
   abbrev pub Starts : List A → Type 0
@@ -313,7 +313,7 @@ last_before (b ∷ []) [] a h e = e
 last_before (b ∷ []) (n ∷ ns) a h e = last_of-cons b n ns ∙ sym (last_of-cons a n ns)
 last_before (b ∷ (c ∷ cs)) ns a h e = last_of-cons b c (cs ++ ns) ∙ last_before (c ∷ cs) ns a (omega arith) (sym (last_of-cons b c cs) ∙ e)
 
--- one length more
+-- one more length
 pub ends_more : (before ls : List ℕ) (i l : ℕ) → 1 ≤ length before → i < length ls → l ≡ get_or ls i 0 → (before ++ ends_from (last_of before) (take i ls)) ++ (last_of (before ++ ends_from (last_of before) (take i ls)) + l) ∷ [] ≡ before ++ ends_from (last_of before) (take (i + 1) ls)
 ends_more before ls i l n h g =
     let a = last_of before in

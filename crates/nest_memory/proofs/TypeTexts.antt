@@ -31,7 +31,7 @@ fields-end fs k after head done h w =
     let all = sym (append-nil done) ∙ sym (ap (λ gs. done ++ text_of_fields after (field_list_of gs)) (drop_all k fs h)) ∙ w in
     append_assoc head done (codes ">") ∙ ap (λ x. head ++ (x ++ codes ">")) all
 
--- the same of a union's fields
+-- the same for the fields of a union
 pub picks-step : (ids : Option (List ℤ)) (fs : Seq Field) (k : ℕ) (x : Field) (done sep whole : List ℕ) → k < length fs → x ≡ get_or fs k x → sep ≡ separator_text (nat_lt 0 k)
     → done ++ text_of_picks ids k (field_list_of (drop k fs)) ≡ whole
     → ((((done ++ sep) ++ text_of_field (field_of x)) ++ codes "=") ++ signed_decimal (id_at ids k)) ++ text_of_picks ids (k + 1) (field_list_of (drop (k + 1) fs)) ≡ whole
@@ -53,7 +53,7 @@ picks-end ids fs k head done h w =
     let all = sym (append-nil done) ∙ sym (ap (λ gs. done ++ text_of_picks ids k (field_list_of gs)) (drop_all k fs h)) ∙ w in
     append_assoc head done (codes ">") ∙ ap (λ x. head ++ (x ++ codes ">")) all
 
--- a map's key and value, of two fields
+-- the key and the value of a map, as two fields
 pub parts-two : (fs : Seq Field) (x y : Field) → length fs ≡ 2 → x ≡ get_or fs 0 x → y ≡ get_or fs 1 y
     → (text_of_part (codes "key") (field_of x) ++ codes ", ") ++ text_of_part (codes "value") (field_of y) ≡ text_of_parts (field_list_of fs)
 parts-two [] x y h e g = absurd (omega arith)

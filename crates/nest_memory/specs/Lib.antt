@@ -1,6 +1,6 @@
 pub mod Bits
-pub mod Cut
-pub mod CutLaws
+pub mod Sublist
+pub mod SliceLaws
 pub mod Native
 pub mod NativeStructs
 pub mod Physical

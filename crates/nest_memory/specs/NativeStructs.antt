@@ -1,4 +1,4 @@
--- The native values of several numbers, high half or longest unit first.
+-- Native values of several integers, high half or longest unit first.
 use Rattle.std.specs.Prelude.{◌≡◌, ◌==◌, ◌&&◌, ℤ, pos, List, [], ◌∷◌}
 use Rattle.std.specs.Bool.{Decides}
 use Rattle.std.specs.Ordering.{int_eq}
@@ -7,7 +7,7 @@ use Rattle.nest_memory.specs.declared.types.i256.{i256}
 use Rattle.nest_memory.specs.declared.types.days_ms.{days_ms}
 use Rattle.nest_memory.specs.declared.types.months_days_ns.{months_days_ns}
 
--- Of this project: the halves of 256 bits.
+-- The halves of 256 bits; this library's own.
 abbrev pub halves : i256 → List ℤ
 halves v = v.high ∷ pos v.low ∷ []
 
@@ -19,7 +19,7 @@ days_numbers v = v.days ∷ v.milliseconds ∷ []
 abbrev pub months_numbers : months_days_ns → List ℤ
 months_numbers v = v.months ∷ v.days ∷ v.ns ∷ []
 
--- Values with the same numbers are the same.
+-- Values with equal integers are equal.
 pub halves-one : (a b : i256) → halves a ≡ halves b → a ≡ b
 halves-one a b h =
     let p : a.high ≡ b.high = cc in
@@ -39,7 +39,7 @@ months-one a b h =
     let r : a.ns ≡ b.ns = cc in
     λ i. record { months = p i; days = q i; ns = r i }
 
--- `==` says whether the numbers are the same.
+-- `==` decides whether the integers are equal.
 pub halves-decides : (a b : i256) → Decides (int_eq a.high b.high && (a.low == b.low)) (halves a ≡ halves b)
 halves-decides a b =
     Decides-like

@@ -1,4 +1,4 @@
--- How the values of each data type lie in memory: the Arrow columnar format, "Physical Memory Layout", with the widths of `Schema.fbs`.
+-- The layout of each data type: "Physical Memory Layout" of the Arrow columnar format, with the widths of `Schema.fbs`.
 use Rattle.std.specs.Prelude.{◌≡◌, Bool, if◌then◌else◌, refl}
 use Rattle.nest_memory.specs.TypeTree as types
 use Rattle.nest_memory.specs.TypeTree.{TypeTree}
@@ -17,7 +17,7 @@ interval_type YearMonth = primitive.Int32
 interval_type DayTime = primitive.DaysMs
 interval_type MonthDayNano = primitive.MonthDayNano
 
--- "Physical Memory Layout": how the values of the logical type lie in memory.
+-- "Physical Memory Layout": the physical type of the logical type.
 abbrev pub physical_type : TypeTree → PhysicalType
 physical_type types.null = physical.Null
 physical_type types.boolean = physical.Boolean
@@ -55,17 +55,17 @@ physical_type (types.decimal p s) = physical.Primitive primitive.Int128
 physical_type (types.decimal256 p s) = physical.Primitive primitive.Int256
 physical_type (types.extension n t m) = physical_type t
 
--- "Variable-size List Layout", "Variable-size Binary Layout": offsets have 32 bits, or 64 where it is large.
+-- "Variable-size List Layout", "Variable-size Binary Layout": large layouts have 64-bit offsets, others 32-bit ones.
 abbrev pub list_of_width : Bool → PhysicalType
 list_of_width large = if large then physical.LargeList else physical.List
 
 abbrev pub binary_of_width : Bool → PhysicalType
 binary_of_width large = if large then physical.LargeBinary else physical.Binary
 
-abbrev pub text_of_width : Bool → PhysicalType
-text_of_width large = if large then physical.LargeUtf8 else physical.Utf8
+abbrev pub utf8_of_width : Bool → PhysicalType
+utf8_of_width large = if large then physical.LargeUtf8 else physical.Utf8
 
--- Of this project, as arrow2 has it: the data type of a dictionary's keys, and of an array that names only its native type.
+-- As in arrow2: the data type of dictionary keys, and the default data type of a native type.
 abbrev pub integer_tree : IntegerType → TypeTree
 integer_tree integers.Int8 = types.int8
 integer_tree integers.Int16 = types.int16
@@ -93,7 +93,7 @@ primitive_tree primitive.Float64 = types.float64
 primitive_tree primitive.DaysMs = types.interval DayTime
 primitive_tree primitive.MonthDayNano = types.interval MonthDayNano
 
--- An array of that data type has that native type.
+-- The physical type of the default data type is the native type.
 pub physical_type-primitive_tree : (p : PrimitiveType) → physical_type (primitive_tree p) ≡ physical.Primitive p
 physical_type-primitive_tree primitive.Int8 = refl
 physical_type-primitive_tree primitive.Int16 = refl

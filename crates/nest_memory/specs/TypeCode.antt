@@ -1,4 +1,4 @@
--- Of this project: a code of data types, by which a value that holds one is told apart from another.
+-- An injective code of data types; this library's own.
 use Rattle.std.specs.Prelude.{◌≡◌, ℕ, ℤ, Bool, List, Option, nat_eq, false}
 use Rattle.std.specs.Coded.{Coded, coded_ℕ, coded_ℤ, coded_bool, coded_list, coded×, coded_option}
 use Rattle.std.proofs.Common.{refl, ap, arith}
@@ -13,7 +13,7 @@ use Rattle.nest_memory.specs.contracts.datatypes.IntegerType.{the_row as integer
 use Rattle.nest_memory.specs.contracts.datatypes.UnionMode.{the_row as mode_row}
 use Rattle.nest_memory.specs.TypeTree.{Letters, Entries, TypeTree, null, boolean, int8, int16, int32, int64, uint8, uint16, uint32, uint64, float16, float32, float64, timestamp, date32, date64, time32, time64, duration, interval, binary, fixed_size_binary, large_binary, utf8, large_utf8, list, fixed_size_list, large_list, struct, union, map, dictionary, decimal, decimal256, extension, FieldTree, field, FieldTrees, no_fields, more_fields}
 
--- Numbers that a test tells apart are not equal.
+-- Numbers that compare as different are not equal.
 pub apart : (m n : ℕ) → nat_eq m n ≡ false → m ≡ n → ⊥
 apart m n h e = grind (arith)
 
@@ -94,7 +94,7 @@ abbrev mutual
   code_fields no_fields = gnil
   code_fields (more_fields f fs) = gcons (code_field f) (code_fields fs)
 
--- A code begins with the number of its constructor.
+-- The constructor number, with which a code begins.
 abbrev pub tag : Gv → ℕ
 tag g = num (head g)
 

@@ -1,4 +1,4 @@
--- Of this project: the test of two data types, which decides whether they are equal.
+-- Decides whether two data types are equal; this library's own.
 use Rattle.std.specs.Prelude.{◌≡◌, ℕ, Bool, true, false, ◌&&◌, nat_eq, refl}
 use Rattle.std.specs.Bool.{Decides}
 use Rattle.std.specs.Cmp.{IsEquivalence, decided, first_so, second_so}
@@ -8,7 +8,7 @@ use base.Stored.{Gv, gnil, gnum, gcons}
 use Rattle.nest_memory.specs.TypeTree.{TypeTree, FieldTree}
 use Rattle.nest_memory.specs.TypeCode.{code_type, type_one, code_field, field_one}
 
--- Whether two codes are the same.
+-- Whether two codes are equal.
 abbrev pub same_code : Gv → Gv → Bool
 same_code gnil gnil = true
 same_code (gnum n) (gnum m) = nat_eq n m
@@ -34,7 +34,7 @@ own gnil = refl
 own (gnum n) = (Decides-eqb n n).1 refl
 own (gcons a b) = let p = own a in let q = own b in λ i. p i && q i
 
--- Whether two data types are the same.
+-- Whether two data types are equal.
 abbrev pub same_type : TypeTree → TypeTree → Bool
 same_type k l = same_code (code_type k) (code_type l)
 
@@ -44,7 +44,7 @@ same_type-decides k l = (λ h. type_one k l (found _ _ h), λ e. subst (λ (m : 
 pub same_type-equiv : IsEquivalence same_type
 same_type-equiv = decided same_type same_type-decides
 
--- Whether two fields are the same.
+-- Whether two fields are equal.
 abbrev pub same_field : FieldTree → FieldTree → Bool
 same_field k l = same_code (code_field k) (code_field l)
 

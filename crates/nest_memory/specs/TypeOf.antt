@@ -1,4 +1,4 @@
--- Of this project: the tree that a data type of the program stands for.
+-- The tree that a `DataType` represents; this library's own.
 use Rattle.std.specs.Prelude.{◌≡◌, suc, length, nat_eq, List, [], ◌∷◌, map, String, string_bytes, ℕ, ℤ, Option, None, Some}
 use Rattle.std.specs.Option.{option_map}
 use Rattle.std.proofs.Common.{refl, ap, sym, arith}
@@ -10,12 +10,12 @@ use Rattle.nest_memory.specs.declared.datatypes.DataType.{DataType, fold-DataTyp
 use Rattle.nest_memory.specs.declared.datatypes.field.Field.{Field, fold-Field}
 use Rattle.nest_memory.specs.declared.datatypes.DataType.TheOpen.{DataType-F, Field-F}
 
--- A text that may be absent, as its bytes.
+-- An optional string, as its bytes.
 abbrev pub text_of : Option (String Global) → Option Letters
 text_of None = None
 text_of (Some s) = Some (string_bytes s)
 
--- A map from texts to texts, as the pairs of their bytes.
+-- A map of strings, as the pairs of their bytes.
 abbrev pub entries_of : List (String Global × String Global) → Entries
 entries_of es = map (λ e. (string_bytes e.0, string_bytes e.1)) es
 
@@ -24,7 +24,7 @@ abbrev pub field_trees : List FieldTree → FieldTrees
 field_trees [] = no_fields
 field_trees (f ∷ fs) = more_fields f (field_trees fs)
 
--- One level of a data type, whose inner types are trees already.
+-- One level of a data type whose inner types are trees.
 abbrev pub type_step : DataType-F TypeTree FieldTree → TypeTree
 type_step DataType-F.Null = types.null
 type_step DataType-F.Boolean = types.boolean
@@ -73,7 +73,7 @@ type_of = fold-DataType TypeTree FieldTree type_step field_step
 abbrev pub field_of : Field → FieldTree
 field_of = fold-Field TypeTree FieldTree type_step field_step
 
--- The trees of a struct's or a union's fields.
+-- The trees of the fields of a struct or a union.
 abbrev pub field_list_of : List Field → FieldTrees
 field_list_of fs = field_trees (map field_of fs)
 
@@ -82,7 +82,7 @@ pub count_fields-field_list_of : (fs : List Field) → count_fields (field_list_
 count_fields-field_list_of [] = refl
 count_fields-field_list_of (f ∷ fs) = ap suc (count_fields-field_list_of fs)
 
--- They are two exactly where the list has two.
+-- The tree has two fields exactly if the list has two.
 pub are_two-field_list_of : (fs : List Field) → are_two (field_list_of fs) ≡ nat_eq (length fs) 2
 are_two-field_list_of [] = refl
 are_two-field_list_of (f ∷ []) = refl

@@ -1,5 +1,5 @@
--- Data types as text (of this project), in the forms in which pyarrow prints them. Of a field it tells its name, its type and whether
--- it is nullable; of an extension its name and the type that it extends.
+-- Data types as text, in the format of pyarrow; this library's own. A field has its name, its type and whether it is
+-- nullable; an extension type has its name and its storage type.
 use Rattle.std.specs.Prelude.{ℕ, ◌+◌, ℤ, pos, nat_lt, get_or, Bool, true, false, List, [], ◌++◌, Option, Some, None, codes, decimal, if◌then◌else◌}
 use Rattle.std.specs.Fmt.{signed_decimal}
 use Rattle.std.specs.Str.{bytes_eq}
@@ -29,11 +29,11 @@ order_text ordered = if ordered then codes ", ordered=1>" else codes ", ordered=
 abbrev pub nullable_text : Bool → List ℕ
 nullable_text b = if b then [] else codes " not null"
 
--- what stands before a field that comes after another
+-- the separator before every field but the first
 abbrev pub separator_text : Bool → List ℕ
 separator_text after = if after then codes ", " else []
 
--- a name other than the usual one, in quotes
+-- a name that is not the usual one, in quotes
 abbrev pub unusual : List ℕ → List ℕ → List ℕ
 unusual usual name = if bytes_eq usual name then [] else codes " ('" ++ (name ++ codes "')")
 
@@ -53,7 +53,7 @@ integer_text integers.UInt16 = codes "uint16"
 integer_text integers.UInt32 = codes "uint32"
 integer_text integers.UInt64 = codes "uint64"
 
--- the type id of field k: its position where there are no ids
+-- the type id of field k, which is k if there are no ids
 abbrev pub id_at : Option (List ℤ) → ℕ → ℤ
 id_at None k = pos k
 id_at (Some ids) k = get_or ids k (pos 0)
@@ -99,8 +99,8 @@ abbrev mutual
   text_of_type (types.decimal256 digits after) = codes "decimal256(" ++ (decimal digits ++ (codes ", " ++ (decimal after ++ codes ")")))
   text_of_type (types.extension name t metadata) = codes "extension<" ++ (name ++ (codes ", " ++ (text_of_type t ++ codes ">")))
 
-  -- a map's key and value, whether its keys are sorted, and the entries' name. Entries that are no struct of two fields, which no map of
-  -- the format has, stand as one type.
+  -- The key and the value of a map, whether its keys are sorted, and the name of the entries. Entries that are not a
+  -- struct of two fields, which the format does not allow, appear as one type.
   pub text_of_entries : Bool → FieldTree → List ℕ
   text_of_entries sorted (field name t nullable metadata) = (if is_pair t then text_of_pair t else text_of_type t) ++ entries_end sorted name
 
@@ -115,7 +115,7 @@ abbrev mutual
   pub text_of_part : List ℕ → FieldTree → List ℕ
   text_of_part usual (field name t nullable metadata) = text_of_type t ++ unusual usual name
 
-  -- `name: type`, and ` not null` where it is
+  -- `name: type`, and ` not null` if the field is not nullable
   pub text_of_field : FieldTree → List ℕ
   text_of_field (field name t nullable metadata) = name ++ (codes ": " ++ (text_of_type t ++ nullable_text nullable))
 

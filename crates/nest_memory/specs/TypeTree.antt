@@ -1,5 +1,5 @@
--- What a data type is, without memory: the tree that contracts compare. It restates `Field` and the union `Type` of `Schema.fbs`
--- of the Arrow columnar format, with its "Extension Types" as a type of their own.
+-- Data types as trees without memory, which contracts compare: `Field` and the union `Type` of `Schema.fbs`
+-- of the Arrow columnar format, with "Extension Types" as a constructor.
 use Rattle.std.specs.Prelude.{ℕ, suc, ℤ, Bool, true, false, List, Option, Some, None}
 use Rattle.nest_memory.specs.declared.datatypes.TimeUnit.{TimeUnit}
 use Rattle.nest_memory.specs.declared.datatypes.IntervalUnit.{IntervalUnit}
@@ -7,11 +7,11 @@ use Rattle.nest_memory.specs.declared.datatypes.IntegerType.{IntegerType}
 use Rattle.nest_memory.specs.declared.datatypes.UnionMode.{UnionMode}
 use Rattle.nest_memory.specs.declared.datatypes.UnionMode.TheVariants.{Dense, Sparse}
 
--- Of this project: a text as the list of its bytes.
+-- A string as the list of its bytes; this library's own.
 abbrev pub Letters : Type 0
 Letters = List ℕ
 
--- "Custom Application Metadata": a field's pairs of key and value, in rising order of keys.
+-- "Custom Application Metadata": the pairs of key and value of a field, in ascending order of keys.
 abbrev pub Entries : Type 0
 Entries = List (Letters × Letters)
 
@@ -46,27 +46,27 @@ mutual
     fixed_size_list : FieldTree → ℕ → TypeTree
     large_list : FieldTree → TypeTree
     struct : FieldTrees → TypeTree
-    -- its fields, their type ids where it has some, its mode
+    -- fields, optional type ids, mode
     union : FieldTrees → Option (List ℤ) → UnionMode → TypeTree
-    -- the field of its entries, whether their keys are sorted
+    -- field of the entries, whether the keys are sorted
     map : FieldTree → Bool → TypeTree
-    -- the type of its keys, the type of its values, whether the values are ordered
+    -- type of the keys, type of the values, whether the values are ordered
     dictionary : IntegerType → TypeTree → Bool → TypeTree
-    -- the digits in all, those after the point
+    -- precision, scale
     decimal : ℕ → ℕ → TypeTree
     decimal256 : ℕ → ℕ → TypeTree
-    -- its name, the type that it extends, its metadata
+    -- name, storage type, metadata
     extension : Letters → TypeTree → Option Letters → TypeTree
 
   pub data FieldTree : Type 0 where
-    -- its name, its type, whether it is nullable, its metadata
+    -- name, type, whether it is nullable, metadata
     field : Letters → TypeTree → Bool → Entries → FieldTree
 
   pub data FieldTrees : Type 0 where
     no_fields : FieldTrees
     more_fields : FieldTree → FieldTrees → FieldTrees
 
--- "Extension Types": the type that stores it, without its outer extensions.
+-- "Extension Types": the storage type, without outer extension types.
 abbrev pub logical_type : TypeTree → TypeTree
 logical_type (extension n t m) = logical_type t
 logical_type t = t
@@ -80,7 +80,7 @@ abbrev pub count_fields : FieldTrees → ℕ
 count_fields no_fields = 0
 count_fields (more_fields f fs) = suc (count_fields fs)
 
--- "Variable-size List Layout", "Fixed-Size List Layout": the field of the items, or of a map's entries.
+-- "Variable-size List Layout", "Fixed-Size List Layout": the field of the items, or of the entries of a map.
 abbrev pub item_field : TypeTree → Option FieldTree
 item_field (list f) = Some f
 item_field (fixed_size_list f s) = Some f
@@ -98,14 +98,14 @@ item_type (map f b) = Some (field_type f)
 item_type (extension n t m) = item_type t
 item_type t = None
 
--- "Fixed-Size List Layout": how many bytes or items each slot of a fixed size has; 0 of any other type.
+-- "Fixed-Size List Layout": the number of bytes or items in each slot; 0 of any other type.
 abbrev pub size_of : TypeTree → ℕ
 size_of (fixed_size_binary s) = s
 size_of (fixed_size_list f s) = s
 size_of (extension n t m) = size_of t
 size_of t = 0
 
--- The same, where there is one.
+-- The size of a fixed-size type; `None` of any other type.
 abbrev pub fixed_size : TypeTree → Option ℕ
 fixed_size (fixed_size_binary s) = Some s
 fixed_size (fixed_size_list f s) = Some s
@@ -119,14 +119,14 @@ fields_of (union fs ids mode) = fs
 fields_of (extension n t m) = fields_of t
 fields_of t = no_fields
 
--- The same, where it is a struct or a union.
+-- The fields of a struct or a union; `None` of any other type.
 abbrev pub own_fields : TypeTree → Option FieldTrees
 own_fields (struct fs) = Some fs
 own_fields (union fs ids mode) = Some fs
 own_fields (extension n t m) = own_fields t
 own_fields t = None
 
--- "Union Layout": the type ids of a union's fields, where it has some.
+-- "Union Layout": the type ids of a union, if it has any.
 abbrev pub ids_of : TypeTree → Option (List ℤ)
 ids_of (union fs ids mode) = ids
 ids_of (extension n t m) = ids_of t
@@ -138,12 +138,12 @@ mode_of (union fs ids mode) = Some mode
 mode_of (extension n t m) = mode_of t
 mode_of t = None
 
--- "Dense Union": whether slots are found by offsets.
+-- "Dense Union": whether the mode is dense.
 abbrev pub is_dense_mode : UnionMode → Bool
 is_dense_mode Dense = true
 is_dense_mode Sparse = false
 
--- The same of a type; false of any but a union.
+-- Whether the type is a dense union.
 abbrev pub is_dense : TypeTree → Bool
 is_dense (union fs ids mode) = is_dense_mode mode
 is_dense (extension n t m) = is_dense t
@@ -161,7 +161,7 @@ value_type (dictionary k t b) = Some t
 value_type (extension n t m) = value_type t
 value_type t = None
 
--- `DictionaryEncoding.isOrdered` of `Schema.fbs`; false of any but a dictionary.
+-- `DictionaryEncoding.isOrdered` of `Schema.fbs`; false of any other type.
 abbrev pub is_ordered : TypeTree → Bool
 is_ordered (dictionary k t b) = b
 is_ordered (extension n t m) = is_ordered t
@@ -172,7 +172,7 @@ abbrev pub are_two : FieldTrees → Bool
 are_two (more_fields a (more_fields b no_fields)) = true
 are_two fs = false
 
--- Whether it is a struct, no extension of one, of two fields.
+-- Whether the type is a struct of two fields, and not an extension type.
 abbrev pub is_pair : TypeTree → Bool
 is_pair (struct fs) = are_two fs
 is_pair t = false

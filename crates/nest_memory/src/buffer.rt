@@ -1,16 +1,17 @@
-//! A window of a vector that several buffers share.
+//! A shared slice of a vector.
 ghost use Rattle.std.specs.Prelude.{◌≡◌, ◌+◌, ◌≤◌, ◌<◌, IfOk, IsTrue, ◌↔◌, length, [], slice_get, Some, IsOkUnless, replicate, alloc_error};
 ghost use Rattle.nest_memory.specs.declared.error.Error.TheVariants.{Memory};
-ghost use Rattle.nest_memory.specs.Cut.{cut};
+ghost use Rattle.nest_memory.specs.Sublist.{sublist};
 
 use crate::error::Error;
 use std::alloc::Global;
 use std::marker::Model;
 use std::rc::Rc;
 
-/// Values that never change, in memory that its clones and cuts share. arrow2's `Buffer`.
+/// An immutable buffer, whose clones and slices share memory; arrow2's `Buffer`.
 ///
-/// The values lie one after another, as in a `Vec` ("Buffer listing for each layout" of the Arrow columnar format).
+/// Values are contiguous, as in a `Vec` ("Buffer listing for each layout" of the Arrow columnar format). Each
+/// `Result` is [`Error::Memory`] where an allocation fails.
 #[derive(Drop)]
 pub struct Buffer<T> {
     data: Rc<Vec<T>>,
@@ -20,17 +21,17 @@ pub struct Buffer<T> {
 
 impl<T> Model for Buffer<T> {
     ghost use Rattle.std.specs.Prelude.{List, ◌+◌, ◌≤◌, length};
-    ghost use Rattle.nest_memory.specs.Cut.{cut};
+    ghost use Rattle.nest_memory.specs.Sublist.{sublist};
 
     ghost Value = { List T };
 
-    ghost view = { λ b. cut b.data.value.items b.start b.len };
+    ghost view = { λ b. sublist b.data.value.items b.start b.len };
 
     ghost invariant = { λ b. b.start + b.len ≤ length b.data.value.items };
 }
 
 impl<T: Copy> Buffer<T> {
-    /// The values of a vector, whose memory it takes over.
+    /// Returns a buffer that takes over the memory of a vector.
     pub fn from_vec(alloc: Global, items: Vec<T>) -> Result<Buffer<T>, Error>
         ensures ok { IfOk result (λ b. b ≡ items.items) }
         ensures err { IsOkUnless result (Memory alloc_error) }
@@ -44,7 +45,7 @@ impl<T: Copy> Buffer<T> {
         })
     }
 
-    /// No value.
+    /// Returns an empty buffer.
     pub fn new(alloc: Global) -> Result<Buffer<T>, Error>
         ensures ok { IfOk result (λ b. b ≡ []) }
         ensures err { IsOkUnless result (Memory alloc_error) }
@@ -52,7 +53,7 @@ impl<T: Copy> Buffer<T> {
         Buffer::from_vec(alloc, Vec::new(alloc))
     }
 
-    /// `length` times one value, in one request for the values.
+    /// Returns `length` copies of a value, in a single allocation of values.
     pub fn filled(alloc: Global, value: T, length: usize) -> Result<Buffer<T>, Error>
         ensures ok { IfOk result (λ b. b ≡ replicate length value) }
         ensures err { IsOkUnless result (Memory alloc_error) }
@@ -62,21 +63,21 @@ impl<T: Copy> Buffer<T> {
         Buffer::from_vec(alloc, items)
     }
 
-    /// The number of values.
+    /// Returns the number of values.
     pub fn len(&self) -> usize
         ensures { result ≡ length self.now }
     {
         self.len
     }
 
-    /// Whether there is no value.
+    /// Returns whether there are no values.
     pub fn is_empty(&self) -> bool
         ensures { IsTrue result ↔ (self.now ≡ []) }
     {
         self.len == 0
     }
 
-    /// The values themselves.
+    /// Returns the values as a slice.
     pub fn as_slice(&self) -> &[T]
         ensures { result.now ≡ self.now }
     {
@@ -84,7 +85,7 @@ impl<T: Copy> Buffer<T> {
         &self.data.as_slice()[self.start..end]
     }
 
-    /// Value `i`.
+    /// Returns value `i`.
     pub fn get(&self, i: usize) -> T
         requires { i < length self.now }
         ensures { slice_get self.now i ≡ Some result }
@@ -92,26 +93,26 @@ impl<T: Copy> Buffer<T> {
         self.data[self.start + i]
     }
 
-    /// Keeps the `len` values from place `offset`; nothing moves.
+    /// Slices the buffer to `len` values from index `offset`, without copying.
     pub fn slice(&mut self, offset: usize, len: usize)
         requires { offset + len ≤ length self.old }
-        ensures { self.new ≡ cut self.old offset len }
+        ensures { self.new ≡ sublist self.old offset len }
     {
         self.start += offset;
         self.len = len;
     }
 
-    /// The `len` values from place `offset`; nothing moves.
+    /// Returns the slice of `len` values from index `offset`, without copying.
     pub fn sliced(self, offset: usize, len: usize) -> Buffer<T>
         requires { offset + len ≤ length self }
-        ensures { result ≡ cut self offset len }
+        ensures { result ≡ sublist self offset len }
     {
         let mut cut = self;
         cut.slice(offset, len);
         cut
     }
 
-    /// Another owner of the same values; none is copied. `Memory` where the owners can't be counted.
+    /// Returns a buffer that shares the values, or [`Error::Memory`] where the reference count would overflow.
     pub fn clone(&self) -> Result<Buffer<T>, Error>
         ensures ok { IfOk result (λ b. b ≡ self.now) }
         ensures err { IsOkUnless result (Memory alloc_error) }

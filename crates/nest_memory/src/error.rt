@@ -1,20 +1,20 @@
-//! What the calls of these crates refuse.
+//! The errors of this library's array crates.
 ghost use Rattle.std.specs.Prelude.{◌≡◌, alloc_error};
 ghost use Rattle.nest_memory.specs.declared.error.Error.TheVariants.{Memory};
 
 use std::alloc::{AllocError, AllocFailed};
 
-/// The result of a call that may be refused.
+/// The result of a call with this library's [`Error`].
 pub type Result<T> = std::result::Result<T, Error>;
 
-/// Parts that are no array of the Arrow columnar format, or not this kind of array.
+/// How parts violate the Arrow columnar format, or the layout of this kind of array.
 #[derive(Clone, Copy, Debug, PartialEq, Eq, thiserror::Error)]
-pub enum Spec {
-    #[error("the data type is not one of this kind of array, or has another size")]
+pub enum SpecError {
+    #[error("the data type does not match this kind of array, or its size differs")]
     WrongType,
     #[error("slots of a fixed size must have a size of at least 1")]
     ZeroSize,
-    #[error("a child's data type is not the one that the data type states")]
+    #[error("a child's data type differs from the one that the data type names")]
     ChildType,
     #[error("the number of values is not a multiple of the fixed size")]
     NotMultiple,
@@ -26,63 +26,63 @@ pub enum Spec {
     NoFields,
     #[error("there must be one child for each field")]
     FieldCount,
-    #[error("the children of a struct must have one length")]
+    #[error("the children of a struct must have equal lengths")]
     ChildLength,
     #[error("a union has at most 127 fields")]
     TooManyFields,
-    #[error("a dense union must have one offset for each type")]
+    #[error("a dense union must have one offset for each type id")]
     OffsetCount,
-    #[error("a dense union needs offsets, and a sparse one has none")]
+    #[error("a dense union requires offsets, and a sparse union must have none")]
     UnionMode,
-    #[error("a union with ids must have one id for each field")]
+    #[error("a union with type ids must have one for each field")]
     IdCount,
-    #[error("the ids of a union must be from 0 to 127")]
+    #[error("the type ids of a union must be from 0 to 127")]
     IdRange,
-    #[error("a type of the union names none of its fields")]
+    #[error("a slot of the union has a type id that no field has")]
     UnionType,
-    #[error("a field of the union lacks a slot that the union reads")]
+    #[error("a slot of the union is outside its child")]
     UnionSlot,
-    #[error("the data type states another type of dictionary keys")]
+    #[error("the dictionary keys are not of the key type of the data type")]
     KeyType,
-    #[error("a dictionary key is negative or past the values")]
+    #[error("a dictionary key is negative or past the end of the values")]
     KeyRange,
-    #[error("offsets must begin at or above 0 and never fall")]
+    #[error("offsets must start at or above 0 and never decrease")]
     Offsets,
-    #[error("the values are not UTF-8, or an offset lies inside a character")]
-    Text,
+    #[error("the values are not UTF-8, or an offset is inside a character")]
+    Utf8,
 }
 
-/// Arguments that a call does not take.
+/// Why an argument is invalid.
 #[derive(Clone, Copy, Debug, PartialEq, Eq, thiserror::Error)]
-pub enum Argument {
-    #[error("the field's data type is not that of the map's entries")]
+pub enum ArgumentError {
+    #[error("the field's data type differs from that of the map's entries")]
     ChildType,
     #[error("the entries of a map must be a struct of exactly two fields")]
     MapInner,
     #[error("a null array or a union has no validity")]
     NoValidity,
-    #[error("the item has another size than the slots")]
+    #[error("the size of the item differs from that of the slots")]
     ItemSize,
-    #[error("the item, or the other builder, has another type")]
+    #[error("the type of the item, or of the other builder, differs from this builder's")]
     ItemType,
-    #[error("a row of the builder is not whole")]
-    Unfinished,
-    #[error("the lengths do not end where the values end")]
+    #[error("a row of the builder is incomplete")]
+    Incomplete,
+    #[error("the lengths do not end at the end of the values")]
     LengthsSum,
-    #[error("the values of the dictionary are not of the type asked for")]
+    #[error("the values of the dictionary are not of the requested type")]
     ValuesType,
     #[error("the child of a new builder must be empty")]
     ChildNotEmpty,
 }
 
-/// Why a call was refused.
+/// The error returned by the functions of arrays and builders.
 #[derive(Clone, Copy, Debug, PartialEq, Eq, thiserror::Error)]
 pub enum Error {
     #[error("out of specification: {0}")]
-    OutOfSpec(Spec),
+    OutOfSpec(SpecError),
     #[error("invalid argument: {0}")]
-    InvalidArgumentError(Argument),
-    #[error("a length, a product, an offset or a key is past its type")]
+    InvalidArgumentError(ArgumentError),
+    #[error("a length, a product, an offset or a key overflows its type")]
     Overflow,
     #[error("not yet implemented: arrays of floats")]
     NotYetImplemented,

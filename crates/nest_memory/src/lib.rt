@@ -1,7 +1,7 @@
-//! Columnar memory: shared buffers, bitmaps, offsets, data types, and the refusals of the crates above.
+//! Columnar memory: shared buffers, bitmaps, offsets, data types and errors.
 //!
-//! A statement whose value is never read (`let _len = ..`, `x.known()`, `prove!(..)`) shows the prover a fact that the
-//! next step needs, and does nothing when it runs.
+//! A statement whose value is never read (`let _len = ..`, `x.known()`, `prove!(..)`) states a fact for the prover and
+//! does nothing at run time.
 #![tactic(auto)]
 
 pub mod bitmap;

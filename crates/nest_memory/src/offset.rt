@@ -1,9 +1,10 @@
-//! The numbers that stand as offsets.
+//! The integer types of offsets.
 ghost use Rattle.std.specs.Prelude.{◌≡◌, ◌<◌, ◌≤◌, ◌^◌, ℕ, ℤ, pos, Bool, true, false, MatchOption};
 ghost use Rattle.nest_memory.specs.Rising.{below_zero, largest_offset};
 
-/// An integer type of offsets: `i32` in the small layouts, `i64` in the large ones
-/// ("Variable-size Binary Layout" and "Variable-size List Layout" of the Arrow columnar format). arrow2's `Offset`.
+/// An integer type of offsets: `i32` in the small layouts, `i64` in the large ones; arrow2's `Offset`.
+///
+/// Source: "Variable-size Binary Layout" and "Variable-size List Layout" of the Arrow columnar format.
 pub trait Offset: Copy {
     ghost value: { Self → ℤ };
 
@@ -14,23 +15,23 @@ pub trait Offset: Copy {
     /// Whether an offset has 64 bits.
     const IS_LARGE: bool;
 
-    /// Whether the offset is below 0.
+    /// Returns whether the offset is negative.
     fn is_negative(&self) -> bool
         ensures { result ≡ below_zero (value self.now) };
 
-    /// The offset as a place.
+    /// Returns the offset as a `usize`.
     fn to_usize(&self) -> usize
         requires { below_zero (value self.now) ≡ false }
         ensures value { pos result ≡ value self.now }
         ensures fits { result ≤ largest };
 
-    /// The offset of this value; `None` where it is past the largest one.
+    /// Returns the offset of this value, or `None` if it exceeds the largest one.
     fn from_usize(n: usize) -> Option<Self>
         ensures { MatchOption result (largest < n) (λ o. (value o ≡ pos n) × (n ≤ largest)) };
 
     ghost small: { largest < 2 ^ 63 };
 
-    // The width alone tells which offset is the largest.
+    // The width determines the largest offset.
     ghost largest_is: { largest ≡ largest_offset IS_LARGE };
 }
 

@@ -1,18 +1,18 @@
-//! Offsets that grow, and offsets that are shared.
+//! Growable offsets and shared offsets.
 ghost use Rattle.std.specs.Prelude.{◌≡◌, ◌↔◌, ◌⊎◌, ℕ, ◌+◌, ◌-◌, ◌<◌, ◌≤◌, ◌^◌, List, [], ◌∷◌, ◌++◌, true, false, IfOk, IfErr, OnOk, OnErr, IsErrOf, IsOkUnless, IsTrue, length, slice_get, slice_index, Some, take, drop, map, sum, replicate, alloc_error};
-ghost use Rattle.nest_memory.specs.Rising.{numbers, are_offsets, are_offsets_from_zero, last_of, ends_from, joined, NeverFalls};
-ghost use Rattle.nest_memory.specs.Cut.{cut};
+ghost use Rattle.nest_memory.specs.Rising.{numbers, are_offsets, are_offsets_from_zero, last_of, ends_from, joined, IsNondecreasing};
+ghost use Rattle.nest_memory.specs.Sublist.{sublist};
 ghost use Rattle.nest_memory.specs.declared.error.Error.TheVariants.{OutOfSpec, Overflow, Memory};
-ghost use Rattle.nest_memory.specs.declared.error.Spec.TheVariants.{Offsets as WrongOffsets};
+ghost use Rattle.nest_memory.specs.declared.error.SpecError.TheVariants.{Offsets as WrongOffsets};
 
 use crate::buffer::Buffer;
-use crate::error::{Error, Spec};
+use crate::error::{Error, SpecError};
 use crate::offset::Offset;
 use std::alloc::Global;
 use std::marker::Model;
 use std::mem;
 
-// Whether there is an offset, none is negative, and they never fall.
+// Returns whether there is an offset, none is negative, and they never decrease.
 #[tactic(auto, using(crate::proofs::Rises::rising))]
 fn are_rising<O: Offset>(offsets: &[O]) -> bool
     ensures { result ≡ are_offsets (map O.value offsets.now) }
@@ -34,7 +34,7 @@ fn are_rising<O: Offset>(offsets: &[O]) -> bool
     true
 }
 
-// Whether they are offsets whose first is 0.
+// Returns whether they are offsets whose first is 0.
 fn are_rising_from_zero<O: Offset>(offsets: &[O]) -> bool
     ensures { result ≡ are_offsets_from_zero (map O.value offsets.now) }
 {
@@ -44,7 +44,7 @@ fn are_rising_from_zero<O: Offset>(offsets: &[O]) -> bool
     offsets[0].to_usize() == 0
 }
 
-// The first and the last of some offsets.
+// Returns the first offset.
 fn first_of<O: Offset>(offsets: &[O]) -> usize
     requires { are_offsets (map O.value offsets.now) ≡ true }
     ensures { slice_get (numbers O.value offsets.now) 0 ≡ Some result }
@@ -61,7 +61,7 @@ fn last_number<O: Offset>(offsets: &[O]) -> usize
     offsets[offsets.len() - 1].to_usize()
 }
 
-// Where slot `i` starts and where it ends.
+// Returns the start and the end of slot `i`.
 fn pair_at<O: Offset>(offsets: &[O], i: usize) -> (usize, usize)
     requires offsets { are_offsets (map O.value offsets.now) ≡ true }
     requires in_bounds { i + 1 < length offsets.now }
@@ -74,7 +74,7 @@ fn pair_at<O: Offset>(offsets: &[O], i: usize) -> (usize, usize)
     (offsets[i].to_usize(), offsets[i + 1].to_usize())
 }
 
-// Whether an offset can stand for the end of items of these lengths that begin at `start`.
+// Returns whether the offset type can represent the end of items of these lengths from `start` on.
 fn end_fits<O: Offset>(start: usize, lengths: &[usize]) -> bool
     ensures { IsTrue result ↔ (start + sum lengths.now ≤ O.largest) }
 {
@@ -88,11 +88,10 @@ fn end_fits<O: Offset>(start: usize, lengths: &[usize]) -> bool
     O::from_usize(end).is_some()
 }
 
-/// Offsets that never change, in memory that their clones and cuts share: at least one, none negative, never
-/// falling. arrow2's `OffsetsBuffer`.
+/// Immutable offsets, whose clones and slices share memory; arrow2's `OffsetsBuffer`.
 ///
-/// Slot i has the items from offset i up to offset i + 1 ("Variable-size List Layout" of the Arrow columnar format),
-/// so there is one slot less than there are offsets.
+/// There is at least one, none is negative, and they never decrease. Slot i has the items from offset i up to
+/// offset i + 1 ("Variable-size List Layout" of the Arrow columnar format), so there is one slot fewer than offsets.
 #[derive(Drop)]
 pub struct OffsetsBuffer<O: Offset> {
     buffer: Buffer<O>,
@@ -111,20 +110,23 @@ impl<O: Offset> Model for OffsetsBuffer<O> {
 
 #[tactic(auto, using(crate::proofs::Rises::rising))]
 impl<O: Offset> OffsetsBuffer<O> {
-    /// These offsets. `OutOfSpec(Offsets)` where there is none, one is negative, or one is below that before it.
+    /// Returns a buffer of these offsets.
+    ///
+    /// # Errors
+    /// [`SpecError::Offsets`] where there is none, one is negative or offsets decrease, and [`Error::Memory`].
     pub fn try_new(alloc: Global, offsets: Vec<O>) -> Result<OffsetsBuffer<O>, Error>
         ensures ok { IfOk result (λ b. b ≡ numbers O.value offsets.items) }
         ensures wrong { IsErrOf result (OutOfSpec WrongOffsets) ↔ (are_offsets (map O.value offsets.items) ≡ false) }
         ensures errors { IfErr result (λ e. (e ≡ OutOfSpec WrongOffsets) ⊎ (e ≡ Memory alloc_error)) }
     {
         if !are_rising(offsets.as_slice()) {
-            return Err(Error::OutOfSpec(Spec::Offsets));
+            return Err(Error::OutOfSpec(SpecError::Offsets));
         }
         let buffer = Buffer::from_vec(alloc, offsets)?;
         Ok(OffsetsBuffer { buffer })
     }
 
-    /// The one offset 0, of no slot.
+    /// Returns the single offset 0, without slots.
     pub fn new(alloc: Global) -> Result<OffsetsBuffer<O>, Error>
         ensures ok { IfOk result (λ b. b ≡ 0 ∷ []) }
         ensures err { IsOkUnless result (Memory alloc_error) }
@@ -133,21 +135,21 @@ impl<O: Offset> OffsetsBuffer<O> {
         offsets.freeze()
     }
 
-    /// The number of offsets.
+    /// Returns the number of offsets.
     pub fn len(&self) -> usize
         ensures { result ≡ length self.now }
     {
         self.buffer.len()
     }
 
-    /// The number of slots, one less than the offsets.
+    /// Returns the number of slots, one fewer than the offsets.
     pub fn len_proxy(&self) -> usize
         ensures { result + 1 ≡ length self.now }
     {
         self.buffer.len() - 1
     }
 
-    /// The offsets themselves.
+    /// Returns the offsets as a slice.
     pub fn as_slice(&self) -> &[O]
         ensures shown { numbers O.value result.now ≡ self.now }
         ensures offsets { are_offsets (map O.value result.now) ≡ true }
@@ -155,21 +157,21 @@ impl<O: Offset> OffsetsBuffer<O> {
         self.buffer.as_slice()
     }
 
-    /// The first offset.
+    /// Returns the first offset.
     pub fn first(&self) -> usize
         ensures { slice_get self.now 0 ≡ Some result }
     {
         first_of(self.buffer.as_slice())
     }
 
-    /// The last offset.
+    /// Returns the last offset.
     pub fn last(&self) -> usize
         ensures { result ≡ last_of self.now }
     {
         last_number(self.buffer.as_slice())
     }
 
-    /// Where slot `i` starts and where it ends.
+    /// Returns the start and the end of slot `i`.
     pub fn start_end(&self, i: usize) -> (usize, usize)
         requires { i + 1 < length self.now }
         ensures first { slice_get self.now i ≡ Some result.0 }
@@ -179,27 +181,27 @@ impl<O: Offset> OffsetsBuffer<O> {
         pair_at(self.buffer.as_slice(), i)
     }
 
-    /// Keeps the `len` offsets from place `offset`, so one slot less; nothing moves.
+    /// Slices to `len` offsets from index `offset`, which are `len - 1` slots, without copying.
     pub fn slice(&mut self, offset: usize, len: usize)
         requires in_bounds { offset + len ≤ length self.old }
         requires some { 1 ≤ len }
-        ensures { self.new ≡ cut self.old offset len }
+        ensures { self.new ≡ sublist self.old offset len }
     {
         self.buffer.slice(offset, len);
     }
 
-    /// The `len` offsets from place `offset`; nothing moves.
+    /// Returns the slice of `len` offsets from index `offset`, without copying.
     pub fn sliced(self, offset: usize, len: usize) -> OffsetsBuffer<O>
         requires in_bounds { offset + len ≤ length self }
         requires some { 1 ≤ len }
-        ensures { result ≡ cut self offset len }
+        ensures { result ≡ sublist self offset len }
     {
         let mut cut = self;
         cut.slice(offset, len);
         cut
     }
 
-    /// Another owner of the same offsets; none is copied. `Memory` where the owners can't be counted.
+    /// Returns offsets that share the memory, or [`Error::Memory`] where the reference count would overflow.
     pub fn clone(&self) -> Result<OffsetsBuffer<O>, Error>
         ensures ok { IfOk result (λ b. b ≡ self.now) }
         ensures err { IsOkUnless result (Memory alloc_error) }
@@ -209,10 +211,10 @@ impl<O: Offset> OffsetsBuffer<O> {
         })
     }
 
-    /// What holds of all offsets: there is one at least, they never fall, and none is past the largest.
+    /// States the invariant: there is an offset, they never decrease, and none exceeds the largest.
     pub fn known(&self)
         ensures some { 0 < length self.now }
-        ensures rising { NeverFalls self.now }
+        ensures rising { IsNondecreasing self.now }
         ensures room { length self.now < 2 ^ 64 }
         ensures fits { last_of self.now ≤ O.largest }
     {
@@ -221,10 +223,10 @@ impl<O: Offset> OffsetsBuffer<O> {
     }
 }
 
-/// Offsets that are pushed and cut off, and then frozen into an `OffsetsBuffer`: the first is 0, and they never fall.
-/// arrow2's `Offsets`.
+/// Growable offsets, which freeze into an [`OffsetsBuffer`]; arrow2's `Offsets`.
 ///
-/// A call that answers `Err` changes no offset, but for `freeze`, which leaves the one offset 0 either way.
+/// The first is 0, and they never decrease. A call that returns `Err` changes no offset, except that `freeze` always
+/// leaves the single offset 0. Each `Result` is [`Error::Memory`] where an allocation fails.
 #[derive(Drop)]
 pub struct Offsets<O: Offset> {
     offsets: Vec<O>,
@@ -243,7 +245,7 @@ impl<O: Offset> Model for Offsets<O> {
 
 #[tactic(auto, using(crate::proofs::Rises::rising))]
 impl<O: Offset> Offsets<O> {
-    /// The one offset 0, of no slot.
+    /// Returns the single offset 0, without slots.
     pub fn new(alloc: Global) -> Result<Offsets<O>, Error>
         ensures ok { IfOk result (λ b. b ≡ 0 ∷ []) }
         ensures err { IsOkUnless result (Memory alloc_error) }
@@ -251,7 +253,10 @@ impl<O: Offset> Offsets<O> {
         Offsets::with_room(alloc, 1)
     }
 
-    /// The one offset 0, with room for `capacity` slots. `Overflow` where so many offsets pass a `usize`.
+    /// Returns the single offset 0, with room for `capacity` slots.
+    ///
+    /// # Errors
+    /// [`Error::Overflow`] where `capacity + 1` would exceed `usize`.
     pub fn with_capacity(alloc: Global, capacity: usize) -> Result<Offsets<O>, Error>
         ensures ok { IfOk result (λ b. b ≡ 0 ∷ []) }
         ensures overflow { IsErrOf result Overflow ↔ (2 ^ 64 ≤ capacity + 1) }
@@ -263,7 +268,7 @@ impl<O: Offset> Offsets<O> {
         Offsets::with_room(alloc, room)
     }
 
-    // The one offset 0, with room for so many offsets.
+    // Returns the single offset 0, with room for `room` offsets.
     fn with_room(alloc: Global, room: usize) -> Result<Offsets<O>, Error>
         ensures ok { IfOk result (λ b. b ≡ 0 ∷ []) }
         ensures err { IsOkUnless result (Memory alloc_error) }
@@ -276,7 +281,7 @@ impl<O: Offset> Offsets<O> {
         Ok(Offsets { offsets })
     }
 
-    /// `length` slots of no item each, so one offset 0 more.
+    /// Returns `length` empty slots, which are `length + 1` offsets of 0.
     pub fn new_zeroed(alloc: Global, length: usize) -> Result<Offsets<O>, Error>
         requires { length + 1 < 2 ^ 64 }
         ensures ok { IfOk result (λ b. b ≡ replicate (length + 1) 0) }
@@ -287,40 +292,43 @@ impl<O: Offset> Offsets<O> {
         Ok(offsets)
     }
 
-    /// These offsets. `OutOfSpec(Offsets)` where the first isn't 0, or one is below that before it.
+    /// Returns these offsets.
+    ///
+    /// # Errors
+    /// [`SpecError::Offsets`] where the first is not 0 or offsets decrease.
     pub fn try_new(offsets: Vec<O>) -> Result<Offsets<O>, Error>
         ensures ok { IfOk result (λ b. b ≡ numbers O.value offsets.items) }
         ensures wrong { IsErrOf result (OutOfSpec WrongOffsets) ↔ (are_offsets_from_zero (map O.value offsets.items) ≡ false) }
         ensures err { IsOkUnless result (OutOfSpec WrongOffsets) }
     {
         if !are_rising_from_zero(offsets.as_slice()) {
-            return Err(Error::OutOfSpec(Spec::Offsets));
+            return Err(Error::OutOfSpec(SpecError::Offsets));
         }
         Ok(Offsets { offsets })
     }
 
-    /// The number of slots, one less than the offsets.
+    /// Returns the number of slots, one fewer than the offsets.
     pub fn len_proxy(&self) -> usize
         ensures { result + 1 ≡ length self.now }
     {
         self.offsets.len() - 1
     }
 
-    /// How many offsets have room.
+    /// Returns the number of offsets that fit without reallocation.
     pub fn capacity(&self) -> usize
         ensures { length self.now ≤ result }
     {
         self.offsets.capacity()
     }
 
-    /// The last offset.
+    /// Returns the last offset.
     pub fn last(&self) -> usize
         ensures { result ≡ last_of self.now }
     {
         last_number(self.offsets.as_slice())
     }
 
-    /// Where slot `i` starts and where it ends.
+    /// Returns the start and the end of slot `i`.
     pub fn start_end(&self, i: usize) -> (usize, usize)
         requires { i + 1 < length self.now }
         ensures first { slice_get self.now i ≡ Some result.0 }
@@ -330,7 +338,10 @@ impl<O: Offset> Offsets<O> {
         pair_at(self.offsets.as_slice(), i)
     }
 
-    /// One slot more, of `length` items. `Overflow` where no offset can stand for its end.
+    /// Appends a slot of `length` items.
+    ///
+    /// # Errors
+    /// [`Error::Overflow`] where the offset type cannot represent its end.
     pub fn try_push_usize(&mut self, length: usize) -> Result<(), Error>
         ensures ok { OnOk result (self.new ≡ self.old ++ (last_of self.old + length) ∷ []) }
         ensures err { OnErr result (self.new ≡ self.old) }
@@ -348,7 +359,10 @@ impl<O: Offset> Offsets<O> {
         Ok(())
     }
 
-    /// `additional` slots more, of no item each. `Overflow` where so many offsets pass a `usize`.
+    /// Appends `additional` empty slots.
+    ///
+    /// # Errors
+    /// [`Error::Overflow`] where the number of offsets would exceed `usize`.
     pub fn extend_constant(&mut self, additional: usize) -> Result<(), Error>
         ensures ok { OnOk result (self.new ≡ self.old ++ replicate additional (last_of self.old)) }
         ensures err { OnErr result (self.new ≡ self.old) }
@@ -364,7 +378,10 @@ impl<O: Offset> Offsets<O> {
         Ok(())
     }
 
-    /// One slot more for each length. `Overflow` where no offset can stand for the end of the last one.
+    /// Appends a slot for each length.
+    ///
+    /// # Errors
+    /// [`Error::Overflow`] where the offset type cannot represent the last end.
     pub fn try_extend_from_lengths(&mut self, lengths: &[usize]) -> Result<(), Error>
         ensures ok { OnOk result (self.new ≡ self.old ++ ends_from (last_of self.old) lengths.now) }
         ensures err { OnErr result (self.new ≡ self.old) }
@@ -384,7 +401,10 @@ impl<O: Offset> Offsets<O> {
         Ok(())
     }
 
-    /// The slots of `other` after these. `Overflow` where no offset can stand for the end of the last one.
+    /// Appends the slots of `other`.
+    ///
+    /// # Errors
+    /// [`Error::Overflow`] where the offset type cannot represent the last end.
     pub fn try_extend_from_self(&mut self, other: &Offsets<O>) -> Result<(), Error>
         ensures ok { OnOk result (self.new ≡ joined self.old other.now) }
         ensures err { OnErr result (self.new ≡ self.old) }
@@ -406,7 +426,7 @@ impl<O: Offset> Offsets<O> {
         Ok(())
     }
 
-    /// Keeps the first `n` slots, so `n + 1` offsets.
+    /// Keeps the first `n` slots, which are `n + 1` offsets.
     pub fn truncate(&mut self, n: usize)
         requires { n < length self.old }
         ensures { self.new ≡ take (n + 1) self.old }
@@ -414,7 +434,7 @@ impl<O: Offset> Offsets<O> {
         self.offsets.truncate(n + 1);
     }
 
-    /// Room for `additional` slots more.
+    /// Reserves room for `additional` more slots.
     pub fn reserve(&mut self, additional: usize) -> Result<(), Error>
         ensures same { self.new ≡ self.old }
         ensures err { IsOkUnless result (Memory alloc_error) }
@@ -423,7 +443,7 @@ impl<O: Offset> Offsets<O> {
         Ok(())
     }
 
-    /// Gives back memory that holds no offset, where a smaller block is there.
+    /// Frees unused capacity, if a smaller block can be allocated.
     pub fn shrink_to_fit(&mut self)
         ensures { self.new ≡ self.old }
     {
@@ -436,8 +456,7 @@ impl<O: Offset> Offsets<O> {
         self.offsets.truncate(1);
     }
 
-    /// The offsets as an `OffsetsBuffer`, which takes the memory over. The one offset 0 is left, also where that
-    /// answers `Err`.
+    /// Moves the offsets into an [`OffsetsBuffer`] without copying them. The offset 0 remains, also after an error.
     pub fn freeze(&mut self) -> Result<OffsetsBuffer<O>, Error>
         ensures ok { IfOk result (λ b. b ≡ self.old) }
         ensures err { IsOkUnless result (Memory alloc_error) }
@@ -457,11 +476,11 @@ impl<O: Offset> Offsets<O> {
         }
     }
 
-    /// What holds of all offsets: there is one at least, the first is 0, they never fall, and none is past the largest.
+    /// States the invariant: the first offset is 0, they never decrease, and none exceeds the largest.
     pub fn known(&self)
         ensures some { 0 < length self.now }
         ensures first { slice_index self.now 0 ≡ 0 }
-        ensures rising { NeverFalls self.now }
+        ensures rising { IsNondecreasing self.now }
         ensures room { length self.now < 2 ^ 64 }
         ensures fits { last_of self.now ≤ O.largest }
     {

@@ -7,10 +7,10 @@ ghost use Rattle.nest_memory.specs.declared.datatypes.physical_type.PrimitiveTyp
 
 use crate::datatypes::physical_type::PrimitiveType;
 
-/// A type whose values a primitive array holds, after arrow2's `NativeType`.
+/// A type of the values of a primitive array, after arrow2's `NativeType`.
 ///
-/// Contracts see a value as the list of its whole numbers: one for an integer, the high half first
-/// for [`i256`], the longest unit first for [`days_ms`] and [`months_days_ns`].
+/// Contracts represent a value as a list of integers: an integer as itself, [`i256`] as its high half and its low half,
+/// [`days_ms`] and [`months_days_ns`] as their fields, longest unit first.
 pub trait NativeType: Copy + Eq {
     ghost numbers: { Self → List ℤ };
 
@@ -19,21 +19,21 @@ pub trait NativeType: Copy + Eq {
     /// The primitive type of arrays of these values.
     const PRIMITIVE: PrimitiveType;
 
-    /// The value whose numbers are all 0.
+    /// Returns the value whose integers are all 0.
     fn zero() -> Self
         ensures { numbers result ≡ replicate (parts_of PRIMITIVE) (pos 0) };
 
-    // Values with the same numbers are the same.
+    // Values with equal integers are equal.
     ghost injective: { (a b : Self) → numbers a ≡ numbers b → a ≡ b };
 
-    // `==` says whether the numbers are the same.
+    // `==` decides whether the integers are equal.
     ghost decides: { (a b : Self) → Decides (Self.eq a b) (numbers a ≡ numbers b) };
 
-    // Each value has as many numbers as its primitive type has parts.
+    // Each value has as many integers as its primitive type has parts.
     ghost parts: { (a : Self) → length (numbers a) ≡ parts_of PRIMITIVE };
 }
 
-/// A signed number of 256 bits: `high * 2^128 + low`. There is no arithmetic on it.
+/// A signed integer of 256 bits, `high * 2^128 + low`, without arithmetic.
 #[allow(non_camel_case_types)]
 #[derive(Clone, Copy, Debug, PartialEq, Eq, Hash)]
 pub struct i256 {
@@ -44,7 +44,7 @@ pub struct i256 {
 }
 
 impl i256 {
-    /// The number of those halves.
+    /// Returns the integer of these halves.
     pub const fn from_words(high: i128, low: u128) -> i256
         ensures { result ≡ record { high = high; low = low } }
     {
@@ -52,7 +52,7 @@ impl i256 {
     }
 }
 
-/// A span of days and of milliseconds.
+/// An interval of days and milliseconds.
 #[allow(non_camel_case_types)]
 #[derive(Clone, Copy, Debug, PartialEq, Eq, Hash)]
 pub struct days_ms {
@@ -60,7 +60,7 @@ pub struct days_ms {
     pub milliseconds: i32,
 }
 
-/// A span of months, of days and of nanoseconds.
+/// An interval of months, days and nanoseconds.
 #[allow(non_camel_case_types)]
 #[derive(Clone, Copy, Debug, PartialEq, Eq, Hash)]
 pub struct months_days_ns {

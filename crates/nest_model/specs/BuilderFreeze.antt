@@ -1,6 +1,6 @@
 -- The parts of the array that a builder freezes to.
 use Rattle.std.specs.Prelude.{◌≡◌, ℕ, ◌<◌, Bool, true, false, List, [], ◌∷◌, length, map, get_or, Option, Some, None}
-use Rattle.nest_model.specs.Part.{Validity, valid_at, place}
+use Rattle.nest_model.specs.Part.{Validity, valid_at, to_index}
 use Rattle.nest_model.specs.Layout.{Layout, Layouts, no_layouts, more_layouts}
 use Rattle.nest_model.specs.Accessors.{validity_of, key_at}
 use Rattle.nest_model.specs.Meaning.{len, slots_of}
@@ -8,7 +8,7 @@ use Rattle.nest_model.specs.BuilderRow.{Row}
 use Rattle.nest_model.specs.BuilderTree.{BuilderTrees, no_builders, more_builders}
 use Rattle.nest_model.specs.BuilderLevels.{own_slots}
 
--- Variable-size List Layout: the offsets of rows whose items begin at s, and their bits
+-- Variable-size List Layout: the offsets of rows whose items start at offset s, and their validity bits
 abbrev pub offsets_from : ℕ → List Row → List ℕ
 offsets_from s [] = s ∷ []
 offsets_from s (r ∷ rs) = s ∷ offsets_from r.end rs
@@ -16,20 +16,20 @@ offsets_from s (r ∷ rs) = s ∷ offsets_from r.end rs
 abbrev pub row_bits : List Row → List Bool
 row_bits rows = map (λ (r : Row). r.valid) rows
 
--- Validity bitmaps: a bit a row, or none at all where each row is valid
-abbrev pub SpellsBits : Validity → List Bool → Type 0
-SpellsBits None bits = (i : ℕ) → i < length bits → get_or bits i true ≡ true
-SpellsBits (Some vs) bits = vs ≡ bits
+-- Validity bitmaps: one bit per row, or no bitmap if each row is valid
+abbrev pub EncodesBits : Validity → List Bool → Type 0
+EncodesBits None bits = (i : ℕ) → i < length bits → get_or bits i true ≡ true
+EncodesBits (Some vs) bits = vs ≡ bits
 
--- Dictionary-encoded Layout: a valid key at each row with a value, a null one at each other
-abbrev pub SpellsKey : Layout → ℕ → Option ℕ → Type 0
-SpellsKey ks i None = valid_at (validity_of ks) i ≡ false
-SpellsKey ks i (Some k) = (valid_at (validity_of ks) i ≡ true) × (place (key_at ks i) ≡ k)
+-- Dictionary-encoded Layout: a valid key for each row with a value, a null key for every other row
+abbrev pub EncodesKey : Layout → ℕ → Option ℕ → Type 0
+EncodesKey ks i None = valid_at (validity_of ks) i ≡ false
+EncodesKey ks i (Some k) = (valid_at (validity_of ks) i ≡ true) × (to_index (key_at ks i) ≡ k)
 
-abbrev pub SpellsKeys : Layout → List (Option ℕ) → Type 0
-SpellsKeys ks keys = (len ks ≡ length keys) × ((i : ℕ) → i < length keys → SpellsKey ks i (get_or keys i None))
+abbrev pub EncodesKeys : Layout → List (Option ℕ) → Type 0
+EncodesKeys ks keys = (len ks ≡ length keys) × ((i : ℕ) → i < length keys → EncodesKey ks i (get_or keys i None))
 
--- each child's array stands for its own slots
+-- each child's array represents the child's own slots
 abbrev pub EachFrozen : Layouts → BuilderTrees → Type 0
 EachFrozen no_layouts no_builders = Unit {0}
 EachFrozen no_layouts (more_builders c cs) = ⊥

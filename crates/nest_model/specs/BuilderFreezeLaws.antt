@@ -1,14 +1,14 @@
--- An array that is frozen from a builder's rows and its children's arrays stands for the builder's own slots.
+-- The array frozen from a builder's rows and its children's arrays represents the builder's own slots.
 use Rattle.std.specs.Prelude.{Option, Some, None, if◌then◌else◌}
 use Rattle.std.proofs.Common.{◌≡◌, ℕ, zero, suc, ◌+◌, ◌*◌, ◌/◌, ◌≤◌, ◌<◌, Bool, true, false, List, [], ◌∷◌, length, get_or, map, refl, sym, ap, ◌∙◌, arith}
 use Rattle.std.proofs.Math.Nat.{mul-div_cancel, mul-le-mul_right, add-mul, suc-mul, zero-mul}
 use Rattle.std.proofs.lemmas.List.{length-map}
 use Rattle.nest_memory.specs.TypeTree.{TypeTree, size_of}
-use Rattle.nest_memory.specs.Cut.{cut}
+use Rattle.nest_memory.specs.Sublist.{sublist}
 use Rattle.nest_memory.specs.declared.datatypes.IntegerType.{IntegerType}
 use Rattle.nest_model.specs.Slot as slots
 use Rattle.nest_model.specs.Slot.{Slot, Slots, seal}
-use Rattle.nest_model.specs.Part.{Validity, valid_at, begin, extent, count_rows, place}
+use Rattle.nest_model.specs.Part.{Validity, valid_at, begin, extent, count_rows, to_index}
 use Rattle.nest_model.specs.Layout as layouts
 use Rattle.nest_model.specs.Layout.{Layout, Layouts, no_layouts, more_layouts}
 use Rattle.nest_model.specs.Accessors.{validity_of, key_at}
@@ -17,12 +17,12 @@ use Rattle.nest_model.specs.Reads.{slots-length, slot-place, items-cut}
 use Rattle.nest_model.specs.BuilderRow.{Row, end_from, RisesFrom}
 use Rattle.nest_model.specs.BuilderTree.{BuilderTree, BuilderTrees, list, fixed_size_list, dictionary, struct, no_builders, more_builders, builder_len}
 use Rattle.nest_model.specs.BuilderLevels.{valid_or_null, rows_of_items, rows_of_size, value_at, record_at, rows_of_records, own_slots, own_slots_each}
-use Rattle.nest_model.specs.BuilderWhole.{IsWhole, AreWhole}
-use Rattle.nest_model.specs.BuilderFreeze.{offsets_from, row_bits, SpellsBits, SpellsKey, SpellsKeys, EachFrozen}
+use Rattle.nest_model.specs.BuilderComplete.{IsComplete, AreComplete}
+use Rattle.nest_model.specs.BuilderFreeze.{offsets_from, row_bits, EncodesBits, EncodesKey, EncodesKeys, EachFrozen}
 use Rattle.nest_model.specs.BuilderRowLaws.{end_from-le, values_needed-above}
 use Rattle.nest_model.specs.BuilderLevelLaws.{own-length}
 
--- lists that agree at each place are the same
+-- lists that are equal at each index are equal
 same_places : (xs ys : List Slot) → length xs ≡ length ys → ((i : ℕ) → i < length xs → get_or xs i slots.null ≡ get_or ys i slots.null) → xs ≡ ys
 same_places [] [] e h = refl
 same_places [] (y ∷ ys) e h = absurd (omega (arith, e))
@@ -32,7 +32,7 @@ same_places (x ∷ xs) (y ∷ ys) e h =
     let rest : xs ≡ ys = same_places xs ys (omega (arith, e)) (λ i l. h (suc i) (omega (arith, l))) in
     cc
 
--- a layout whose slot at each place is the list's
+-- a layout whose slot at each index is the list's
 pub frozen-by_place : (a : Layout) (xs : List Slot) → len a ≡ length xs → ((i : ℕ) → i < length xs → slot a i ≡ get_or xs i slots.null) → slots_of a ≡ xs
 frozen-by_place a xs e h = same_places (slots_of a) xs (slots-length a ∙ e) (λ i l.
     let below : i < len a = omega (arith, l, slots-length a) in
@@ -42,7 +42,7 @@ if-valid : (b : Bool) (s : Slot) → (if b then s else slots.null) ≡ valid_or_
 if-valid true s = refl
 if-valid false s = refl
 
-pub valid-bits : (va : Validity) (bits : List Bool) (i : ℕ) → SpellsBits va bits → i < length bits → valid_at va i ≡ get_or bits i true
+pub valid-bits : (va : Validity) (bits : List Bool) (i : ℕ) → EncodesBits va bits → i < length bits → valid_at va i ≡ get_or bits i true
 valid-bits None bits i h l = sym (h i l)
 valid-bits (Some vs) bits i h l = ap (λ bs. get_or bs i true) h
 
@@ -63,7 +63,7 @@ offsets-fit s m (suc i) (r ∷ rs) h l k =
     rw e (offsets-fit r.end m i rs h.1 l (omega (arith, k)))
 
 items-place : (s i : ℕ) (rs : List Row) (xs : List Slot) → i < length rs
-    → get_or (rows_of_items s rs xs) i slots.null ≡ valid_or_null (get_or (row_bits rs) i true) (slots.list (seal (cut xs (begin (offsets_from s rs) i) (extent (offsets_from s rs) i))))
+    → get_or (rows_of_items s rs xs) i slots.null ≡ valid_or_null (get_or (row_bits rs) i true) (slots.list (seal (sublist xs (begin (offsets_from s rs) i) (extent (offsets_from s rs) i))))
 items-place s i [] xs k = absurd (omega (arith, k))
 items-place s zero (r ∷ rs) xs k = rw (first-offset r.end rs) refl
 items-place s (suc i) (r ∷ rs) xs k =
@@ -73,8 +73,8 @@ items-place s (suc i) (r ∷ rs) xs k =
 frozen_len : (a : Layout) (c : BuilderTree) → slots_of a ≡ own_slots c → len a ≡ builder_len c
 frozen_len a c e = sym (slots-length a) ∙ (ap length e ∙ own-length c)
 
--- a list over its child's array
-pub list-frozen : (large : Bool) (t : TypeTree) (rs : List Row) (c : BuilderTree) (a : Layout) (va : Validity) → IsWhole (list large t rs c) → slots_of a ≡ own_slots c → SpellsBits va (row_bits rs)
+-- a list over the array of its child
+pub list-frozen : (large : Bool) (t : TypeTree) (rs : List Row) (c : BuilderTree) (a : Layout) (va : Validity) → IsComplete (list large t rs c) → slots_of a ≡ own_slots c → EncodesBits va (row_bits rs)
     → slots_of (layouts.list large t (offsets_from 0 rs) a va) ≡ own_slots (list large t rs c)
 list-frozen large t rs c a va w f v =
     let own = own-length (list large t rs c) in
@@ -84,7 +84,7 @@ list-frozen large t rs c a va w f v =
     let below : i < length rs = omega (arith, l, own) in
     let bit : valid_at va i ≡ get_or (row_bits rs) i true = valid-bits va (row_bits rs) i v (omega (arith, below, length-map rs (λ (r : Row). r.valid))) in
     let within : begin os i + extent os i ≤ len a = offsets-fit 0 (len a) i rs w.3 (omega (arith, w.2, frozen_len a c f)) below in
-    let items : run (slot a) (begin os i) (extent os i) ≡ cut (own_slots c) (begin os i) (extent os i) = items-cut a (begin os i) (extent os i) within ∙ ap (λ xs. cut xs (begin os i) (extent os i)) f in
+    let items : run (slot a) (begin os i) (extent os i) ≡ sublist (own_slots c) (begin os i) (extent os i) = items-cut a (begin os i) (extent os i) within ∙ ap (λ xs. sublist xs (begin os i) (extent os i)) f in
     if-valid (valid_at va i) (slots.list (seal (run (slot a) (begin os i) (extent os i))))
     ∙ (ap (λ b. valid_or_null b (slots.list (seal (run (slot a) (begin os i) (extent os i))))) bit
     ∙ (ap (λ ss. valid_or_null (get_or (row_bits rs) i true) (slots.list (seal ss))) items
@@ -92,14 +92,14 @@ list-frozen large t rs c a va w f v =
 
 -- fixed-size lists
 size-place : (s n i : ℕ) (bits : List Bool) (xs : List Slot) → i < length bits
-    → get_or (rows_of_size s n bits xs) i slots.null ≡ valid_or_null (get_or bits i true) (slots.list (seal (cut xs (s + i * n) n)))
+    → get_or (rows_of_size s n bits xs) i slots.null ≡ valid_or_null (get_or bits i true) (slots.list (seal (sublist xs (s + i * n) n)))
 size-place s n i [] xs k = absurd (omega (arith, k))
-size-place s n zero (b ∷ bs) xs k = let e : s ≡ s + zero * n = omega (arith, zero-mul n) in ap (λ o. valid_or_null b (slots.list (seal (cut xs o n)))) e
+size-place s n zero (b ∷ bs) xs k = let e : s ≡ s + zero * n = omega (arith, zero-mul n) in ap (λ o. valid_or_null b (slots.list (seal (sublist xs o n)))) e
 size-place s n (suc i) (b ∷ bs) xs k =
     let e : (s + n) + i * n ≡ s + suc i * n = omega (arith, suc-mul i n) in
-    size-place (s + n) n i bs xs (omega (arith, k)) ∙ ap (λ o. valid_or_null (get_or bs i true) (slots.list (seal (cut xs o n)))) e
+    size-place (s + n) n i bs xs (omega (arith, k)) ∙ ap (λ o. valid_or_null (get_or bs i true) (slots.list (seal (sublist xs o n)))) e
 
-pub fixed_size_list-frozen : (t : TypeTree) (bits : List Bool) (c : BuilderTree) (a : Layout) (va : Validity) → 0 < size_of t → IsWhole (fixed_size_list t bits c) → slots_of a ≡ own_slots c → SpellsBits va bits
+pub fixed_size_list-frozen : (t : TypeTree) (bits : List Bool) (c : BuilderTree) (a : Layout) (va : Validity) → 0 < size_of t → IsComplete (fixed_size_list t bits c) → slots_of a ≡ own_slots c → EncodesBits va bits
     → slots_of (layouts.fixed_size_list t a va) ≡ own_slots (fixed_size_list t bits c)
 fixed_size_list-frozen t bits c a va z w f v =
     let s = size_of t in
@@ -112,7 +112,7 @@ fixed_size_list-frozen t bits c a va z w f v =
     let le : i + 1 ≤ length bits = omega (arith, below) in
     let within : i * s + s ≤ len a = omega (arith, full, mul-le-mul_right s le, add-mul i 1 s) in
     let from : i * s ≡ 0 + i * s = omega arith in
-    let items : run (slot a) (i * s) s ≡ cut (own_slots c) (0 + i * s) s = items-cut a (i * s) s within ∙ (ap (λ xs. cut xs (i * s) s) f ∙ ap (λ o. cut (own_slots c) o s) from) in
+    let items : run (slot a) (i * s) s ≡ sublist (own_slots c) (0 + i * s) s = items-cut a (i * s) s within ∙ (ap (λ xs. sublist xs (i * s) s) f ∙ ap (λ o. sublist (own_slots c) o s) from) in
     if-valid (valid_at va i) (slots.list (seal (run (slot a) (i * s) s)))
     ∙ (ap (λ b. valid_or_null b (slots.list (seal (run (slot a) (i * s) s)))) bit
     ∙ (ap (λ ss. valid_or_null (get_or bits i true) (slots.list (seal ss))) items
@@ -126,7 +126,7 @@ records-place j (suc i) (b ∷ bs) xss k =
     let e : suc j + i ≡ j + suc i = omega arith in
     records-place (suc j) i bs xss (omega (arith, k)) ∙ ap (λ o. valid_or_null (get_or bs i true) (slots.record_of (record_at o xss))) e
 
-each-place : (ls : Layouts) (cs : BuilderTrees) (n i : ℕ) → EachFrozen ls cs → AreWhole cs n → i < n → each ls i ≡ record_at i (own_slots_each cs)
+each-place : (ls : Layouts) (cs : BuilderTrees) (n i : ℕ) → EachFrozen ls cs → AreComplete cs n → i < n → each ls i ≡ record_at i (own_slots_each cs)
 each-place no_layouts no_builders n i f w k = refl
 each-place no_layouts (more_builders c cs) n i f w k = absurd f
 each-place (more_layouts a ls) no_builders n i f w k = absurd f
@@ -135,7 +135,7 @@ each-place (more_layouts a ls) (more_builders c cs) n i f w k =
     let rest : each ls i ≡ record_at i (own_slots_each cs) = each-place ls cs n i f.1 w.2 k in
     cc
 
-pub struct-frozen : (t : TypeTree) (bits : List Bool) (cs : BuilderTrees) (ls : Layouts) (va : Validity) → first_len ls ≡ length bits → IsWhole (struct t bits cs) → EachFrozen ls cs → SpellsBits va bits
+pub struct-frozen : (t : TypeTree) (bits : List Bool) (cs : BuilderTrees) (ls : Layouts) (va : Validity) → first_len ls ≡ length bits → IsComplete (struct t bits cs) → EachFrozen ls cs → EncodesBits va bits
     → slots_of (layouts.struct t ls va) ≡ own_slots (struct t bits cs)
 struct-frozen t bits cs ls va n w f v =
     let own = own-length (struct t bits cs) in
@@ -155,12 +155,12 @@ keys-place [] xs i k = absurd (omega (arith, k))
 keys-place (o ∷ keys) xs zero k = refl
 keys-place (o ∷ keys) xs (suc i) k = keys-place keys xs i (omega (arith, k))
 
-key-slot : (ks a : Layout) (i : ℕ) (o : Option ℕ) (xs : List Slot) → slots_of a ≡ xs → SpellsKey ks i o → ((k : ℕ) → o ≡ Some k → k < len a)
-    → (if valid_at (validity_of ks) i then slot a (place (key_at ks i)) else slots.null) ≡ value_at xs o
+key-slot : (ks a : Layout) (i : ℕ) (o : Option ℕ) (xs : List Slot) → slots_of a ≡ xs → EncodesKey ks i o → ((k : ℕ) → o ≡ Some k → k < len a)
+    → (if valid_at (validity_of ks) i then slot a (to_index (key_at ks i)) else slots.null) ≡ value_at xs o
 key-slot ks a i None xs f h l = rw h refl
 key-slot ks a i (Some k) xs f h l = rw (h.0, h.1) (sym (slot-place a k slots.null (l k refl)) ∙ ap (λ ys. get_or ys k slots.null) f)
 
-pub dictionary-frozen : (i : IntegerType) (t : TypeTree) (keys : List (Option ℕ)) (c : BuilderTree) (a ks : Layout) → IsWhole (dictionary i t keys c) → slots_of a ≡ own_slots c → SpellsKeys ks keys
+pub dictionary-frozen : (i : IntegerType) (t : TypeTree) (keys : List (Option ℕ)) (c : BuilderTree) (a ks : Layout) → IsComplete (dictionary i t keys c) → slots_of a ≡ own_slots c → EncodesKeys ks keys
     → slots_of (layouts.dictionary t ks a) ≡ own_slots (dictionary i t keys c)
 dictionary-frozen i t keys c a ks w f h =
     let own = own-length (dictionary i t keys c) in

@@ -1,4 +1,4 @@
--- What is pushed into a builder: null, a plain value, or a list of items.
+-- An item to push into a builder: null, a plain value, or a list of items.
 use Rattle.std.specs.Prelude.{◌≡◌, ℕ, suc, ◌+◌, ◌<◌, ℤ, Bool, true, false, nat_eq, ◌==◌, cond, List, [], ◌∷◌, length, get_or, Option, Some, None}
 use Rattle.std.specs.Bool.{beq}
 use Rattle.std.specs.Option.{option_map}
@@ -14,11 +14,11 @@ use Rattle.nest_model.specs.Slot.{Slot, Slots, seal}
 use Rattle.nest_model.specs.BuilderTree.{BuilderTree, flat, list, fixed_size_list, dictionary, struct, builder_len}
 use Rattle.nest_model.specs.BuilderLevels.{own_slots}
 
--- a value of a flat builder: a native one has a kind, and the whole numbers that it is made of
+-- a value of a flat builder; a native value has a kind and the integers of its parts
 pub data PlainValue : Type 0 where
-  truth : Bool → PlainValue
+  boolean : Bool → PlainValue
   native : PrimitiveType → List ℤ → PlainValue
-  text : List ℕ → PlainValue
+  utf8 : List ℕ → PlainValue
   bytes : List ℕ → PlainValue
 
 mutual
@@ -44,14 +44,14 @@ abbrev pub count_items : Items → ℕ
 count_items no_items = 0
 count_items (more_items x xs) = suc (count_items xs)
 
--- the slot that a value is
+-- the slot of a value
 abbrev pub slot_of_plain : PlainValue → Slot
-slot_of_plain (truth b) = slots.truth b
+slot_of_plain (boolean b) = slots.boolean b
 slot_of_plain (native p zs) = slots.number zs
-slot_of_plain (text t) = slots.text t
+slot_of_plain (utf8 t) = slots.utf8 t
 slot_of_plain (bytes b) = slots.bytes b
 
--- the slot that an item spells: a list of items is the list of their slots
+-- the slot of an item; a list of items is the list of their slots
 abbrev mutual
   pub slot_of_item : Item → Slot
   slot_of_item null = slots.null
@@ -81,16 +81,17 @@ native_number primitives.MonthDayNano = 14
 
 -- whether arrays of a physical type hold values of that kind
 abbrev pub holds_kind : PhysicalType → PlainValue → Bool
-holds_kind physical.Boolean (truth b) = true
+holds_kind physical.Boolean (boolean b) = true
 holds_kind (physical.Primitive p) (native q zs) = nat_eq (native_number p) (native_number q)
-holds_kind physical.Utf8 (text t) = true
-holds_kind physical.LargeUtf8 (text t) = true
+holds_kind physical.Utf8 (utf8 t) = true
+holds_kind physical.LargeUtf8 (utf8 t) = true
 holds_kind physical.Binary (bytes b) = true
 holds_kind physical.LargeBinary (bytes b) = true
 holds_kind physical.FixedSizeBinary (bytes b) = true
 holds_kind _ _ = false
 
--- whether a builder takes values of that kind: a flat one its own kind, a dictionary what its values take, the others none
+-- whether a builder accepts values of that kind: a flat builder its own kind, a dictionary the kind of its values,
+-- other builders none
 abbrev pub takes : BuilderTree → PlainValue → Bool
 takes (flat t xs) v = holds_kind (physical_type t) v
 takes (list large t rows c) v = false
@@ -98,33 +99,33 @@ takes (fixed_size_list t bits c) v = false
 takes (dictionary k t keys c) v = takes c v
 takes (struct t bits cs) v = false
 
--- whether a slot is that value
+-- whether a slot equals that value
 abbrev pub is_value : PlainValue → Slot → Bool
-is_value (truth a) (slots.truth b) = beq a b
+is_value (boolean a) (slots.boolean b) = beq a b
 is_value (native p zs) (slots.number ws) = pointwise int_eq zs ws
-is_value (text s) (slots.text t) = pointwise ◌==◌ s t
+is_value (utf8 s) (slots.utf8 t) = pointwise ◌==◌ s t
 is_value (bytes a) (slots.bytes b) = pointwise ◌==◌ a b
 is_value _ _ = false
 
--- the builder takes that kind, and its slot i is the value
+-- the builder accepts that kind, and its slot i equals the value
 abbrev pub Holds : BuilderTree → ℕ → PlainValue → Type 0
 Holds t i v = (takes t v ≡ true) × (get_or (own_slots t) i slots.null ≡ slot_of_plain v)
 
--- so at one of its places, and at none
-abbrev pub Stands : BuilderTree → PlainValue → ℕ → Type 0
-Stands t v k = (k < builder_len t) × Holds t k v
+-- the value is slot k of the builder, and no slot of the builder is the value
+abbrev pub IsValueAt : BuilderTree → PlainValue → ℕ → Type 0
+IsValueAt t v k = (k < builder_len t) × Holds t k v
 
 abbrev pub Lacks : BuilderTree → PlainValue → Type 0
-Lacks t v = (k : ℕ) → ¬ Stands t v k
+Lacks t v = (k : ℕ) → ¬ IsValueAt t v k
 
--- the first place where the value stands
-abbrev pub place_of : PlainValue → List Slot → Option ℕ
-place_of v [] = None
-place_of v (x ∷ xs) = cond (is_value v x) (Some 0) (option_map suc (place_of v xs))
+-- the first index of the value
+abbrev pub position_of : PlainValue → List Slot → Option ℕ
+position_of v [] = None
+position_of v (x ∷ xs) = cond (is_value v x) (Some 0) (option_map suc (position_of v xs))
 
--- how many bytes a value has, and a list of slots holds
+-- the number of bytes of a value, and of the values in a list of slots
 abbrev pub byte_count : Slot → ℕ
-byte_count (slots.text t) = length t
+byte_count (slots.utf8 t) = length t
 byte_count (slots.bytes b) = length b
 byte_count _ = 0
 

@@ -1,23 +1,23 @@
--- One builder's rows after another's of the same kind, and why they are refused.
+-- Appending the rows of another builder of the same kinds, and why they are refused.
 use Rattle.std.specs.Prelude.{◌≡◌, ℕ, ◌+◌, List, [], ◌∷◌, ◌++◌, map, ◌*◌, ◌||◌, Bool, false, ltb, length}
 use Rattle.nest_model.specs.Slot.{Slot}
-use Rattle.nest_model.specs.BuilderRow.{Row, told_row, end_from}
+use Rattle.nest_model.specs.BuilderRow.{Row, row_ending, end_from}
 use Rattle.nest_model.specs.BuilderTree.{BuilderTree, flat, list, fixed_size_list, builder_len, builder_type}
 use Rattle.nest_model.specs.BuilderLevels.{own_slots, levels}
-use Rattle.nest_model.specs.BuilderWhole.{IsWhole, cut_builder, ValuesDiffer}
+use Rattle.nest_model.specs.BuilderComplete.{IsComplete, truncate_builder, ValuesDiffer}
 use Rattle.nest_memory.specs.TypeTree.{size_of}
 use Rattle.nest_memory.specs.declared.error.Error.TheVariants.{InvalidArgumentError, Overflow}
-use Rattle.nest_memory.specs.declared.error.Argument.TheVariants.{ItemType}
+use Rattle.nest_memory.specs.declared.error.ArgumentError.TheVariants.{ItemType}
 use Rattle.nest_memory.specs.Rising.{largest_offset}
 use Rattle.nest_model.specs.Checks.{Checks, done, check, is_past}
 use Rattle.nest_model.specs.BuilderItem.{bytes_held}
 use Rattle.nest_model.specs.BuilderRefusals.{flat_passes}
 
--- Variable-size List Layout: rows whose items lie s places further
+-- Variable-size List Layout: rows with s added to each offset
 abbrev pub moved : ℕ → List Row → List Row
-moved s rows = map (λ (r : Row). told_row r.valid (s + r.end)) rows
+moved s rows = map (λ (r : Row). row_ending r.valid (s + r.end)) rows
 
--- the same kinds and data types at every level; dictionaries and structs aren't joined
+-- the same kinds and data types at every level; dictionaries and structs cannot be joined
 abbrev pub CanJoin : BuilderTree → BuilderTree → Type 0
 CanJoin (flat t xs) (flat u ys) = t ≡ u
 CanJoin (list large t rows c) (list wide u more d) = (large ≡ wide) × (t ≡ u) × CanJoin c d
@@ -30,18 +30,19 @@ joined_builder (list large t rows c) (list wide u more d) = list large t (rows +
 joined_builder (fixed_size_list t bits c) (fixed_size_list u more d) = fixed_size_list t (bits ++ more) (joined_builder c d)
 joined_builder t _ = t
 
--- each level with the other's level behind it
+-- each level followed by the other builder's level
 abbrev pub joined_levels : List (List Slot) → List (List Slot) → List (List Slot)
 joined_levels (xs ∷ xss) (ys ∷ yss) = (xs ++ ys) ∷ joined_levels xss yss
 joined_levels _ _ = []
 
--- The rows of other were joined to old: each level gained other's level, no item waits, and a cut to the former length takes them back.
+-- The rows of other were appended to old: each level gained other's level, and no item is pending.
+-- Truncating to the former length undoes it.
 pub record Joined (other old new : BuilderTree) : Type 0 where
   pub exact : new ≡ joined_builder old other
   pub every : levels new ≡ joined_levels (levels old) (levels other)
   pub last : own_slots new ≡ own_slots old ++ own_slots other
-  pub whole : IsWhole new
-  pub undo : cut_builder new (builder_len old) ≡ old
+  pub complete : IsComplete new
+  pub undo : truncate_builder new (builder_len old) ≡ old
   pub differ : ValuesDiffer old → ValuesDiffer new
 
 -- the rows of both pass a limit, here or at a level below
@@ -51,7 +52,7 @@ join_passes (list large t rows c) (list wide u more d) = (is_past (length rows +
 join_passes (fixed_size_list t bits c) (fixed_size_list u more d) = (is_past (length bits + length more) || is_past ((length bits + length more) * size_of t)) || join_passes c d
 join_passes _ _ = false
 
--- Why another builder's rows are refused: its data type is another, or both pass a limit.
+-- The checks of a join: the data types are equal, and the rows of both pass no limit.
 abbrev pub join_checks : BuilderTree → BuilderTree → Checks
 join_checks old other =
     check (InvalidArgumentError ItemType) (builder_type old ≡ builder_type other)

@@ -1,21 +1,21 @@
--- What joining does to each level.
+-- The result of a join at each level.
 use Rattle.std.proofs.Common.{◌≡◌, ℕ, zero, suc, ◌+◌, ◌-◌, ◌*◌, Bool, List, [], ◌∷◌, ◌++◌, length, drop, refl, sym, ap, subst, ◌∙◌, arith, length-append}
 use Rattle.std.specs.Prelude.{Some}
 use Rattle.std.proofs.Math.Seq.{take-append_seam}
 use Rattle.std.proofs.Math.Nat.{add-mul}
 use Rattle.nest_memory.specs.TypeTree.{TypeTree, size_of}
-use Rattle.nest_memory.specs.Cut.{cut}
+use Rattle.nest_memory.specs.Sublist.{sublist}
 use Rattle.nest_model.specs.Slot as slots
 use Rattle.nest_model.specs.Slot.{Slot, seal}
 use Rattle.nest_model.specs.BuilderRow.{Row, end_from, RisesFrom}
 use Rattle.nest_model.specs.BuilderTree.{BuilderTree, flat, list, fixed_size_list, dictionary, struct, builder_type, builder_len}
 use Rattle.nest_model.specs.BuilderLevels.{valid_or_null, rows_of_items, rows_of_size, own_slots, levels}
-use Rattle.nest_model.specs.BuilderWhole.{IsWhole}
+use Rattle.nest_model.specs.BuilderComplete.{IsComplete}
 use Rattle.nest_model.specs.BuilderJoin.{moved, CanJoin, joined_builder, Joined}
 use Rattle.nest_model.specs.BuilderRowLaws.{end_from-append, RisesFrom-append}
 use Rattle.nest_model.specs.BuilderLevelLaws.{own-length, items-append, items-longer, size-longer}
 
--- rows further on
+-- rows with moved offsets
 pub end_from-moved : (e s : ℕ) (rs : List Row) → end_from (e + s) (moved e rs) ≡ e + end_from s rs
 end_from-moved e s [] = refl
 end_from-moved e s (r ∷ rs) = end_from-moved e r.end rs
@@ -45,7 +45,7 @@ size-append : (s n : ℕ) (bits more : List Bool) (xs : List Slot) → rows_of_s
 size-append s n [] more xs = let q : s ≡ 0 * n + s = omega arith in ap (λ o. rows_of_size o n more xs) q
 size-append s n (b ∷ bs) more xs =
     let q : length bs * n + (s + n) ≡ suc (length bs) * n + s = omega (arith, add-mul (length bs) 1 n) in
-    ap (λ ys. valid_or_null b (slots.list (seal (cut xs s n))) ∷ ys) (size-append (s + n) n bs more xs ∙ ap (λ o. rows_of_size (s + n) n bs xs ++ rows_of_size o n more xs) q)
+    ap (λ ys. valid_or_null b (slots.list (seal (sublist xs s n))) ∷ ys) (size-append (s + n) n bs more xs ∙ ap (λ o. rows_of_size (s + n) n bs xs ++ rows_of_size o n more xs) q)
 
 pub type-joined : (t u : BuilderTree) → CanJoin t u → builder_type (joined_builder t u) ≡ builder_type t
 type-joined (flat k xs) (flat m ys) h = refl
@@ -77,7 +77,7 @@ both : (xs ys : List Slot) (xss yss : List (List Slot)) → xs ≡ ys → xss �
 both xs ys xss yss e f = cc
 
 -- lists over joined children
-pub list_joined : (large : Bool) (k : TypeTree) (rows more new : List Row) (c d e : BuilderTree) → new ≡ rows ++ moved (end_from 0 rows) more → IsWhole (list large k rows c) → IsWhole (list large k more d) → builder_type e ≡ builder_type c
+pub list_joined : (large : Bool) (k : TypeTree) (rows more new : List Row) (c d e : BuilderTree) → new ≡ rows ++ moved (end_from 0 rows) more → IsComplete (list large k rows c) → IsComplete (list large k more d) → builder_type e ≡ builder_type c
     → Joined d c e → Joined (list large k more d) (list large k rows c) (list large k new e)
 list_joined large k rows more new c d e f w v t h =
     let n = end_from 0 rows in
@@ -94,12 +94,12 @@ list_joined large k rows more new c d e f w v t h =
       exact = rw h.exact refl;
       every = both _ _ _ _ own h.every;
       last = own;
-      whole = (h.whole, w.1 ∙ ap Some (sym t), omega (arith, grown, w.2, v.2, end_from-append 0 rows (moved n more), ends), RisesFrom-append 0 rows (moved n more) w.3 rises);
+      complete = (h.complete, w.1 ∙ ap Some (sym t), omega (arith, grown, w.2, v.2, end_from-append 0 rows (moved n more), ends), RisesFrom-append 0 rows (moved n more) w.3 rises);
       undo = rw (take-append_seam rows (moved n more), ← w.2, h.undo) refl;
       differ = h.differ;
     })
 
-pub fixed_size_list_joined : (k : TypeTree) (bits more new : List Bool) (c d e : BuilderTree) → new ≡ bits ++ more → IsWhole (fixed_size_list k bits c) → IsWhole (fixed_size_list k more d) → builder_type e ≡ builder_type c
+pub fixed_size_list_joined : (k : TypeTree) (bits more new : List Bool) (c d e : BuilderTree) → new ≡ bits ++ more → IsComplete (fixed_size_list k bits c) → IsComplete (fixed_size_list k more d) → builder_type e ≡ builder_type c
     → Joined d c e → Joined (fixed_size_list k more d) (fixed_size_list k bits c) (fixed_size_list k new e)
 fixed_size_list_joined k bits more new c d e f w v t h =
     let s = size_of k in
@@ -111,22 +111,22 @@ fixed_size_list_joined k bits more new c d e f w v t h =
       exact = rw h.exact refl;
       every = both _ _ _ _ own h.every;
       last = own;
-      whole = (h.whole, w.1 ∙ ap Some (sym t), rw (length-append bits more) (omega (arith, grown, w.2, v.2, add-mul (length bits) (length more) s)));
+      complete = (h.complete, w.1 ∙ ap Some (sym t), rw (length-append bits more) (omega (arith, grown, w.2, v.2, add-mul (length bits) (length more) s)));
       undo = rw (take-append_seam bits more, ← w.2, h.undo) refl;
       differ = h.differ;
     })
 
 pub flat_joined : (k : TypeTree) (xs ys new : List Slot) → new ≡ xs ++ ys → Joined (flat k ys) (flat k xs) (flat k new)
-flat_joined k xs ys new e = rw e (record { exact = refl; every = refl; last = refl; whole = tt; undo = ap (flat k) (take-append_seam xs ys); differ = λ d. tt })
+flat_joined k xs ys new e = rw e (record { exact = refl; every = refl; last = refl; complete = tt; undo = ap (flat k) (take-append_seam xs ys); differ = λ d. tt })
 
--- whole builders of the same kinds are joined rightly
-pub joined-alike : (t u : BuilderTree) → CanJoin t u → IsWhole t → IsWhole u → Joined u t (joined_builder t u)
+-- complete builders of the same kinds can be joined
+pub joined-alike : (t u : BuilderTree) → CanJoin t u → IsComplete t → IsComplete u → Joined u t (joined_builder t u)
 joined-alike (flat k xs) (flat m ys) h w v = rw (sym h) (flat_joined k xs ys (xs ++ ys) refl)
 joined-alike (list large k rows c) (list wide m more d) h w v =
-    let v' : IsWhole (list large k more d) = rw h.1 v in
+    let v' : IsComplete (list large k more d) = rw h.1 v in
     rw (sym h.0, sym h.1) (list_joined large k rows more (rows ++ moved (end_from 0 rows) more) c d (joined_builder c d) refl w v' (type-joined c d h.2) (joined-alike c d h.2 w.0 v.0))
 joined-alike (fixed_size_list k bits c) (fixed_size_list m more d) h w v =
-    let v' : IsWhole (fixed_size_list k more d) = rw h.0 v in
+    let v' : IsComplete (fixed_size_list k more d) = rw h.0 v in
     rw (sym h.0) (fixed_size_list_joined k bits more (bits ++ more) c d (joined_builder c d) refl w v' (type-joined c d h.1) (joined-alike c d h.1 w.0 v.0))
 joined-alike (flat k xs) (list wide m more d) h w v = absurd h
 joined-alike (flat k xs) (fixed_size_list m more d) h w v = absurd h

@@ -1,4 +1,4 @@
--- Which values arrays of a physical type hold, type by type, both ways.
+-- The values that arrays of each physical type hold, in both directions.
 use Rattle.std.specs.Prelude.{◌≡◌, ◌⊎◌, ℕ, ℤ, Bool, true, List, [], ◌∷◌, get_or}
 use Rattle.std.proofs.Common.{refl, ap, sym, ◌∙◌, inl, inr}
 use Rattle.std.proofs.lemmas.Bool.Decides.{Decides-eqb}
@@ -37,14 +37,14 @@ kind_back primitives.Float64 = refl
 kind_back primitives.DaysMs = refl
 kind_back primitives.MonthDayNano = refl
 
--- native types of one number are one
+-- native types with equal numbers are equal
 pub native_one : (p q : PrimitiveType) → native_number p ≡ native_number q → p ≡ q
 native_one p q h = sym (kind_back p) ∙ ap kind_of h ∙ kind_back q
 
 pub takes-one : (t : BuilderTree) (p q : PrimitiveType) (zs ws : List ℤ) → takes t (items.native p zs) ≡ true → takes t (items.native q ws) ≡ true → p ≡ q
 takes-one t p q zs ws a b = native_one p q (takes-one_kind t p q zs ws a b)
 
-pub holds-truth : (k : PhysicalType) (b : Bool) → holds_kind k (items.truth b) ≡ true → k ≡ physical.Boolean
+pub holds-truth : (k : PhysicalType) (b : Bool) → holds_kind k (items.boolean b) ≡ true → k ≡ physical.Boolean
 holds-truth physical.Boolean b h = refl
 holds-truth k b h = absurd cc
 
@@ -55,7 +55,7 @@ holds-native k p zs h = absurd cc
 pub own-native : (p : PrimitiveType) (zs : List ℤ) → holds_kind (physical.Primitive p) (items.native p zs) ≡ true
 own-native p zs = (Decides-eqb (native_number p) (native_number p)).1 refl
 
-pub holds-text : (k : PhysicalType) (bs : List ℕ) → holds_kind k (items.text bs) ≡ true → (k ≡ physical.Utf8) ⊎ (k ≡ physical.LargeUtf8)
+pub holds-text : (k : PhysicalType) (bs : List ℕ) → holds_kind k (items.utf8 bs) ≡ true → (k ≡ physical.Utf8) ⊎ (k ≡ physical.LargeUtf8)
 holds-text physical.Utf8 bs h = inl refl
 holds-text physical.LargeUtf8 bs h = inr refl
 holds-text k bs h = absurd cc

@@ -1,10 +1,10 @@
--- The slots of a builder's rows: how many, of first rows, of one row more, and over a longer or a shorter list of a child's slots.
+-- The slots of a builder's rows: their number, the first rows, one more row, and over a longer or a shorter child.
 use Rattle.std.specs.Prelude.{Option, Some, None}
 use Rattle.std.proofs.Common.{◌≡◌, ℕ, zero, suc, ◌+◌, ◌-◌, ◌*◌, ◌≤◌, ◌<◌, Bool, List, [], ◌∷◌, ◌++◌, length, take, drop, map, refl, sym, ap, ◌∙◌, arith, length-append}
 use Rattle.std.proofs.Math.Seq.{drop-append_seam}
 use Rattle.std.proofs.Math.Nat.{suc-mul, zero-mul, add-zero}
 use Rattle.std.proofs.lemmas.List.{take_all, take-append-le, drop-append-le, length-drop, length-take, length-map, get_or-take, get_or_append_left}
-use Rattle.nest_memory.specs.Cut.{cut}
+use Rattle.nest_memory.specs.Sublist.{sublist}
 use Rattle.nest_memory.specs.TypeTree.{size_of}
 use Rattle.nest_model.specs.Slot as slots
 use Rattle.nest_model.specs.Slot.{Slot, seal}
@@ -23,19 +23,19 @@ halves (suc n) (x ∷ xs) = ap (λ ys. x ∷ ys) (halves n xs)
 pub length-front : {A : Type 0} (n : ℕ) (xs : List A) → n ≤ length xs → length (take n xs) ≡ n
 length-front n xs h = omega (arith, length-take n xs)
 
-cut-append : (xs ys : List Slot) (o n : ℕ) → o + n ≤ length xs → cut (xs ++ ys) o n ≡ cut xs o n
+cut-append : (xs ys : List Slot) (o n : ℕ) → o + n ≤ length xs → sublist (xs ++ ys) o n ≡ sublist xs o n
 cut-append xs ys o n h = rw (drop-append-le o xs ys (omega arith)) (take-append-le n (drop o xs) ys (omega (arith, length-drop o xs)))
 
-pub cut-rest : (xs ys : List Slot) (n : ℕ) → n ≡ length xs → cut (xs ++ ys) n (length (xs ++ ys) - n) ≡ ys
+pub cut-rest : (xs ys : List Slot) (n : ℕ) → n ≡ length xs → sublist (xs ++ ys) n (length (xs ++ ys) - n) ≡ ys
 cut-rest xs ys n e = rw (e, drop-append_seam xs ys) (take_all _ ys (omega (arith, length-append xs ys)))
 
-pub cut-last : (xs ys : List Slot) (n s : ℕ) → n ≡ length xs → length ys ≡ s → cut (xs ++ ys) n s ≡ ys
+pub cut-last : (xs ys : List Slot) (n s : ℕ) → n ≡ length xs → length ys ≡ s → sublist (xs ++ ys) n s ≡ ys
 cut-last xs ys n s e f = rw (e, drop-append_seam xs ys) (take_all s ys (omega arith))
 
-pub cut-all_after : (xs : List Slot) (o n : ℕ) → o + n ≡ length xs → cut xs o n ≡ drop o xs
+pub cut-all_after : (xs : List Slot) (o n : ℕ) → o + n ≡ length xs → sublist xs o n ≡ drop o xs
 cut-all_after xs o n e = take_all n (drop o xs) (omega (arith, length-drop o xs))
 
--- how many
+-- the number of slots
 length-items : (s : ℕ) (rows : List Row) (xs : List Slot) → length (rows_of_items s rows xs) ≡ length rows
 length-items s [] xs = refl
 length-items s (r ∷ rs) xs = ap suc (length-items r.end rs xs)
@@ -56,24 +56,24 @@ own-length (fixed_size_list t bits c) = length-size 0 (size_of t) bits (own_slot
 own-length (dictionary k t keys c) = length-map keys (value_at (own_slots c))
 own-length (struct t bits cs) = length-records 0 bits (own_slots_each cs)
 
--- a builder that gained slots
+-- the length of a builder that gained slots
 pub len-grown : (xs : List Slot) (a b : BuilderTree) → own_slots b ≡ own_slots a ++ xs → builder_len b ≡ builder_len a + length xs
 len-grown xs a b e = omega (arith, own-length a, own-length b, ap length e, length-append (own_slots a) xs)
 
--- one row more
-pub items-push : (s : ℕ) (rows : List Row) (r : Row) (xs : List Slot) → rows_of_items s (rows ++ r ∷ []) xs ≡ rows_of_items s rows xs ++ valid_or_null r.valid (slots.list (seal (cut xs (end_from s rows) (r.end - end_from s rows)))) ∷ []
+-- one more row
+pub items-push : (s : ℕ) (rows : List Row) (r : Row) (xs : List Slot) → rows_of_items s (rows ++ r ∷ []) xs ≡ rows_of_items s rows xs ++ valid_or_null r.valid (slots.list (seal (sublist xs (end_from s rows) (r.end - end_from s rows)))) ∷ []
 items-push s [] r xs = refl
-items-push s (q ∷ rs) r xs = ap (λ ys. valid_or_null q.valid (slots.list (seal (cut xs s (q.end - s)))) ∷ ys) (items-push q.end rs r xs)
+items-push s (q ∷ rs) r xs = ap (λ ys. valid_or_null q.valid (slots.list (seal (sublist xs s (q.end - s)))) ∷ ys) (items-push q.end rs r xs)
 
 pub items-append : (s : ℕ) (xs ys : List Row) (zs : List Slot) → rows_of_items s (xs ++ ys) zs ≡ rows_of_items s xs zs ++ rows_of_items (end_from s xs) ys zs
 items-append s [] ys zs = refl
-items-append s (x ∷ xs) ys zs = ap (λ us. valid_or_null x.valid (slots.list (seal (cut zs s (x.end - s)))) ∷ us) (items-append x.end xs ys zs)
+items-append s (x ∷ xs) ys zs = ap (λ us. valid_or_null x.valid (slots.list (seal (sublist zs s (x.end - s)))) ∷ us) (items-append x.end xs ys zs)
 
-pub size-push : (s n : ℕ) (bits : List Bool) (b : Bool) (xs : List Slot) → rows_of_size s n (bits ++ b ∷ []) xs ≡ rows_of_size s n bits xs ++ valid_or_null b (slots.list (seal (cut xs (s + length bits * n) n))) ∷ []
+pub size-push : (s n : ℕ) (bits : List Bool) (b : Bool) (xs : List Slot) → rows_of_size s n (bits ++ b ∷ []) xs ≡ rows_of_size s n bits xs ++ valid_or_null b (slots.list (seal (sublist xs (s + length bits * n) n))) ∷ []
 size-push s n [] b xs = rw (zero-mul n, add-zero s) refl
 size-push s n (q ∷ bs) b xs =
     let e : (s + n) + length bs * n ≡ s + suc (length bs) * n = omega (arith, suc-mul (length bs) n) in
-    ap (λ ys. valid_or_null q (slots.list (seal (cut xs s n))) ∷ ys) (rw (size-push (s + n) n bs b xs, e) refl)
+    ap (λ ys. valid_or_null q (slots.list (seal (sublist xs s n))) ∷ ys) (rw (size-push (s + n) n bs b xs, e) refl)
 
 pub records-push : (i : ℕ) (bits : List Bool) (b : Bool) (xss : List (List Slot)) → rows_of_records i (bits ++ b ∷ []) xss ≡ rows_of_records i bits xss ++ valid_or_null b (slots.record_of (record_at (i + length bits) xss)) ∷ []
 records-push i [] b xss = let e : i + 0 ≡ i = omega arith in rw e refl
@@ -99,7 +99,7 @@ values-longer [] xs ys e = refl
 values-longer (None ∷ ks) xs ys e = rw (values-longer ks xs ys e) refl
 values-longer (Some k ∷ ks) xs ys e = rw (get_or_append_left xs ys slots.null k (omega arith), values-longer ks xs ys (omega arith)) refl
 
--- over a shorter one
+-- over a shorter list
 items-shorter : (e s : ℕ) (rows : List Row) (xs : List Slot) → RisesFrom s rows → end_from s rows ≤ e → e ≤ length xs → rows_of_items s rows (take e xs) ≡ rows_of_items s rows xs
 items-shorter e s rows xs r h l = sym (items-longer s rows (take e xs) (drop e xs) r (omega (arith, length-take e xs))) ∙ ap (rows_of_items s rows) (halves e xs)
 
@@ -113,7 +113,7 @@ record-shorter : (i n : ℕ) (xss : List (List Slot)) → i < n → record_at i 
 record-shorter i n [] h = refl
 record-shorter i n (xs ∷ xss) h = rw (get_or-take n xs i slots.null h, record-shorter i n xss h) refl
 
--- the first rows, over what they need
+-- the first rows, over the items that they need
 take-items : (n s : ℕ) (rows : List Row) (xs : List Slot) → rows_of_items s (take n rows) xs ≡ take n (rows_of_items s rows xs)
 take-items zero s [] xs = refl
 take-items (suc n) s [] xs = refl

@@ -1,4 +1,4 @@
--- A push that nothing refuses leaves no level past a limit.
+-- A push that no check refuses leaves each level within its limits.
 use Rattle.std.specs.Prelude.{Option, Some, None, not, ◌||◌, leb, ltb, nat_eq, if◌then◌else◌}
 use Rattle.std.proofs.Common.{◌≡◌, ℕ, zero, suc, ◌+◌, ◌*◌, Bool, true, false, List, [], ◌∷◌, ◌++◌, length, replicate, refl, sym, ◌∙◌, arith, inl, inr}
 use Rattle.std.proofs.lemmas.Bool.Decides.{leb_tells}
@@ -9,18 +9,18 @@ use Rattle.nest_memory.specs.declared.datatypes.IntegerType.{IntegerType}
 use Rattle.nest_memory.specs.declared.datatypes.physical_type.PhysicalType.{PhysicalType}
 use Rattle.nest_memory.specs.declared.datatypes.physical_type.PhysicalType.TheVariants as physical
 use Rattle.nest_memory.specs.declared.error.Error.TheVariants.{InvalidArgumentError, Overflow}
-use Rattle.nest_memory.specs.declared.error.Argument.TheVariants.{ItemSize, ItemType}
+use Rattle.nest_memory.specs.declared.error.ArgumentError.TheVariants.{ItemSize, ItemType}
 use Rattle.nest_memory.specs.declared.error.Error.{Error}
 use Rattle.nest_memory.specs.Rising.{largest_offset}
 use Rattle.nest_model.specs.Slot as slots
 use Rattle.nest_model.specs.Slot.{Slot}
 use Rattle.nest_model.specs.Checks.{refuse_if, first_of, is_past}
 use Rattle.nest_model.specs.Decide.{refuse-none, first-none}
-use Rattle.nest_model.specs.BuilderRow.{told_row, end_from}
+use Rattle.nest_model.specs.BuilderRow.{row_ending, end_from}
 use Rattle.nest_model.specs.BuilderTree.{BuilderTree, BuilderTrees, flat, list, fixed_size_list, dictionary, struct, no_builders, more_builders, builder_len, key_count}
 use Rattle.nest_model.specs.BuilderLevels.{own_slots}
 use Rattle.nest_model.specs.BuilderItem as items
-use Rattle.nest_model.specs.BuilderItem.{PlainValue, Item, Items, no_items, more_items, count_items, slot_of_plain, takes, place_of, byte_count, bytes_held}
+use Rattle.nest_model.specs.BuilderItem.{PlainValue, Item, Items, no_items, more_items, count_items, slot_of_plain, takes, position_of, byte_count, bytes_held}
 use Rattle.nest_model.specs.BuilderAppend.{nulls_appended, nulls_appended_each, keyed, value_appended, appended, items_appended}
 use Rattle.nest_model.specs.BuilderRefusals.{bytes_pass, flat_passes, has_other_size, nulls_pass, nulls_pass_each, is_known, value_refusal, item_refusal, items_refusal, over_limits, over_limits_each}
 use Rattle.nest_model.specs.BuilderRowLaws.{end_from-push}
@@ -74,7 +74,7 @@ mutual
   nulls-within n (list large k rows c) o h =
       let a = neither (is_past (length rows) || ltb (largest_offset large) (end_from 0 rows)) (over_limits c) o in
       let b = neither (is_past (length rows)) (ltb (largest_offset large) (end_from 0 rows)) a.0 in
-      rw (longer rows n (told_row false (end_from 0 rows)), end-nulls rows n, h, b.1, a.1) refl
+      rw (longer rows n (row_ending false (end_from 0 rows)), end-nulls rows n, h, b.1, a.1) refl
   nulls-within n (fixed_size_list k bits c) o h =
       let a = neither (is_past (length bits) || is_past (length bits * size_of k)) (over_limits c) o in
       let b = neither (is_past (length bits + n) || is_past ((length bits + n) * size_of k)) (nulls_pass (n * size_of k) c) h in
@@ -100,14 +100,14 @@ value-len : (v : PlainValue) (t : BuilderTree) → value_refusal v t ≡ None �
 value-len v (flat k xs) h = length_push xs (slot_of_plain v)
 value-len v (list large k rows c) h = absurd (some_none (InvalidArgumentError ItemType) h)
 value-len v (fixed_size_list k bits c) h = absurd (some_none (InvalidArgumentError ItemType) h)
-value-len v (dictionary i k keys c) h = keyed-len i k keys c (value_appended v c) (place_of v (own_slots c))
+value-len v (dictionary i k keys c) h = keyed-len i k keys c (value_appended v c) (position_of v (own_slots c))
   where
     keyed-len : (i : IntegerType) (k : TypeTree) (keys : List (Option ℕ)) (c d : BuilderTree) (o : Option ℕ) → builder_len (keyed i k keys c d o) ≡ length keys + 1
     keyed-len i k keys c d (Some j) = length_push keys (Some j)
     keyed-len i k keys c d None = length_push keys (Some (builder_len c))
 value-len v (struct k bits cs) h = absurd (some_none (InvalidArgumentError ItemType) h)
 
--- a new key has its place, where there is one
+-- a new key fits, if one is left
 has_key : (known full other : Bool) (rest own : Option Error) → known ≡ false → first_of (if known then None else refuse_if full Overflow (refuse_if other (InvalidArgumentError ItemType) rest)) own ≡ None → full ≡ false
 has_key true full other rest own e h = absurd (let a : true ≡ false = e in cc)
 has_key false full other rest own e h = (refuse-none full Overflow (refuse_if other (InvalidArgumentError ItemType) rest) (first-none (refuse_if full Overflow (refuse_if other (InvalidArgumentError ItemType) rest)) own h).0).0
@@ -140,9 +140,9 @@ value-within v (dictionary i k keys c) o h =
     let b = neither (is_past (length keys)) (ltb (key_count i) (builder_len c)) a.0 in
     let full = leb (key_count i) (builder_len c) in
     let own = refuse_if (is_past (length keys + 1)) Overflow None in
-    key-within i k keys c (value_appended v c) (place_of v (own_slots c)) (refuse-none (is_past (length keys + 1)) Overflow None (first-none _ own h).1).0 b.1 a.1
+    key-within i k keys c (value_appended v c) (position_of v (own_slots c)) (refuse-none (is_past (length keys + 1)) Overflow None (first-none _ own h).1).0 b.1 a.1
     (λ e.
-    let u = unknown (takes c v) (place_of v (own_slots c)) e in
+    let u = unknown (takes c v) (position_of v (own_slots c)) e in
     let r = new_refused (is_known c v) full (not (takes c v)) (value_refusal v c) own u h in
     let l = value-len v c r in
     (rw l (one_more (key_count i) (builder_len c) (has_key (is_known c v) full (not (takes c v)) (value_refusal v c) own u h)), value-within v c a.1 r))
@@ -159,7 +159,7 @@ mutual
       let a = neither (is_past (length rows) || ltb (largest_offset large) (end_from 0 rows)) (over_limits c) o in
       let f = first-none (items_refusal xs c) _ h in
       let r = neither (is_past (length rows + 1)) (ltb (largest_offset large) (builder_len d)) (refuse-none _ Overflow None f.1).0 in
-      rw (length_push rows (told_row true (builder_len d)), end_from-push 0 rows (told_row true (builder_len d)), r.0, r.1, items-within xs c a.1 f.0) refl
+      rw (length_push rows (row_ending true (builder_len d)), end_from-push 0 rows (row_ending true (builder_len d)), r.0, r.1, items-within xs c a.1 f.0) refl
   item-within (items.list_of xs) (fixed_size_list k bits c) o h =
       let a = neither (is_past (length bits) || is_past (length bits * size_of k)) (over_limits c) o in
       let f = first-none (items_refusal xs c) _ h in

@@ -11,11 +11,11 @@ use Rattle.nest_memory.specs.declared.datatypes.physical_type.PhysicalType.{Phys
 use Rattle.nest_memory.specs.declared.datatypes.physical_type.PhysicalType.TheVariants as physical
 use Rattle.nest_memory.specs.declared.error.Error.{Error}
 use Rattle.nest_memory.specs.declared.error.Error.TheVariants.{InvalidArgumentError, Overflow}
-use Rattle.nest_memory.specs.declared.error.Argument.TheVariants.{ItemSize}
+use Rattle.nest_memory.specs.declared.error.ArgumentError.TheVariants.{ItemSize}
 use Rattle.nest_memory.specs.Rising.{largest_offset}
 use Rattle.nest_model.specs.Slot as slots
 use Rattle.nest_model.specs.Slot.{Slot}
-use Rattle.nest_model.specs.BuilderRow.{Row, told_row, end_from}
+use Rattle.nest_model.specs.BuilderRow.{Row, row_ending, end_from}
 use Rattle.nest_model.specs.BuilderTree.{BuilderTree, BuilderTrees, flat, list, fixed_size_list, dictionary, struct, no_builders, more_builders, builder_len}
 use Rattle.nest_model.specs.Checks.{largest_length}
 use Rattle.nest_model.specs.BuilderItem as items
@@ -41,7 +41,7 @@ same_number a b e = elim (eqb_tells a b) as (λ _. not (nat_eq a b) ≡ false) [
 pub other_number : (a b : ℕ) → a ≢ b → not (nat_eq a b) ≡ true
 other_number a b e = elim (eqb_tells a b) as (λ _. not (nat_eq a b) ≡ true) [ inl h ↦ absurd (e h.1) | inr h ↦ rw h.0 refl ]
 
--- items one after another: the first ones, and then the others
+-- items in order: a first part, then the rest
 first_of-all : (o p q : Option Error) → first_of o (first_of p q) ≡ first_of (first_of o p) q
 first_of-all None p q = refl
 first_of-all (Some e) p q = refl
@@ -58,7 +58,7 @@ none-more xs x t h k = items-both xs (x ∷ []) t ∙ rw (h, k) refl
 pub some-then : (e : Error) (xs ys : List Item) (x : Item) (t : BuilderTree) → items_refusal (seal_items xs) t ≡ None → item_refusal x (all_appended xs t) ≡ Some e → items_refusal (seal_items (xs ++ x ∷ ys)) t ≡ Some e
 some-then e xs ys x t h k = items-both xs (x ∷ ys) t ∙ rw (h, k) refl
 
--- A list: no item of it is refused, and its row has its place, or none.
+-- A list whose items are not refused: its row is accepted within the limits and refused past them.
 pub list_none : (large : Bool) (k : TypeTree) (rows : List Row) (c d : BuilderTree) (xs : List Item) → items_refusal (seal_items xs) c ≡ None → AcceptedAll xs c d → length rows + 1 ≤ largest_length → builder_len d ≤ largest_offset large
     → item_refusal (items.list_of (seal_items xs)) (list large k rows c) ≡ None
 list_none large k rows c d xs h a l m =
@@ -75,7 +75,7 @@ list_past large k rows c d xs h a m =
     let end : builder_len (items_appended (seal_items xs) c) ≡ builder_len d = ap builder_len (appended-sealed xs c ∙ sym a.exact) in
     rw (h, end, le-leb (suc (largest_offset large)) (builder_len d) (omega (arith, m)), or-true (is_past (length rows + 1))) refl
 
--- A fixed-size list: also as many items as its size.
+-- A fixed-size list: the same, and the number of items must equal its size.
 pub fixed_none : (k : TypeTree) (bits : List Bool) (c : BuilderTree) (xs : List Item) → items_refusal (seal_items xs) c ≡ None → length xs ≡ size_of k → length bits + 1 ≤ largest_length → (length bits + 1) * size_of k ≤ largest_length
     → item_refusal (items.list_of (seal_items xs)) (fixed_size_list k bits c) ≡ None
 fixed_none k bits c xs h n l m =
@@ -90,7 +90,7 @@ pub fixed_past : (k : TypeTree) (bits : List Bool) (c : BuilderTree) (xs : List 
 fixed_past k bits c xs h n m =
     rw (h, same_number (count_items (seal_items xs)) (size_of k) (count-sealed xs ∙ n), le-leb (suc largest_length) ((length bits + 1) * size_of k) (omega (arith, m)), or-true (is_past (length bits + 1))) refl
 
--- Nulls: those of two runs pass a limit where the first do, or the second after them.
+-- Two runs of nulls pass a limit exactly if the first run does, or the second run after it.
 absorb : (x y : Bool) → (x ≡ true → y ≡ true) → y ≡ (x || y)
 absorb true y h = h refl
 absorb false y h = refl
@@ -146,7 +146,7 @@ mutual
   pub nulls-both : (t : BuilderTree) (m n : ℕ) → nulls_pass (m + n) t ≡ (nulls_pass m t || nulls_pass n (nulls_appended m t))
   nulls-both (flat k xs) m n =
       rw (longer xs slots.null m n) (absorb (flat_passes k (length xs + m) 0) (flat_passes k (length xs + (m + n)) 0) (flat-le k (length xs + m) (length xs + (m + n)) 0 (omega arith)))
-  nulls-both (list large k rows c) m n = past-both rows (told_row false (end_from 0 rows)) m n
+  nulls-both (list large k rows c) m n = past-both rows (row_ending false (end_from 0 rows)) m n
   nulls-both (fixed_size_list k bits c) m n =
       let le : length bits + m ≤ length bits + (m + n) = omega arith in
       let own = either-le (is_past (length bits + m)) (is_past ((length bits + m) * size_of k)) (is_past (length bits + (m + n))) (is_past ((length bits + (m + n)) * size_of k))
@@ -165,7 +165,7 @@ mutual
       rw (nulls-both c m n, nulls-both-each cs m n)
       (swap (nulls_pass m c) (nulls_pass n (nulls_appended m c)) (nulls_pass_each m cs) (nulls_pass_each n (nulls_appended_each m cs)))
 
--- one null more has its place, or the nulls that are wanted pass a limit
+-- one more null fits, or the nulls together pass a limit
 pub nulls-more_fit : (t : BuilderTree) (m : ℕ) → nulls_pass m t ≡ false → nulls_pass 1 (nulls_appended m t) ≡ false → nulls_pass (m + 1) t ≡ false
 nulls-more_fit t m h k = rw (nulls-both t m 1, h, k) refl
 
@@ -175,7 +175,7 @@ nulls-then_pass t m n l h =
     let f : nulls_pass (m + 1) t ≡ true = nulls-both t m 1 ∙ (ap (λ b. nulls_pass m t || b) h ∙ or-true (nulls_pass m t)) in
     ap (λ i. nulls_pass i t) e ∙ (nulls-both t (m + 1) (n - (m + 1)) ∙ ap (λ b. b || nulls_pass (n - (m + 1)) (nulls_appended (m + 1) t)) f)
 
--- a null item, refused or not, by whether a null passes
+-- a null item is refused exactly if one more null passes a limit
 pub null_none : (t : BuilderTree) → nulls_pass 1 t ≡ false → item_refusal items.null t ≡ None
 null_none t h = rw h refl
 

@@ -1,10 +1,10 @@
--- What refuses a pushed item: the first of its checks that fails, here or at a level below; and when a level is past a limit.
+-- Why a pushed item is refused: the first check that fails, at this level or below. Also when a level is past a limit.
 use Rattle.std.specs.Prelude.{ℕ, ◌+◌, ◌*◌, Bool, true, false, not, ◌&&◌, ◌||◌, nat_eq, leb, ltb, is_some, if◌then◌else◌, length, Option, Some, None}
 use Rattle.nest_memory.specs.TypeTree.{TypeTree, size_of}
 use Rattle.nest_memory.specs.Physical.{physical_type}
 use Rattle.nest_memory.specs.declared.error.Error.{Error}
 use Rattle.nest_memory.specs.declared.error.Error.TheVariants.{InvalidArgumentError, Overflow}
-use Rattle.nest_memory.specs.declared.error.Argument.TheVariants.{ItemSize, ItemType}
+use Rattle.nest_memory.specs.declared.error.ArgumentError.TheVariants.{ItemSize, ItemType}
 use Rattle.nest_memory.specs.declared.datatypes.physical_type.PhysicalType.{PhysicalType}
 use Rattle.nest_memory.specs.declared.datatypes.physical_type.PhysicalType.TheVariants as physical
 use Rattle.nest_memory.specs.Rising.{largest_offset}
@@ -12,11 +12,11 @@ use Rattle.nest_model.specs.Checks.{refuse_if, first_of, is_past}
 use Rattle.nest_model.specs.BuilderTree.{BuilderTree, BuilderTrees, flat, list, fixed_size_list, dictionary, struct, no_builders, more_builders, builder_len, key_count}
 use Rattle.nest_model.specs.BuilderLevels.{own_slots}
 use Rattle.nest_model.specs.BuilderItem as items
-use Rattle.nest_model.specs.BuilderItem.{PlainValue, Item, Items, no_items, more_items, count_items, slot_of_plain, takes, place_of, byte_count, bytes_held}
+use Rattle.nest_model.specs.BuilderItem.{PlainValue, Item, Items, no_items, more_items, count_items, slot_of_plain, takes, position_of, byte_count, bytes_held}
 use Rattle.nest_model.specs.BuilderAppend.{appended, items_appended}
 use Rattle.nest_model.specs.BuilderRow.{end_from}
 
--- Variable-Size Binary Layout: so many bytes are past the largest offset; of slots of one size, past a length
+-- Variable-size Binary Layout: the byte count exceeds the largest offset; for fixed-size binary, the largest length
 abbrev pub bytes_pass : PhysicalType → ℕ → ℕ → Bool
 bytes_pass physical.FixedSizeBinary fixed n = is_past fixed
 bytes_pass physical.Binary fixed n = ltb (largest_offset false) n
@@ -25,7 +25,7 @@ bytes_pass physical.LargeBinary fixed n = ltb (largest_offset true) n
 bytes_pass physical.LargeUtf8 fixed n = ltb (largest_offset true) n
 bytes_pass _ fixed n = false
 
--- a flat builder has no place for so many slots, or for n bytes in them
+-- `count` slots, or n bytes in them, exceed a limit of a flat builder
 abbrev pub flat_passes : TypeTree → ℕ → ℕ → Bool
 flat_passes t count n = is_past count || bytes_pass (physical_type t) (count * size_of t) n
 
@@ -34,7 +34,7 @@ abbrev pub has_other_size : PhysicalType → ℕ → ℕ → Bool
 has_other_size physical.FixedSizeBinary size n = not (nat_eq n size)
 has_other_size _ size n = false
 
--- n nulls more pass a limit, here or at a level below
+-- n more nulls pass a limit, at this level or below
 abbrev mutual
   pub nulls_pass : ℕ → BuilderTree → Bool
   nulls_pass n (flat t xs) = flat_passes t (length xs + n) 0
@@ -47,12 +47,12 @@ abbrev mutual
   nulls_pass_each n no_builders = false
   nulls_pass_each n (more_builders c cs) = nulls_pass n c || nulls_pass_each n cs
 
--- one of the values is it
+-- the value is one of the dictionary's values
 abbrev pub is_known : BuilderTree → PlainValue → Bool
-is_known c v = takes c v && is_some (place_of v (own_slots c))
+is_known c v = takes c v && is_some (position_of v (own_slots c))
 
--- A value: its kind, its size, its place. Of a dictionary a known value has its key; a new one needs a key, and then the values' place. Lists and
--- records take no value.
+-- The checks of a value: kind, size, limits. A dictionary has a key for a known value.
+-- A new value needs a free key and passes the checks of the values. Lists and structs accept no value.
 abbrev pub value_refusal : PlainValue → BuilderTree → Option Error
 value_refusal v (flat t xs) =
     refuse_if (not (takes (flat t xs) v)) (InvalidArgumentError ItemType)
@@ -65,11 +65,11 @@ value_refusal v (dictionary k t keys c) =
     (refuse_if (is_past (length keys + 1)) Overflow None)
 value_refusal v (struct t bits cs) = Some (InvalidArgumentError ItemType)
 
--- the same where the kind is checked before all else
+-- the same if the kind is checked first
 abbrev pub plain_refusal : PlainValue → BuilderTree → Option Error
 plain_refusal v t = refuse_if (not (takes t v)) (InvalidArgumentError ItemType) (value_refusal v t)
 
--- An item: null, a value, or a list, of which the items come first, in order, then their number, then the row's place.
+-- The checks of an item: null, a value, or a list. A list checks its items in order, their number, then its limits.
 abbrev mutual
   pub item_refusal : Item → BuilderTree → Option Error
   item_refusal items.null t = refuse_if (nulls_pass 1 t) Overflow None
@@ -85,19 +85,19 @@ abbrev mutual
   item_refusal (items.list_of xs) (dictionary k t keys c) = Some (InvalidArgumentError ItemType)
   item_refusal (items.list_of xs) (struct t bits cs) = Some (InvalidArgumentError ItemType)
 
-  -- items that are pushed one after another, up to the first that is refused
+  -- items pushed in order, up to the first refused item
   pub items_refusal : Items → BuilderTree → Option Error
   items_refusal no_items t = None
   items_refusal (more_items x xs) t = first_of (item_refusal x t) (items_refusal xs (appended x t))
 
--- the same of try_push_plain: None is null
-abbrev pub asked_item : Option PlainValue → Item
-asked_item None = items.null
-asked_item (Some v) = items.plain v
+-- the same for `try_push_plain`: None is null
+abbrev pub required_item : Option PlainValue → Item
+required_item None = items.null
+required_item (Some v) = items.plain v
 
-abbrev pub asked_refusal : Option PlainValue → BuilderTree → Option Error
-asked_refusal None t = item_refusal items.null t
-asked_refusal (Some v) t = plain_refusal v t
+abbrev pub requirement_refusal : Option PlainValue → BuilderTree → Option Error
+requirement_refusal None t = item_refusal items.null t
+requirement_refusal (Some v) t = plain_refusal v t
 
 -- a level is past a limit
 abbrev mutual

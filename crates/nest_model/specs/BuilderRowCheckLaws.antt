@@ -1,4 +1,4 @@
--- Rows that are told or joined: which are refused, and which are ready.
+-- Added and joined rows: which are refused, and which are ready.
 use Rattle.std.specs.Prelude.{Option, Some}
 use Rattle.std.proofs.Common.{◌≡◌, ℕ, ◌+◌, ◌≤◌, Bool, true, false, List, [], ◌∷◌, ◌++◌, length, refl, sym, ap, ◌∙◌, inl, inr, arith}
 use Rattle.std.proofs.lemmas.Bool.Decides.{leb_tells}
@@ -10,27 +10,27 @@ use Rattle.nest_model.specs.Slot.{Slot}
 use Rattle.nest_model.specs.Checks.{Pass, HaveOneOutcome}
 use Rattle.nest_model.specs.Decide.{Decided, decide_both, decide_number, one-outcome}
 use Rattle.nest_model.specs.DecideType.{decide_type, decide_by}
-use Rattle.nest_model.specs.BuilderRow.{Row, told_row, end_from}
+use Rattle.nest_model.specs.BuilderRow.{Row, row_ending, end_from}
 use Rattle.nest_model.specs.BuilderTree.{BuilderTree, BuilderTrees, flat, list, fixed_size_list, dictionary, struct, no_builders, more_builders, builder_type, builder_types, builder_len}
 use Rattle.nest_model.specs.Layout.{field_types}
-use Rattle.nest_model.specs.BuilderWhole.{AreWhole}
+use Rattle.nest_model.specs.BuilderComplete.{AreComplete}
 use Rattle.nest_model.specs.BuilderItem.{bytes_held}
-use Rattle.nest_model.specs.BuilderTold.{IsReady, AreEachWhole, HasWholeChildren, HaveRows, row_checks, lengths_checks, FitsLimits, AreReady}
+use Rattle.nest_model.specs.BuilderAddRow.{IsReady, AreEachComplete, HasCompleteChildren, HaveRows, row_checks, lengths_checks, FitsLimits, AreReady}
 use Rattle.nest_model.specs.BuilderJoin.{moved, CanJoin, joined_builder, join_checks, join_passes}
 use Rattle.nest_model.specs.BuilderRefusals.{over_limits}
 use Rattle.nest_model.specs.BuilderRowLaws.{end_from-append}
 use Rattle.nest_model.specs.BuilderJoinLaws.{end_from-moved}
 
-whole-rows : (cs : BuilderTrees) (n : ℕ) → AreEachWhole cs → HaveRows cs n → AreWhole cs n
-whole-rows no_builders n w h = tt
-whole-rows (more_builders c cs) n w h = (w.0, h.0, whole-rows cs n w.1 h.1)
+complete-rows : (cs : BuilderTrees) (n : ℕ) → AreEachComplete cs → HaveRows cs n → AreComplete cs n
+complete-rows no_builders n w h = tt
+complete-rows (more_builders c cs) n w h = (w.0, h.0, complete-rows cs n w.1 h.1)
 
-rows-whole : (cs : BuilderTrees) (n : ℕ) → AreWhole cs n → HaveRows cs n
-rows-whole no_builders n w = tt
-rows-whole (more_builders c cs) n w = (w.1, rows-whole cs n w.2)
+rows-complete : (cs : BuilderTrees) (n : ℕ) → AreComplete cs n → HaveRows cs n
+rows-complete no_builders n w = tt
+rows-complete (more_builders c cs) n w = (w.1, rows-complete cs n w.2)
 
--- no check of a told row fails: it is ready, and within the limits
-pub pass-ready : (t : BuilderTree) → HasWholeChildren t → Pass (row_checks t) → IsReady t × FitsLimits 1 t
+-- a new row that passes each check is ready and within the limits
+pub pass-ready : (t : BuilderTree) → HasCompleteChildren t → Pass (row_checks t) → IsReady t × FitsLimits 1 t
 pass-ready (flat k xs) w p = absurd p.0
 pass-ready (list large k rows c) w p = ((w.0, p.0.0, p.0.1, w.1), p.1.0)
 pass-ready (fixed_size_list k bits c) w p =
@@ -38,7 +38,7 @@ pass-ready (fixed_size_list k bits c) w p =
     let m = p.1.0 in
     ((w, p.0.0, omega arith), tt)
 pass-ready (dictionary i k keys c) w p = absurd p.0
-pass-ready (struct k bits cs) w p = ((whole-rows cs (length bits + 1) w p.0.1, p.0.0), tt)
+pass-ready (struct k bits cs) w p = ((complete-rows cs (length bits + 1) w p.0.1, p.0.0), tt)
 
 pub ready-pass : (t : BuilderTree) → IsReady t → FitsLimits 1 t → Pass (row_checks t)
 ready-pass (flat k xs) w l = absurd w
@@ -47,10 +47,10 @@ ready-pass (fixed_size_list k bits c) w l =
     let e = w.2 in
     ((w.1, omega arith), (omega arith, tt))
 ready-pass (dictionary i k keys c) w l = absurd w
-ready-pass (struct k bits cs) w l = ((w.1, rows-whole cs (length bits + 1) w.0), tt)
+ready-pass (struct k bits cs) w l = ((w.1, rows-complete cs (length bits + 1) w.0), tt)
 
--- the same of rows that are told by their lengths
-pub pass-lengths_ready : (ns : List (Option ℕ)) (t : BuilderTree) → HasWholeChildren t → Pass (lengths_checks ns t) → AreReady ns t × FitsLimits (length ns) t
+-- the same for rows added by their lengths
+pub pass-lengths_ready : (ns : List (Option ℕ)) (t : BuilderTree) → HasCompleteChildren t → Pass (lengths_checks ns t) → AreReady ns t × FitsLimits (length ns) t
 pass-lengths_ready ns (flat k xs) w p = absurd p.0
 pass-lengths_ready ns (list large k rows c) w p = (((w.0, p.0.0, p.0.1, w.1), p.1.0), p.1.1.0)
 pass-lengths_ready ns (fixed_size_list k bits c) w p = absurd p.0
@@ -64,7 +64,7 @@ lengths_ready-pass ns (fixed_size_list k bits c) w l = absurd w
 lengths_ready-pass ns (dictionary i k keys c) w l = absurd w
 lengths_ready-pass ns (struct k bits cs) w l = absurd w
 
--- rows of two builders of the same kinds pass a limit exactly where the joined builder does
+-- the rows of two builders of the same kinds pass a limit exactly if the joined builder does
 pub bytes_held-append : (xs ys : List Slot) → bytes_held (xs ++ ys) ≡ bytes_held xs + bytes_held ys
 bytes_held-append [] ys = omega arith
 bytes_held-append (x ∷ xs) ys = omega (arith, bytes_held-append xs ys)
@@ -75,7 +75,7 @@ end_from-joined rows more =
     end_from-append 0 rows (moved (end_from 0 rows) more) ∙ ap (λ s. end_from s (moved (end_from 0 rows) more)) z ∙ end_from-moved (end_from 0 rows) 0 more
 
 rows-joined : (rows more : List Row) → length (rows ++ moved (end_from 0 rows) more) ≡ length rows + length more
-rows-joined rows more = length-append rows (moved (end_from 0 rows) more) ∙ ap (λ n. length rows + n) (length-map more (λ (r : Row). told_row r.valid (end_from 0 rows + r.end)))
+rows-joined rows more = length-append rows (moved (end_from 0 rows) more) ∙ ap (λ n. length rows + n) (length-map more (λ (r : Row). row_ending r.valid (end_from 0 rows + r.end)))
 
 pub joins_pass : (t u : BuilderTree) → CanJoin t u → join_passes t u ≡ over_limits (joined_builder t u)
 joins_pass (flat k xs) (flat m ys) h = rw (length-append xs ys, bytes_held-append xs ys) refl
@@ -121,7 +121,7 @@ pass-joined t u h p = sym (joins_pass t u h) ∙ p.1.0
 pub joined-pass : (t u : BuilderTree) → CanJoin t u → over_limits (joined_builder t u) ≡ false → Pass (join_checks t u)
 joined-pass t u h p = (alike_type t u h, (joins_pass t u h ∙ p, tt))
 
--- each check can be decided
+-- each check is decidable
 decide_le : (a b : ℕ) → Decided (a ≤ b)
 decide_le a b = elim (leb_tells a b) as (λ _. Decided (a ≤ b)) [ inl e ↦ inl e.1 | inr e ↦ inr (λ l. omega (arith, l, e.1)) ]
 

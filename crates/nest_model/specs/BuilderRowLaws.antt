@@ -1,8 +1,8 @@
--- Laws of rows: where they end, that they rise, and the values that keys need, as rows are pushed, joined and cut.
+-- Laws of rows after a push, join or truncation: where they end, rising offsets, and the values that keys need.
 use Rattle.std.specs.Prelude.{Option, Some, None}
 use Rattle.std.proofs.Common.{◌≡◌, ℕ, zero, suc, ◌+◌, ◌≤◌, ◌<◌, false, List, [], ◌∷◌, ◌++◌, length, get_or, take, max, replicate, refl, ap, arith}
 use Rattle.std.proofs.lemmas.List.{take_more}
-use Rattle.nest_model.specs.BuilderRow.{Row, told_row, end_from, RisesFrom, values_needed}
+use Rattle.nest_model.specs.BuilderRow.{Row, row_ending, end_from, RisesFrom, values_needed}
 
 pub end_from-push : (s : ℕ) (rs : List Row) (r : Row) → end_from s (rs ++ r ∷ []) ≡ r.end
 end_from-push s [] r = refl
@@ -24,7 +24,7 @@ pub end_from-le : (s : ℕ) (rs : List Row) → RisesFrom s rs → s ≤ end_fro
 end_from-le s [] h = omega arith
 end_from-le s (q ∷ rs) h = omega (arith, h.0, end_from-le q.end rs h.1)
 
--- the last row's end is the last offset
+-- the end of the last row is the last offset
 pub end_from-last : (s : ℕ) (rs : List Row) (r : Row) (k : ℕ) → length rs ≡ k + 1 → r ≡ get_or rs k r → r.end ≡ end_from s rs
 end_from-last s [] r k e h = absurd (omega arith)
 end_from-last s (q ∷ []) r zero e h = ap (λ (x : Row). x.end) h
@@ -32,7 +32,7 @@ end_from-last s (q ∷ []) r (suc k) e h = absurd (omega arith)
 end_from-last s (q ∷ p ∷ rs) r zero e h = absurd (omega arith)
 end_from-last s (q ∷ p ∷ rs) r (suc k) e h = end_from-last q.end (p ∷ rs) r k (omega arith) h
 
--- the offsets of first rows
+-- the offsets of the first rows
 pub end_from-front : (s : ℕ) (rs : List Row) (n : ℕ) → RisesFrom s rs → end_from s (take n rs) ≤ end_from s rs
 end_from-front s [] zero h = omega arith
 end_from-front s [] (suc n) h = omega arith
@@ -55,12 +55,12 @@ RisesFrom-take s [] (suc n) h = tt
 RisesFrom-take s (q ∷ rs) zero h = tt
 RisesFrom-take s (q ∷ rs) (suc n) h = (h.0, RisesFrom-take q.end rs n h.1)
 
--- null rows cover no items
-pub end_from-same : (e n : ℕ) → end_from e (replicate n (told_row false e)) ≡ e
+-- null rows have no items
+pub end_from-same : (e n : ℕ) → end_from e (replicate n (row_ending false e)) ≡ e
 end_from-same e zero = refl
 end_from-same e (suc n) = end_from-same e n
 
-pub RisesFrom-same : (e n : ℕ) → RisesFrom e (replicate n (told_row false e))
+pub RisesFrom-same : (e n : ℕ) → RisesFrom e (replicate n (row_ending false e))
 RisesFrom-same e zero = tt
 RisesFrom-same e (suc n) = (omega arith, RisesFrom-same e n)
 
@@ -90,7 +90,7 @@ values_needed-take-le (k ∷ ks) (suc m) zero e = absurd (omega arith)
 values_needed-take-le (None ∷ ks) (suc m) (suc n) e = values_needed-take-le ks m n (omega arith)
 values_needed-take-le (Some k ∷ ks) (suc m) (suc n) e = omega (arith, values_needed-take-le ks m n (omega arith))
 
--- a key is below the number of values that are needed
+-- a key is less than the number of values needed
 pub values_needed-above : (ks : List (Option ℕ)) (i k : ℕ) (d : Option ℕ) → i < length ks → get_or ks i d ≡ Some k → k < values_needed ks
 values_needed-above [] i k d l e = absurd (omega arith)
 values_needed-above (None ∷ ks) zero k d l e = absurd cc
@@ -98,7 +98,7 @@ values_needed-above (None ∷ ks) (suc i) k d l e = values_needed-above ks i k d
 values_needed-above (Some j ∷ ks) zero k d l e = let q : j ≡ k = cc in omega arith
 values_needed-above (Some j ∷ ks) (suc i) k d l e = omega (arith, values_needed-above ks i k d (omega arith) e)
 
--- one key more is looked at
+-- one more key
 pub values_needed-next : (ks : List (Option ℕ)) (i k : ℕ) → i < length ks → get_or ks i None ≡ Some k → values_needed (take (i + 1) ks) ≡ max (suc k) (values_needed (take i ks))
 values_needed-next ks i k l e = rw (take_more ks i None l, e) (values_needed-push (take i ks) k)
 

@@ -1,4 +1,4 @@
--- Which values a builder takes: no call changes it, and no builder takes two kinds.
+-- The values that a builder accepts: no call changes their kind, and no builder accepts two kinds.
 use Rattle.std.specs.Prelude.{Option, Some, None}
 use Rattle.std.proofs.Common.{◌≡◌, ℕ, ℤ, true, List, refl, sym, ◌∙◌}
 use Rattle.std.proofs.lemmas.Bool.Decides.{Decides-eqb}
@@ -10,9 +10,9 @@ use Rattle.nest_memory.specs.declared.datatypes.physical_type.PhysicalType.TheVa
 use Rattle.nest_memory.specs.declared.datatypes.physical_type.PrimitiveType.{PrimitiveType}
 use Rattle.nest_model.specs.BuilderTree.{BuilderTree, flat, list, fixed_size_list, dictionary, struct}
 use Rattle.nest_model.specs.BuilderLevels.{own_slots}
-use Rattle.nest_model.specs.BuilderWhole.{cut_builder, emptied}
+use Rattle.nest_model.specs.BuilderComplete.{truncate_builder, emptied}
 use Rattle.nest_model.specs.BuilderItem as items
-use Rattle.nest_model.specs.BuilderItem.{PlainValue, native, Item, native_number, holds_kind, takes, place_of}
+use Rattle.nest_model.specs.BuilderItem.{PlainValue, native, Item, native_number, holds_kind, takes, position_of}
 use Rattle.nest_model.specs.BuilderAppend.{nulls_appended, keyed, value_appended, appended}
 
 takes-nulls : (n : ℕ) (t : BuilderTree) (v : PlainValue) → takes (nulls_appended n t) v ≡ takes t v
@@ -30,7 +30,7 @@ takes-value : (u : PlainValue) (t : BuilderTree) (v : PlainValue) → takes (val
 takes-value u (flat k xs) v = refl
 takes-value u (list large k rows c) v = refl
 takes-value u (fixed_size_list k bits c) v = refl
-takes-value u (dictionary i k keys c) v = takes-keyed i k keys c (value_appended u c) (place_of u (own_slots c)) v (takes-value u c v)
+takes-value u (dictionary i k keys c) v = takes-keyed i k keys c (value_appended u c) (position_of u (own_slots c)) v (takes-value u c v)
 takes-value u (struct k bits cs) v = refl
 
 pub takes-appended : (x : Item) (t : BuilderTree) (v : PlainValue) → takes (appended x t) v ≡ takes t v
@@ -42,7 +42,7 @@ takes-appended (items.list_of xs) (fixed_size_list k bits c) v = refl
 takes-appended (items.list_of xs) (dictionary i k keys c) v = refl
 takes-appended (items.list_of xs) (struct k bits cs) v = refl
 
-pub takes-cut : (t : BuilderTree) (n : ℕ) (v : PlainValue) → takes (cut_builder t n) v ≡ takes t v
+pub takes-cut : (t : BuilderTree) (n : ℕ) (v : PlainValue) → takes (truncate_builder t n) v ≡ takes t v
 takes-cut (flat k xs) n v = refl
 takes-cut (list large k rows c) n v = refl
 takes-cut (fixed_size_list k bits c) n v = refl

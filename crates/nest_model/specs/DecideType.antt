@@ -1,4 +1,4 @@
--- Data types are equal or not, by a code of trees.
+-- Equality of data types is decidable, by encoding them as trees.
 use Rattle.std.specs.Prelude.{◌≡◌}
 use Rattle.std.specs.Coded.{Coded}
 use Rattle.std.proofs.Common.{refl, ap, inl, inr}
@@ -7,7 +7,7 @@ use Rattle.nest_memory.specs.TypeTree.{TypeTree}
 use Rattle.nest_memory.specs.TypeCode.{coded_type, head, tail}
 use Rattle.nest_model.specs.Decide.{Decided, decide_number}
 
--- codes are equal or not
+-- Equality of encoded trees is decidable.
 pub decide_code : (x y : Gv) → Decided (x ≡ y)
 decide_code gnil gnil = inl refl
 decide_code gnil (gnum n) = inr (λ e. cc)

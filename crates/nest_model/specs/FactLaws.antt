@@ -1,15 +1,15 @@
--- What every array of a kind has, by the facts of that kind.
+-- Laws: an array of each kind has the facts of that kind.
 use Rattle.std.specs.Prelude.{ℕ, ℤ, Bool, List, Option}
 use Rattle.nest_memory.specs.TypeTree.{TypeTree}
 use Rattle.nest_model.specs.Part.{Validity}
-use Rattle.nest_model.specs.Layout.{Layout, Layouts, binary, text, fixed_size_binary, fixed_size_list, list, map, struct, union, dictionary}
+use Rattle.nest_model.specs.Layout.{Layout, Layouts, binary, utf8, fixed_size_binary, fixed_size_list, list, map, struct, union, dictionary}
 use Rattle.nest_model.specs.Array.{TopFits}
 use Rattle.nest_model.specs.Facts.{IsStruct, IsList, IsFixedSizeBinary, IsUnion, IsDictionary, IsText, IsMap, IsFixedSizeList, IsBinary}
 
 pub binary-facts : (large : Bool) (t : TypeTree) (os bs : List ℕ) (va : Validity) → TopFits (binary large t os bs va) → IsBinary large t os bs va
 binary-facts large t os bs va h = record { rising = h.0; within = h.1.0; bits = h.1.1.0; typed = h.1.1.1.0 }
 
-pub text-facts : (large : Bool) (t : TypeTree) (os bs : List ℕ) (va : Validity) → TopFits (text large t os bs va) → IsText large t os bs va
+pub text-facts : (large : Bool) (t : TypeTree) (os bs : List ℕ) (va : Validity) → TopFits (utf8 large t os bs va) → IsText large t os bs va
 text-facts large t os bs va h = record { rising = h.0; within = h.1.0; texts = h.1.1.0; bits = h.1.1.1.0; typed = h.1.1.1.1.0 }
 
 pub fixed_size_binary-facts : (t : TypeTree) (bs : List ℕ) (va : Validity) → TopFits (fixed_size_binary t bs va) → IsFixedSizeBinary t bs va

@@ -1,14 +1,14 @@
--- What is known of an array of each kind at its top level, each fact by its name.
+-- Named facts of arrays of each kind, at the top level.
 use Rattle.std.specs.Prelude.{◌≡◌, ℕ, ◌≤◌, ◌<◌, ◌%◌, ℤ, Bool, IsTrue, List, length, Option, Some}
 use Rattle.nest_memory.specs.declared.datatypes.physical_type.PhysicalType.TheVariants as physical
 use Rattle.nest_memory.specs.TypeTree.{TypeTree, count_fields, item_type, size_of, fields_of, ids_of, is_dense, has_pairs, key_type, value_type}
-use Rattle.nest_memory.specs.Physical.{physical_type, list_of_width, binary_of_width, text_of_width}
+use Rattle.nest_memory.specs.Physical.{physical_type, list_of_width, binary_of_width, utf8_of_width}
 use Rattle.nest_memory.specs.Rising.{last_of}
 use Rattle.nest_model.specs.Part.{Validity, count_rows}
 use Rattle.nest_model.specs.Layout.{Layout, Layouts, fixed_size_binary, fixed_size_list, layout_type, count_layouts}
 use Rattle.nest_model.specs.Accessors.{validity_of, key_type_of}
 use Rattle.nest_model.specs.Meaning.{len, first_len}
-use Rattle.nest_model.specs.Fits.{ValidityFits, EachType, EachLen, IdsCount, IdsInRange, EachMeansField, OffsetsCount, OffsetsByMode, SlotsThere, IsLogically, is_dictionary, EachText, EachValidNames}
+use Rattle.nest_model.specs.Fits.{ValidityFits, EachType, EachLen, IdsCount, IdsInRange, EachMeansField, OffsetsCount, OffsetsByMode, SlotsThere, IsLogically, is_dictionary, EachUtf8, EachValidNames}
 use Rattle.nest_model.specs.Array.{AreOffsets, AreKeys}
 use Rattle.nest_model.specs.Checks.{most_fields}
 
@@ -21,9 +21,9 @@ pub record IsBinary (large : Bool) (t : TypeTree) (os bs : List ℕ) (va : Valid
 pub record IsText (large : Bool) (t : TypeTree) (os bs : List ℕ) (va : Validity) : Type 0 where
   pub rising : AreOffsets os
   pub within : last_of os ≤ length bs
-  pub texts : EachText os bs
+  pub texts : EachUtf8 os bs
   pub bits : ValidityFits va (count_rows os)
-  pub typed : physical_type t ≡ text_of_width large
+  pub typed : physical_type t ≡ utf8_of_width large
 
 pub record IsFixedSizeBinary (t : TypeTree) (bs : List ℕ) (va : Validity) : Type 0 where
   pub typed : physical_type t ≡ physical.FixedSizeBinary

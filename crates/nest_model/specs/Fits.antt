@@ -1,82 +1,82 @@
--- Which parts make an array: the checks of each constructor, in order. What is checked is what the Arrow columnar format asks of a
--- layout; the order and the errors are of this project. A check asks of a child its length and its data type alone.
+-- The ordered checks of each constructor. The conditions are those of the Arrow columnar format.
+-- The order and the errors are this library's own. Of a child, only its length and its data type are checked.
 use Rattle.std.specs.Prelude.{◌≡◌, ℕ, zero, suc, ◌+◌, ◌≤◌, ◌<◌, ◌%◌, ℤ, pos, negsuc, Bool, true, false, IsTrue, List, length, get_or, Option, Some, None, ◌-◌}
 use Rattle.std.specs.Str.{IsUtf8, IsCharBoundary}
 use Rattle.std.specs.List.{All}
 use Rattle.nest_memory.specs.TypeTree as types
 use Rattle.nest_memory.specs.TypeTree.{TypeTree, FieldTrees, no_fields, more_fields, field_type, logical_type, count_fields, item_type, size_of, fields_of, ids_of, is_dense, has_pairs}
 use Rattle.nest_memory.specs.declared.datatypes.physical_type.PhysicalType.TheVariants as physical
-use Rattle.nest_memory.specs.Physical.{physical_type, list_of_width, binary_of_width, text_of_width}
-use Rattle.nest_memory.specs.Cut.{cut}
+use Rattle.nest_memory.specs.Physical.{physical_type, list_of_width, binary_of_width, utf8_of_width}
+use Rattle.nest_memory.specs.Sublist.{sublist}
 use Rattle.nest_memory.specs.Rising.{last_of}
 use Rattle.nest_model.specs.Part.{Validity, valid_at, begin, extent, count_rows, field_named}
-use Rattle.nest_model.specs.Layout.{Layout, Layouts, null, boolean, primitive, binary, text, fixed_size_binary, fixed_size_list, list, map, struct, union, dictionary, no_layouts, more_layouts, layout_type, count_layouts}
+use Rattle.nest_model.specs.Layout.{Layout, Layouts, null, boolean, primitive, binary, utf8, fixed_size_binary, fixed_size_list, list, map, struct, union, dictionary, no_layouts, more_layouts, layout_type, count_layouts}
 use Rattle.nest_model.specs.Accessors.{validity_of, raw_keys, key_at, key_type_of, with_validity}
 use Rattle.nest_model.specs.Meaning.{len, first_len}
-use Rattle.nest_memory.specs.declared.error.Spec.TheVariants as spec
-use Rattle.nest_memory.specs.declared.error.Argument.TheVariants as argument
+use Rattle.nest_memory.specs.declared.error.SpecError.TheVariants as spec
+use Rattle.nest_memory.specs.declared.error.ArgumentError.TheVariants as argument
 use Rattle.nest_memory.specs.declared.error.Error.{Error}
 use Rattle.nest_memory.specs.declared.error.Error.TheVariants.{OutOfSpec, InvalidArgumentError}
 use Rattle.nest_model.specs.Checks.{Checks, done, check, Pass, FailFirst, most_fields, type_count}
 
--- Validity bitmaps: a bit for each of n slots
+-- Validity bitmaps: if there is a bitmap, it has n bits.
 abbrev pub ValidityFits : Validity → ℕ → Type 0
 ValidityFits None n = Unit {0}
 ValidityFits (Some bits) n = length bits ≡ n
 
--- Struct Layout, Union Layout: one child for each field, of the field's type, in order
+-- Struct Layout, Union Layout: there is one child for each field, in order and with the field's data type.
 abbrev pub EachType : FieldTrees → Layouts → Type 0
 EachType no_fields no_layouts = Unit {0}
 EachType no_fields (more_layouts c cs) = ⊥
 EachType (more_fields f fs) no_layouts = ⊥
 EachType (more_fields f fs) (more_layouts c cs) = (layout_type c ≡ field_type f) × EachType fs cs
 
--- Struct Layout: each child has n slots
+-- Struct Layout: each child has n slots.
 abbrev pub EachLen : Layouts → ℕ → Type 0
 EachLen no_layouts n = Unit {0}
 EachLen (more_layouts c cs) n = (len c ≡ n) × EachLen cs n
 
--- Union Layout, sparse: each child has at least n slots
+-- Union Layout, sparse: each child has at least n slots.
 abbrev pub EachCovers : Layouts → ℕ → Type 0
 EachCovers no_layouts n = Unit {0}
 EachCovers (more_layouts c cs) n = (n ≤ len c) × EachCovers cs n
 
--- a number names one of n places
+-- The integer is an index below n.
 abbrev pub Names : ℤ → ℕ → Type 0
 Names (pos k) n = k < n
 Names (negsuc k) n = ⊥
 
--- each of them does
+-- Each integer is an index below n.
 abbrev pub EachNames : List ℤ → ℕ → Type 0
 EachNames zs n = All (λ z. Names z n) zs
 
--- the length of child f, 0 where there is none
+-- The length of child f, or 0 if there is no such child.
 abbrev pub child_len : Layouts → Option ℕ → ℕ
 child_len no_layouts f = 0
 child_len (more_layouts c cs) None = 0
 child_len (more_layouts c cs) (Some zero) = len c
 child_len (more_layouts c cs) (Some (suc f)) = child_len cs (Some f)
 
--- as many ids as fields
+-- If there are ids, there are as many as fields.
 abbrev pub IdsCount : Option (List ℤ) → ℕ → Type 0
 IdsCount None n = Unit {0}
 IdsCount (Some ids) n = length ids ≡ n
 
--- Union Layout: ids are types of 8 bits that aren't negative
+-- Union Layout: each type id is a nonnegative 8-bit integer.
 abbrev pub IdsInRange : Option (List ℤ) → Type 0
 IdsInRange None = Unit {0}
 IdsInRange (Some ids) = EachNames ids type_count
 
--- a union's type means one of n fields
+-- The type id has one of n fields.
 abbrev pub MeansField : Option ℕ → ℕ → Type 0
 MeansField None n = ⊥
 MeansField (Some f) n = f < n
 
--- each of its types does
+-- Each type id has one of n fields.
 abbrev pub EachMeansField : Option (List ℤ) → List ℤ → ℕ → Type 0
 EachMeansField ids ks n = All (λ k. MeansField (field_named ids k) n) ks
 
--- Union Layout, dense: as many offsets as slots; a sparse union has none
+-- Union Layout: a dense union has as many offsets as slots, a sparse union has none.
 abbrev pub OffsetsCount : Option (List ℤ) → ℕ → Type 0
 OffsetsCount None n = Unit {0}
 OffsetsCount (Some os) n = length os ≡ n
@@ -85,51 +85,52 @@ abbrev pub OffsetsByMode : Option (List ℤ) → Bool → Type 0
 OffsetsByMode None d = d ≡ false
 OffsetsByMode (Some os) d = d ≡ true
 
--- each slot's offset names a slot of its field
+-- Each offset is an index of its field's child.
 abbrev pub EachOffsetNames : Option (List ℤ) → List ℤ → List ℤ → Layouts → Type 0
 EachOffsetNames ids ks os cs = (i : ℕ) → i < length ks → Names (get_or os i (pos 0)) (child_len cs (field_named ids (get_or ks i (pos 0))))
 
--- the slots that a union picks are there: of a dense one each at its offset, of a sparse one every field up to the end of the window
+-- The slots that a union selects exist. Those of a dense union are at its offsets.
+-- In a sparse union, each field's child reaches the end of the window.
 abbrev pub SlotsThere : Option (List ℤ) → List ℤ → Layouts → Option (List ℤ) → ℕ → Type 0
 SlotsThere ids ks cs None start = EachCovers cs (start + length ks)
 SlotsThere ids ks cs (Some os) start = EachOffsetNames ids ks os cs
 
--- it is a dictionary, of any key type
+-- The data type is a dictionary with any key type.
 abbrev pub is_dictionary : TypeTree → Bool
 is_dictionary (types.dictionary k t b) = true
 is_dictionary (types.extension n t m) = is_dictionary t
 is_dictionary t = false
 
--- Dictionary-encoded Layout: the values have the value type, looked through extensions
+-- Dictionary-encoded Layout: the values have the value type, ignoring extensions.
 abbrev pub IsLogically : Option TypeTree → TypeTree → Type 0
 IsLogically None t = ⊥
 IsLogically (Some u) t = logical_type t ≡ logical_type u
 
--- one of n places is valid
+-- At least one of n slots is valid.
 abbrev pub SomeValid : Validity → ℕ → Type 0
 SomeValid va n = (i : ℕ) × (i < n) × (valid_at va i ≡ true)
 
--- each raw key names one of n values, also under a null; where all keys are null no raw key is looked at
+-- Each key is an index of the n values, including the keys at null slots. If all keys are null, they are not checked.
 abbrev pub KeysInRange : Layout → ℕ → Type 0
 KeysInRange ks n = SomeValid (validity_of ks) (len ks) → EachNames (raw_keys ks) n
 
--- each key that is valid under this validity names one of n values
+-- Each key that is valid in this validity is an index of the n values.
 abbrev pub EachValidNames : Validity → Layout → ℕ → Type 0
 EachValidNames va ks n = (i : ℕ) → i < len ks → valid_at va i ≡ true → Names (key_at ks i) n
 
--- the bytes of each slot are a text
-abbrev pub EachText : List ℕ → List ℕ → Type 0
-EachText os bs = (i : ℕ) → i < count_rows os → IsUtf8 (cut bs (begin os i) (extent os i))
+-- The bytes of each slot are UTF-8.
+abbrev pub EachUtf8 : List ℕ → List ℕ → Type 0
+EachUtf8 os bs = (i : ℕ) → i < count_rows os → IsUtf8 (sublist bs (begin os i) (extent os i))
 
--- the bytes that the offsets cover
+-- The bytes from the first offset to the last.
 abbrev pub covered : List ℕ → List ℕ → List ℕ
-covered os bs = cut bs (begin os 0) (last_of os - begin os 0)
+covered os bs = sublist bs (begin os 0) (last_of os - begin os 0)
 
--- they are UTF-8, and each offset is a place between two characters
-abbrev pub WholeText : List ℕ → List ℕ → Type 0
-WholeText os bs = IsUtf8 (covered os bs) × ((i : ℕ) → i < length os → IsCharBoundary (covered os bs) (get_or os i 0 - begin os 0))
+-- The covered bytes are UTF-8, and each offset is a character boundary.
+abbrev pub ValidUtf8 : List ℕ → List ℕ → Type 0
+ValidUtf8 os bs = IsUtf8 (covered os bs) × ((i : ℕ) → i < length os → IsCharBoundary (covered os bs) (get_or os i 0 - begin os 0))
 
--- the checks of each constructor, in order
+-- The ordered checks of each constructor.
 abbrev pub checks : Layout → Checks
 checks (null t n) =
     check (OutOfSpec spec.WrongType) (physical_type t ≡ physical.Null) done
@@ -143,11 +144,11 @@ checks (binary large t os bs va) =
     check (OutOfSpec spec.OffsetPastChild) (last_of os ≤ length bs)
     (check (OutOfSpec spec.ValidityLength) (ValidityFits va (count_rows os))
     (check (OutOfSpec spec.WrongType) (physical_type t ≡ binary_of_width large) done))
-checks (text large t os bs va) =
+checks (utf8 large t os bs va) =
     check (OutOfSpec spec.OffsetPastChild) (last_of os ≤ length bs)
-    (check (OutOfSpec spec.Text) (EachText os bs)
+    (check (OutOfSpec spec.Utf8) (EachUtf8 os bs)
     (check (OutOfSpec spec.ValidityLength) (ValidityFits va (count_rows os))
-    (check (OutOfSpec spec.WrongType) (physical_type t ≡ text_of_width large) done)))
+    (check (OutOfSpec spec.WrongType) (physical_type t ≡ utf8_of_width large) done)))
 checks (fixed_size_binary t bs va) =
     check (OutOfSpec spec.WrongType) (physical_type t ≡ physical.FixedSizeBinary)
     (check (OutOfSpec spec.ZeroSize) (0 < size_of t)
@@ -194,15 +195,15 @@ checks (dictionary t ks c) =
     (check (OutOfSpec spec.ChildType) (IsLogically (types.value_type t) (layout_type c))
     (check (OutOfSpec spec.KeyRange) (KeysInRange ks (len c)) done)))
 
--- the parts make an array
+-- The parts pass every check of their constructor.
 abbrev pub Fits : Layout → Type 0
 Fits a = Pass (checks a)
 
--- the constructor refuses the parts with this error
-abbrev pub FirstFault : Error → Layout → Type 0
-FirstFault e a = FailFirst e (checks a)
+-- The constructor returns this error for the parts.
+abbrev pub FirstError : Error → Layout → Type 0
+FirstError e a = FailFirst e (checks a)
 
--- what a new validity has to meet: a null and a union array take none, a dictionary's keys must still name values
+-- The checks of a new validity. Null and union arrays have none. A dictionary's valid keys are indices of its values.
 abbrev pub validity_checks : Layout → Validity → Checks
 validity_checks (null t n) va = check (InvalidArgumentError argument.NoValidity) ⊥ done
 validity_checks (union t ks cs os start) va = check (InvalidArgumentError argument.NoValidity) ⊥ done
@@ -211,13 +212,13 @@ validity_checks (dictionary t ks c) va =
     (check (OutOfSpec spec.KeyRange) (EachValidNames va ks (len c)) done)
 validity_checks a va = check (OutOfSpec spec.ValidityLength) (ValidityFits va (len a)) done
 
-abbrev pub ValidityFault : Error → Layout → Validity → Type 0
-ValidityFault e a va = FailFirst e (validity_checks a va)
+abbrev pub ValidityError : Error → Layout → Validity → Type 0
+ValidityError e a va = FailFirst e (validity_checks a va)
 
--- the validity has a bit for each slot of a, and b is a under it
+-- The validity has a bit for each slot of a, and b is a with this validity.
 abbrev pub HasValidity : Layout → Validity → Layout → Type 0
 HasValidity a va b = ValidityFits va (len a) × (b ≡ with_validity a va)
 
--- e is why a takes no such validity, and b is a as it was
+-- Setting the validity of a returns the error e, and b is a unchanged.
 abbrev pub RefusesValidity : Error → Layout → Validity → Layout → Type 0
-RefusesValidity e a va b = ValidityFault e a va × (b ≡ a)
+RefusesValidity e a va b = ValidityError e a va × (b ≡ a)

@@ -1,4 +1,4 @@
--- Each check of each constructor can be decided, so parts fit or have a first fault.
+-- Laws: each check of each constructor is decidable, so parts pass every check or have a first error.
 use Rattle.std.specs.Prelude.{◌⊎◌, nat_eq, Option, Some, None, get_or}
 use Rattle.std.specs.List.{All}
 use Rattle.std.specs.Str.{IsUtf8, is_utf8}
@@ -11,23 +11,23 @@ use Rattle.nest_memory.specs.TypeTree.{TypeTree, FieldTrees, no_fields, more_fie
 use Rattle.nest_memory.specs.declared.datatypes.physical_type.PhysicalType.TheVariants as physical
 use Rattle.nest_memory.specs.declared.datatypes.physical_type.PhysicalType.{PhysicalType}
 use Rattle.nest_memory.specs.declared.datatypes.physical_type.PrimitiveType.{PrimitiveType}
-use Rattle.nest_memory.specs.Physical.{physical_type, list_of_width, binary_of_width, text_of_width}
+use Rattle.nest_memory.specs.Physical.{physical_type, list_of_width, binary_of_width, utf8_of_width}
 use Rattle.nest_memory.specs.contracts.datatypes.physical_type.PrimitiveType.{the_row as native_row}
 use Rattle.nest_memory.specs.contracts.datatypes.IntegerType.{the_row as integer_row}
-use Rattle.nest_memory.specs.Cut.{cut}
+use Rattle.nest_memory.specs.Sublist.{sublist}
 use Rattle.nest_memory.specs.Rising.{last_of}
 use Rattle.nest_model.specs.Part.{Validity, valid_at, begin, extent, count_rows, field_named}
-use Rattle.nest_model.specs.Layout.{Layout, Layouts, null, boolean, primitive, binary, text, fixed_size_binary, fixed_size_list, list, map, struct, union, dictionary, no_layouts, more_layouts, layout_type, count_layouts}
+use Rattle.nest_model.specs.Layout.{Layout, Layouts, null, boolean, primitive, binary, utf8, fixed_size_binary, fixed_size_list, list, map, struct, union, dictionary, no_layouts, more_layouts, layout_type, count_layouts}
 use Rattle.nest_model.specs.Accessors.{validity_of, raw_keys, key_at, key_type_of}
 use Rattle.nest_model.specs.Meaning.{len, first_len}
 use Rattle.nest_memory.specs.declared.error.Error.{Error}
 use Rattle.nest_model.specs.Checks.{Pass, most_fields, type_count}
-use Rattle.nest_model.specs.Fits.{ValidityFits, EachType, EachLen, EachCovers, Names, MeansField, IdsCount, IdsInRange, OffsetsCount, OffsetsByMode, SlotsThere, KeysInRange, IsLogically, is_dictionary, child_len, checks, Fits, FirstFault, EachValidNames, validity_checks, ValidityFault}
-use Rattle.nest_model.specs.Decide.{Decided, AllDecided, are_distinct, apart, decide_bool, decide_number, decide_both, decide_as, pass-or_fault}
+use Rattle.nest_model.specs.Fits.{ValidityFits, EachType, EachLen, EachCovers, Names, MeansField, IdsCount, IdsInRange, OffsetsCount, OffsetsByMode, SlotsThere, KeysInRange, IsLogically, is_dictionary, child_len, checks, Fits, FirstError, EachValidNames, validity_checks, ValidityError}
+use Rattle.nest_model.specs.Decide.{Decided, AllDecided, are_distinct, apart, decide_bool, decide_number, decide_both, decide_as, pass-or_error}
 use Rattle.nest_memory.specs.TypeCode.{coded_type}
 use Rattle.nest_model.specs.DecideType.{decide_type, decide_by}
 
--- whether a physical type is this one
+-- Equality with each physical type is decidable.
 decide_null : (x : PhysicalType) → Decided (x ≡ physical.Null)
 decide_null physical.Null = inl refl
 decide_null x = inr (λ e. cc)
@@ -55,7 +55,7 @@ decide_binary true x = inr (λ e. cc)
 decide_binary false physical.Binary = inl refl
 decide_binary false x = inr (λ e. cc)
 
-decide_text : (large : Bool) (x : PhysicalType) → Decided (x ≡ text_of_width large)
+decide_text : (large : Bool) (x : PhysicalType) → Decided (x ≡ utf8_of_width large)
 decide_text true physical.LargeUtf8 = inl refl
 decide_text true x = inr (λ e. cc)
 decide_text false physical.Utf8 = inl refl
@@ -81,7 +81,7 @@ decide_union : (x : PhysicalType) → Decided (x ≡ physical.Union)
 decide_union physical.Union = inl refl
 decide_union x = inr (λ e. cc)
 
--- orders and lists
+-- Orders and lists.
 decide_le : (m n : ℕ) → Decided (m ≤ n)
 decide_le m n = elim (decide_number (m - n) 0) as (λ _. Decided (m ≤ n)) [ inl e ↦ inl (omega arith) | inr k ↦ inr (λ h. k (omega arith)) ]
 
@@ -193,16 +193,16 @@ decide_keys ks n =
       ]
     ]
 
--- each check of a constructor holds or fails
+-- Each check of a constructor is decidable.
 pub decide_checks : (a : Layout) → ((bs : List ℕ) → Decided (IsUtf8 bs)) → AllDecided (checks a)
 decide_checks (null t n) u = (decide_null (physical_type t), tt)
 decide_checks (boolean t bs va) u = (decide_validity va (length bs), (decide_boolean (physical_type t), tt))
 decide_checks (primitive k t vs va) u = (decide_validity va (length vs), (decide_primitive k (physical_type t), tt))
 decide_checks (binary l t os bs va) u = (decide_le (last_of os) (length bs), (decide_validity va (count_rows os), (decide_binary l (physical_type t), tt)))
-decide_checks (text l t os bs va) u = (
+decide_checks (utf8 l t os bs va) u = (
   decide_le (last_of os) (length bs),
   (
-    decide_below (λ i. IsUtf8 (cut bs (begin os i) (extent os i))) (λ i. u (cut bs (begin os i) (extent os i))) (count_rows os),
+    decide_below (λ i. IsUtf8 (sublist bs (begin os i) (extent os i))) (λ i. u (sublist bs (begin os i) (extent os i))) (count_rows os),
     (decide_validity va (count_rows os), (decide_text l (physical_type t), tt)),
   ),
 )
@@ -263,7 +263,7 @@ checks-distinct (null t n) = refl
 checks-distinct (boolean t bs va) = refl
 checks-distinct (primitive k t vs va) = refl
 checks-distinct (binary l t os bs va) = refl
-checks-distinct (text l t os bs va) = refl
+checks-distinct (utf8 l t os bs va) = refl
 checks-distinct (fixed_size_binary t bs va) = refl
 checks-distinct (fixed_size_list t c va) = refl
 checks-distinct (list l t os c va) = refl
@@ -272,11 +272,11 @@ checks-distinct (struct t cs va) = refl
 checks-distinct (union t ks cs os start) = refl
 checks-distinct (dictionary t ks c) = refl
 
--- parts fit or have a first fault
-pub fits-or_fault : (a : Layout) → ((bs : List ℕ) → Decided (IsUtf8 bs)) → Fits a ⊎ ((e : Error) × FirstFault e a)
-fits-or_fault a u = pass-or_fault (checks a) (decide_checks a u) (checks-distinct a)
+-- Parts pass every check or have a first error.
+pub fits-or_error : (a : Layout) → ((bs : List ℕ) → Decided (IsUtf8 bs)) → Fits a ⊎ ((e : Error) × FirstError e a)
+fits-or_error a u = pass-or_error (checks a) (decide_checks a u) (checks-distinct a)
 
--- bytes are a text or not
+-- Whether bytes are UTF-8 is decidable.
 pub decide_utf8 : (bs : List ℕ) → Decided (IsUtf8 bs)
 decide_utf8 bs = decide_as (IsUtf8-from_is_utf8 bs) (is_utf8-from_IsUtf8 bs) (decide_bool (is_utf8 bs))
 
@@ -288,17 +288,17 @@ decide_implied {p} {q} (inr n) (inr k) = inl (λ x. absurd (n x))
 decide_valid_keys : (va : Validity) (ks : Layout) (n : ℕ) → Decided (EachValidNames va ks n)
 decide_valid_keys va ks n = decide_below (λ i. valid_at va i ≡ true → Names (key_at ks i) n) (λ i. decide_implied (decide_bool (valid_at va i)) (decide_names (key_at ks i) n)) (len ks)
 
--- a new validity is taken or has a first fault
-pub validity-or_fault : (a : Layout) (va : Validity) → Pass (validity_checks a va) ⊎ ((e : Error) × ValidityFault e a va)
-validity-or_fault (null t n) va = pass-or_fault (validity_checks (null t n) va) (inr (λ h. h), tt) refl
-validity-or_fault (boolean t bs old) va = pass-or_fault (validity_checks (boolean t bs old) va) (decide_validity va (length bs), tt) refl
-validity-or_fault (primitive k t vs old) va = pass-or_fault (validity_checks (primitive k t vs old) va) (decide_validity va (length vs), tt) refl
-validity-or_fault (binary l t os bs old) va = pass-or_fault (validity_checks (binary l t os bs old) va) (decide_validity va (count_rows os), tt) refl
-validity-or_fault (text l t os bs old) va = pass-or_fault (validity_checks (text l t os bs old) va) (decide_validity va (count_rows os), tt) refl
-validity-or_fault (fixed_size_binary t bs old) va = pass-or_fault (validity_checks (fixed_size_binary t bs old) va) (decide_validity va (len (fixed_size_binary t bs old)), tt) refl
-validity-or_fault (fixed_size_list t c old) va = pass-or_fault (validity_checks (fixed_size_list t c old) va) (decide_validity va (len (fixed_size_list t c old)), tt) refl
-validity-or_fault (list l t os c old) va = pass-or_fault (validity_checks (list l t os c old) va) (decide_validity va (count_rows os), tt) refl
-validity-or_fault (map t os c old) va = pass-or_fault (validity_checks (map t os c old) va) (decide_validity va (count_rows os), tt) refl
-validity-or_fault (struct t cs old) va = pass-or_fault (validity_checks (struct t cs old) va) (decide_validity va (first_len cs), tt) refl
-validity-or_fault (union t ks cs os start) va = pass-or_fault (validity_checks (union t ks cs os start) va) (inr (λ h. h), tt) refl
-validity-or_fault (dictionary t ks c) va = pass-or_fault (validity_checks (dictionary t ks c) va) (decide_validity va (len ks), (decide_valid_keys va ks (len c), tt)) refl
+-- A new validity passes every check or has a first error.
+pub validity-or_error : (a : Layout) (va : Validity) → Pass (validity_checks a va) ⊎ ((e : Error) × ValidityError e a va)
+validity-or_error (null t n) va = pass-or_error (validity_checks (null t n) va) (inr (λ h. h), tt) refl
+validity-or_error (boolean t bs old) va = pass-or_error (validity_checks (boolean t bs old) va) (decide_validity va (length bs), tt) refl
+validity-or_error (primitive k t vs old) va = pass-or_error (validity_checks (primitive k t vs old) va) (decide_validity va (length vs), tt) refl
+validity-or_error (binary l t os bs old) va = pass-or_error (validity_checks (binary l t os bs old) va) (decide_validity va (count_rows os), tt) refl
+validity-or_error (utf8 l t os bs old) va = pass-or_error (validity_checks (utf8 l t os bs old) va) (decide_validity va (count_rows os), tt) refl
+validity-or_error (fixed_size_binary t bs old) va = pass-or_error (validity_checks (fixed_size_binary t bs old) va) (decide_validity va (len (fixed_size_binary t bs old)), tt) refl
+validity-or_error (fixed_size_list t c old) va = pass-or_error (validity_checks (fixed_size_list t c old) va) (decide_validity va (len (fixed_size_list t c old)), tt) refl
+validity-or_error (list l t os c old) va = pass-or_error (validity_checks (list l t os c old) va) (decide_validity va (count_rows os), tt) refl
+validity-or_error (map t os c old) va = pass-or_error (validity_checks (map t os c old) va) (decide_validity va (count_rows os), tt) refl
+validity-or_error (struct t cs old) va = pass-or_error (validity_checks (struct t cs old) va) (decide_validity va (first_len cs), tt) refl
+validity-or_error (union t ks cs os start) va = pass-or_error (validity_checks (union t ks cs os start) va) (inr (λ h. h), tt) refl
+validity-or_error (dictionary t ks c) va = pass-or_error (validity_checks (dictionary t ks c) va) (decide_validity va (len ks), (decide_valid_keys va ks (len c), tt)) refl

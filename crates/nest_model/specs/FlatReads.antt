@@ -10,7 +10,7 @@ use Rattle.nest_model.specs.Slot.{Slot}
 use Rattle.nest_model.specs.Layout.{boolean, primitive}
 use Rattle.nest_model.specs.Meaning.{run, slots_of, masked}
 
--- a function's run is a list that has its values at its places
+-- The run of a function is the list whose items are the function's values at those indices.
 run-list : (f : ℕ → Slot) (ss : List Slot) (o : ℕ) → ((i : ℕ) → i < length ss → f (o + i) ≡ get_or ss i slots.null) → run f o (length ss) ≡ ss
 run-list f [] o h = refl
 run-list f (s ∷ ss) o h =
@@ -46,9 +46,9 @@ masked-run {A} f xs d va =
     ∙ ap (λ s. if valid_at va i then s else slots.null) (sym e)
     ∙ sym (get_or-masked va (map f xs) i (omega arith)))
 
--- a primitive array's slots are its native values, a boolean array's its bits, but Null where the validity says so
+-- The slots of primitive and boolean arrays are their values, and `Null` where the validity bit is unset.
 pub primitive-slots : (k : PrimitiveType) (t : TypeTree) (vs : List (List ℤ)) (va : Validity) → slots_of (primitive k t vs va) ≡ masked va (map slots.number vs)
 primitive-slots k t vs va = masked-run slots.number vs [] va
 
-pub boolean-slots : (t : TypeTree) (bs : List Bool) (va : Validity) → slots_of (boolean t bs va) ≡ masked va (map slots.truth bs)
-boolean-slots t bs va = masked-run slots.truth bs false va
+pub boolean-slots : (t : TypeTree) (bs : List Bool) (va : Validity) → slots_of (boolean t bs va) ≡ masked va (map slots.boolean bs)
+boolean-slots t bs va = masked-run slots.boolean bs false va

@@ -1,5 +1,5 @@
--- An array as a plain tree: its kind and its parts, as its accessors show them after its cuts. A kind is a layout of the Arrow columnar
--- format; each begins with the data type.
+-- A layout: an array as a tree of its kind and its parts, as the accessors return them after slicing.
+-- Each constructor is a layout of the Arrow columnar format and begins with the data type.
 use Rattle.std.specs.Prelude.{ℕ, suc, ℤ, Bool, List, Option, ◌+◌, [], ◌∷◌}
 use Rattle.nest_memory.specs.TypeTree.{TypeTree, FieldTrees, no_fields, more_fields, field_type}
 use Rattle.nest_memory.specs.declared.datatypes.physical_type.PrimitiveType.{PrimitiveType}
@@ -7,43 +7,43 @@ use Rattle.nest_model.specs.Part.{Validity}
 
 mutual
   pub data Layout : Type 0 where
-    -- Null Layout: how many slots
+    -- Null Layout: the length.
     null : TypeTree → ℕ → Layout
-    -- Fixed-size Primitive Layout of bits: the bits, the validity
+    -- Fixed-size Primitive Layout of Booleans: the bits and the validity.
     boolean : TypeTree → List Bool → Validity → Layout
-    -- Fixed-size Primitive Layout: the kind of native values, each value as its whole numbers
+    -- Fixed-size Primitive Layout: the primitive type and the values, each as a list of integers.
     primitive : PrimitiveType → TypeTree → List (List ℤ) → Validity → Layout
-    -- Variable-size Binary Layout: whether its offsets have 64 bits, its offsets, its bytes
+    -- Variable-size Binary Layout: whether offsets have 64 bits, the offsets and the bytes.
     binary : Bool → TypeTree → List ℕ → List ℕ → Validity → Layout
-    -- Variable-size Binary Layout of bytes that are UTF-8
-    text : Bool → TypeTree → List ℕ → List ℕ → Validity → Layout
-    -- Fixed-size Primitive Layout of some bytes a slot: the bytes; the size stands in the type
+    -- Variable-size Binary Layout of UTF-8 bytes.
+    utf8 : Bool → TypeTree → List ℕ → List ℕ → Validity → Layout
+    -- Fixed-size Primitive Layout of fixed-size binary: the bytes. The size is in the data type.
     fixed_size_binary : TypeTree → List ℕ → Validity → Layout
-    -- Fixed-Size List Layout: its items; the size stands in the type
+    -- Fixed-Size List Layout: the items. The size is in the data type.
     fixed_size_list : TypeTree → Layout → Validity → Layout
-    -- Variable-size List Layout: whether its offsets have 64 bits, its offsets, its items
+    -- Variable-size List Layout: whether offsets have 64 bits, the offsets and the items.
     list : Bool → TypeTree → List ℕ → Layout → Validity → Layout
-    -- Variable-size List Layout of a map's entries: offsets of 32 bits, the entries
+    -- Variable-size List Layout of a map: 32-bit offsets and the entries.
     map : TypeTree → List ℕ → Layout → Validity → Layout
-    -- Struct Layout: one child for each field
+    -- Struct Layout: one child for each field.
     struct : TypeTree → Layouts → Validity → Layout
-    -- Union Layout: a type for each slot, one child for each field, an offset for each slot of a dense one, and where the window of a cut
-    -- begins in the children of a sparse one
+    -- Union Layout: the type ids, one child for each field, and the offsets of a dense union.
+    -- The last part is the index in the children where a sparse union begins.
     union : TypeTree → List ℤ → Layouts → Option (List ℤ) → ℕ → Layout
-    -- Dictionary-encoded Layout: its keys, an array of whole numbers, and the values that they name
+    -- Dictionary-encoded Layout: an array of integer keys and the values.
     dictionary : TypeTree → Layout → Layout → Layout
 
   pub data Layouts : Type 0 where
     no_layouts : Layouts
     more_layouts : Layout → Layouts → Layouts
 
--- its data type
+-- The data type of an array.
 abbrev pub layout_type : Layout → TypeTree
 layout_type (null t n) = t
 layout_type (boolean t bs va) = t
 layout_type (primitive k t vs va) = t
 layout_type (binary l t os bs va) = t
-layout_type (text l t os bs va) = t
+layout_type (utf8 l t os bs va) = t
 layout_type (fixed_size_binary t bs va) = t
 layout_type (fixed_size_list t c va) = t
 layout_type (list l t os c va) = t
@@ -52,7 +52,7 @@ layout_type (struct t cs va) = t
 layout_type (union t ks cs os start) = t
 layout_type (dictionary t ks c) = t
 
--- the data types of fields, in order
+-- The data types of fields, in order.
 abbrev pub field_types : FieldTrees → List TypeTree
 field_types no_fields = []
 field_types (more_fields f fs) = field_type f ∷ field_types fs
@@ -61,7 +61,7 @@ abbrev pub count_layouts : Layouts → ℕ
 count_layouts no_layouts = 0
 count_layouts (more_layouts c cs) = suc (count_layouts cs)
 
--- how many arrays below it its slots are made of; keys are flat and not counted
+-- The number of arrays below this one that have its values. Keys are flat and not counted.
 abbrev mutual
   pub weight : Layout → ℕ
   weight (fixed_size_list t c va) = weight c + 1

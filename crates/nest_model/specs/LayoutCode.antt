@@ -1,4 +1,4 @@
--- A code of layouts, by which a ghost value that is one is told apart from another.
+-- An encoding of layouts as trees. It is injective, so it decides equality of layouts.
 use Rattle.std.specs.Prelude.{◌≡◌, ℕ, ℤ, Bool, List, Option}
 use Rattle.std.specs.Coded.{Coded, coded_ℕ, coded_ℤ, coded_bool, coded_list, coded×, coded_option}
 use Rattle.std.proofs.Common.{refl, ap}
@@ -9,7 +9,7 @@ use Rattle.nest_memory.specs.TypeCode.{coded_type, code_type, type_one, head, ta
 use Rattle.nest_memory.specs.declared.datatypes.physical_type.PrimitiveType.{PrimitiveType}
 use Rattle.nest_memory.specs.contracts.datatypes.physical_type.PrimitiveType.{the_row as native_row}
 use Rattle.nest_model.specs.Part.{Validity}
-use Rattle.nest_model.specs.Layout.{Layout, Layouts, null, boolean, primitive, binary, text, fixed_size_binary, fixed_size_list, list, map, struct, union, dictionary, no_layouts, more_layouts}
+use Rattle.nest_model.specs.Layout.{Layout, Layouts, null, boolean, primitive, binary, utf8, fixed_size_binary, fixed_size_list, list, map, struct, union, dictionary, no_layouts, more_layouts}
 
 abbrev numbers : Coded (List ℕ)
 numbers = coded_list coded_ℕ
@@ -23,7 +23,7 @@ validity = coded_option (coded_list coded_bool)
 abbrev coded_native : Coded PrimitiveType
 coded_native = native_row.coded
 
--- of each kind the parts that are no array
+-- The parts of each kind that are not arrays.
 abbrev null_part : Coded (TypeTree × ℕ)
 null_part = coded× coded_type coded_ℕ
 
@@ -54,7 +54,7 @@ abbrev mutual
   code_layout (boolean t bs va) = gcons (gnum 1) (boolean_part.code (t, (bs, va)))
   code_layout (primitive k t vs va) = gcons (gnum 2) (primitive_part.code ((k, t), (vs, va)))
   code_layout (binary l t os bs va) = gcons (gnum 3) (bytes_part.code ((l, t), ((os, bs), va)))
-  code_layout (text l t os bs va) = gcons (gnum 4) (bytes_part.code ((l, t), ((os, bs), va)))
+  code_layout (utf8 l t os bs va) = gcons (gnum 4) (bytes_part.code ((l, t), ((os, bs), va)))
   code_layout (fixed_size_binary t bs va) = gcons (gnum 5) (fixed_part.code (t, (bs, va)))
   code_layout (fixed_size_list t c va) = gcons (gnum 6) (gcons (top_part.code (t, va)) (code_layout c))
   code_layout (list l t os c va) = gcons (gnum 7) (gcons (list_part.code ((l, t), (os, va))) (code_layout c))
@@ -73,7 +73,7 @@ mutual
   layout_one (boolean t bs va) (boolean u cs wa) h = let p = boolean_part.inj (t, (bs, va)) (u, (cs, wa)) (ap tail h) in λ i. boolean (p i).0 (p i).1.0 (p i).1.1
   layout_one (primitive k t vs va) (primitive l u ws wa) h = let p = primitive_part.inj ((k, t), (vs, va)) ((l, u), (ws, wa)) (ap tail h) in λ i. primitive (p i).0.0 (p i).0.1 (p i).1.0 (p i).1.1
   layout_one (binary l t os bs va) (binary k u ps cs wa) h = let p = bytes_part.inj ((l, t), ((os, bs), va)) ((k, u), ((ps, cs), wa)) (ap tail h) in λ i. binary (p i).0.0 (p i).0.1 (p i).1.0.0 (p i).1.0.1 (p i).1.1
-  layout_one (text l t os bs va) (text k u ps cs wa) h = let p = bytes_part.inj ((l, t), ((os, bs), va)) ((k, u), ((ps, cs), wa)) (ap tail h) in λ i. text (p i).0.0 (p i).0.1 (p i).1.0.0 (p i).1.0.1 (p i).1.1
+  layout_one (utf8 l t os bs va) (utf8 k u ps cs wa) h = let p = bytes_part.inj ((l, t), ((os, bs), va)) ((k, u), ((ps, cs), wa)) (ap tail h) in λ i. utf8 (p i).0.0 (p i).0.1 (p i).1.0.0 (p i).1.0.1 (p i).1.1
   layout_one (fixed_size_binary t bs va) (fixed_size_binary u cs wa) h = let p = fixed_part.inj (t, (bs, va)) (u, (cs, wa)) (ap tail h) in λ i. fixed_size_binary (p i).0 (p i).1.0 (p i).1.1
   layout_one (fixed_size_list t c va) (fixed_size_list u d wa) h =
       let p = top_part.inj (t, va) (u, wa) (ap (λ v. head (tail v)) h) in

@@ -1,43 +1,43 @@
--- slots
+-- Slots.
 pub mod Slot
-pub mod Chosen
--- arrays by their parts, and which slots they stand for
+pub mod Selected
+-- Layouts of arrays, and the slots they represent.
 pub mod Layout
 pub mod Part
 pub mod Accessors
 pub mod Meaning
 pub mod Nullness
--- cuts
-pub mod Cut
--- which parts make an array: checks in their order
+-- Slices.
+pub mod Slice
+-- Ordered checks of constructors.
 pub mod Checks
 pub mod Fits
 pub mod Array
 pub mod Facts
--- null and empty arrays
+-- Null and empty arrays.
 pub mod Nulls
 pub mod NullLayout
 pub mod MadeNulls
--- the same arrays
+-- Equality of arrays.
 pub mod SameArray
--- builders: their tree, its levels, what is pushed, told, appended, refused, frozen, joined
+-- Builders: trees, levels, pushed items, added rows, appends, errors, freezing and joins.
 pub mod BuilderRow
 pub mod BuilderTree
 pub mod BuilderLevels
-pub mod BuilderWhole
+pub mod BuilderComplete
 pub mod BuilderItem
-pub mod BuilderTold
+pub mod BuilderAddRow
 pub mod BuilderAppend
 pub mod BuilderRefusals
-pub mod BuilderSpells
+pub mod BuilderInput
 pub mod BuilderReading
 pub mod BuilderFreeze
 pub mod BuilderJoin
--- laws of slots and arrays
+-- Laws of slots and arrays.
 pub mod SlotLaws
-pub mod ChosenLaws
+pub mod SelectedLaws
 pub mod Runs
-pub mod CutLaws
+pub mod SliceLaws
 pub mod Reads
 pub mod FlatReads
 pub mod NullnessLaws
@@ -49,11 +49,11 @@ pub mod SameArrayLaws
 pub mod NullLaws
 pub mod NullKinds
 pub mod MadeNullLaws
--- laws of builders
+-- Laws of builders.
 pub mod BuilderRowLaws
 pub mod BuilderLevelLaws
-pub mod BuilderCutLaws
-pub mod BuilderToldLaws
+pub mod BuilderTruncateLaws
+pub mod BuilderAddRowLaws
 pub mod BuilderRowCheckLaws
 pub mod BuilderAppendLaws
 pub mod BuilderKeyLaws
@@ -62,16 +62,18 @@ pub mod BuilderTakesLaws
 pub mod BuilderKindLaws
 pub mod BuilderRefusalLaws
 pub mod BuilderLimitLaws
-pub mod BuilderSpellsLaws
+pub mod BuilderInputLaws
 pub mod BuilderReadingLaws
 pub mod BuilderFreezeLaws
 pub mod BuilderJoinLaws
--- what is told apart and decided by a test
+-- Decidable equality.
 pub mod SlotCode
 pub mod LayoutCode
 pub mod Decide
 pub mod DecideType
 pub mod FitsDecide
--- the arrays and builders of the worked examples
+-- Arrays and builders of the worked examples.
 pub mod Examples
 pub mod BuilderExamples
+-- long statements of laws
+pub mod LawStatements

@@ -1,4 +1,4 @@
--- Laws of what a call owes that makes an array of null slots, or of none.
+-- Laws of functions that return an array of null slots or an empty array.
 use Rattle.std.specs.Prelude.{◌≡◌, ℕ, zero, suc, ◌-◌, ◌<◌, ◌≤◌, ◌^◌, ℤ, pos, true, false, List, ◌∷◌, map, replicate, Option, Some, None}
 use Rattle.std.proofs.Common.{refl, ap, sym, ◌∙◌, subst, arith}
 use Rattle.nest_memory.specs.TypeTree.{TypeTree}
@@ -13,7 +13,7 @@ use Rattle.nest_model.specs.declared.fill.Fill.{Fill}
 use Rattle.nest_model.specs.declared.fill.Fill.TheVariants.{Nulls, Nothing}
 use Rattle.nest_model.specs.Layout.{Layout, layout_type}
 use Rattle.nest_model.specs.Meaning.{slots_of}
-use Rattle.nest_model.specs.Nulls.{Fills, fault_of, type_fault, empty_fault, float_fault}
+use Rattle.nest_model.specs.Nulls.{Fills, error_of, type_error, empty_error, float_error}
 use Rattle.nest_model.specs.Array.{TopFits}
 use Rattle.nest_model.specs.Checks.{refuse_if, is_past}
 use Rattle.nest_model.specs.Decide.{refuse-none}
@@ -21,22 +21,22 @@ use Rattle.nest_model.specs.Fits.{Fits}
 use Rattle.nest_model.specs.Layout as layouts
 use Rattle.nest_model.specs.NullLayout.{zero_value, none_valid, null_array, null_layout, empty_layout}
 use Rattle.nest_model.specs.NullLaws.{IsNullArray, is-array, not-above, native-null, null-array, null-layout, empty-layout, null-slots}
-use Rattle.nest_model.specs.NullKinds.{is_plain, native-parts, native-slot, plain-fault}
+use Rattle.nest_model.specs.NullKinds.{is_plain, native-parts, native-slot, plain-first_error}
 use Rattle.nest_model.specs.MadeNulls.{HasNulls, HasNone}
 
 pub as-nulls : (t : TypeTree) (n : ℕ) (a : Layout) → IsNullArray t n (null_layout t n) → a ≡ null_layout t n → HasNulls t n a
 as-nulls t n a r e = record { same_type = ap layout_type e ∙ r.typed; slots = ap slots_of e ∙ null-slots t n (null_layout t n) r; parts = e }
 
-pub has-nulls : (t : TypeTree) (n : ℕ) (a : Layout) → type_fault t n ≡ None → a ≡ null_layout t n → HasNulls t n a
+pub has-nulls : (t : TypeTree) (n : ℕ) (a : Layout) → type_error t n ≡ None → a ≡ null_layout t n → HasNulls t n a
 has-nulls t n a h e = as-nulls t n a (null-layout t n h) e
 
 pub as-none : (t : TypeTree) (a : Layout) → IsNullArray t 0 (empty_layout t) → a ≡ empty_layout t → HasNone t a
 as-none t a r e = record { same_type = ap layout_type e ∙ r.typed; slots = ap slots_of e ∙ null-slots t 0 (empty_layout t) r; parts = e }
 
-pub has-none : (t : TypeTree) (a : Layout) → empty_fault t ≡ None → a ≡ empty_layout t → HasNone t a
+pub has-none : (t : TypeTree) (a : Layout) → empty_error t ≡ None → a ≡ empty_layout t → HasNone t a
 has-none t a h e = as-none t a (empty-layout t h) e
 
--- native values, which have no fault but that of floats
+-- Native values have an error only if they are floats.
 native-array : (k : PrimitiveType) (t : TypeTree) (n : ℕ) (d : Fill) → Fills d n → physical_type t ≡ physical.Primitive k → IsNullArray t n (null_array t n d)
 native-array k t n d p h = subst (IsNullArray t n) (sym (native-parts k t n d h)) (native-null k t n d p h (native-slot k t h))
 
@@ -60,14 +60,14 @@ native-zeros v k t n d z h e = ap (λ vs. layouts.primitive k t vs (none_valid d
     repeated zero = refl
     repeated (suc n) = ap (λ vs. v z ∷ vs) (repeated n)
 
-pub no-float : (t : TypeTree) (k : PrimitiveType) (n : ℕ) (d : Fill) → physical_type t ≡ physical.Primitive k → fault_of t n d ≡ None → float_fault (physical.Primitive k) ≡ None
-no-float t k n d h e = ap float_fault (sym h) ∙ sym (plain-fault t n d (ap is_plain h)) ∙ e
+pub no-float : (t : TypeTree) (k : PrimitiveType) (n : ℕ) (d : Fill) → physical_type t ≡ physical.Primitive k → error_of t n d ≡ None → float_error (physical.Primitive k) ≡ None
+no-float t k n d h e = ap float_error (sym h) ∙ sym (plain-first_error t n d (ap is_plain h)) ∙ e
 
--- booleans have no fault
-pub boolean-fault : (t : TypeTree) (n : ℕ) (d : Fill) → physical_type t ≡ physical.Boolean → fault_of t n d ≡ None
-boolean-fault t n d h = plain-fault t n d (ap is_plain h) ∙ ap float_fault h
+-- Booleans have no error.
+pub boolean-first_error : (t : TypeTree) (n : ℕ) (d : Fill) → physical_type t ≡ physical.Boolean → error_of t n d ≡ None
+boolean-first_error t n d h = plain-first_error t n d (ap is_plain h) ∙ ap float_error h
 
--- n slots over no byte or item: there is one offset more
+-- An array of n slots has n + 1 offsets.
 past : (n : ℕ) → 2 ^ 64 ≤ n → is_past n ≡ true
 past n h = grind (arith)
 
@@ -80,9 +80,9 @@ refused-past n rest h = ap (λ b. refuse_if b Overflow rest) (past n h)
 pub accepted-not-past : (n : ℕ) (rest : Option Error) → n < 2 ^ 64 → refuse_if (is_past n) Overflow rest ≡ rest
 accepted-not-past n rest h = ap (λ b. refuse_if b Overflow rest) (let e : is_past n ≡ false = grind (arith) in e)
 
--- an array that is one of nulls fits at its top level
-pub top-fits : (t : TypeTree) (n : ℕ) (d : Fill) (a : Layout) → Fills d n → fault_of t n d ≡ None → a ≡ null_array t n d → TopFits a
+-- A null array is valid at its top level.
+pub top-fits : (t : TypeTree) (n : ℕ) (d : Fill) (a : Layout) → Fills d n → error_of t n d ≡ None → a ≡ null_array t n d → TopFits a
 top-fits t n d a p h e = subst TopFits (sym e) (is-array t n (null_array t n d) (null-array t n d p h)).0
 
-pub fits : (t : TypeTree) (n : ℕ) (d : Fill) (a : Layout) → Fills d n → fault_of t n d ≡ None → a ≡ null_array t n d → Fits a
+pub fits : (t : TypeTree) (n : ℕ) (d : Fill) (a : Layout) → Fills d n → error_of t n d ≡ None → a ≡ null_array t n d → Fits a
 fits t n d a p h e = let r = null-array t n d p h in subst Fits (sym e) r.fits

@@ -1,4 +1,4 @@
--- Null and empty arrays by the kind of their data type, whatever extensions it has: their parts, their faults, and how deep a type is.
+-- Null and empty arrays by the kind of their data type, ignoring extensions: parts, errors and depth of the type.
 use Rattle.std.specs.Prelude.{Option, Some, None, replicate, not, ◌&&◌, nat_eq, nat_lt}
 use Rattle.std.proofs.Common.{◌≡◌, ℕ, suc, ◌+◌, ◌*◌, ◌<◌, ◌≤◌, ℤ, Bool, true, false, List, [], refl, ap, ◌∙◌, arith}
 use Rattle.nest_memory.specs.declared.datatypes.IntegerType.{IntegerType}
@@ -9,9 +9,9 @@ use Rattle.nest_memory.specs.declared.datatypes.physical_type.PhysicalType.TheVa
 use Rattle.nest_memory.specs.declared.datatypes.physical_type.PrimitiveType.{PrimitiveType}
 use Rattle.nest_memory.specs.declared.error.Error.{Error}
 use Rattle.nest_memory.specs.declared.error.Error.TheVariants.{OutOfSpec, InvalidArgumentError, Overflow}
-use Rattle.nest_memory.specs.declared.error.Spec.TheVariants as spec
-use Rattle.nest_memory.specs.declared.error.Argument.TheVariants as argument
-use Rattle.nest_memory.specs.Physical.{physical_type, list_of_width, binary_of_width, text_of_width}
+use Rattle.nest_memory.specs.declared.error.SpecError.TheVariants as spec
+use Rattle.nest_memory.specs.declared.error.ArgumentError.TheVariants as argument
+use Rattle.nest_memory.specs.Physical.{physical_type, list_of_width, binary_of_width, utf8_of_width}
 use Rattle.nest_memory.specs.TypeTree as types
 use Rattle.nest_memory.specs.TypeTree.{TypeTree, FieldTree, field, FieldTrees, no_fields, more_fields, field_type, count_fields, item_type, size_of, fields_of, ids_of, mode_of, is_dense_mode, has_pairs, is_pair, key_type, value_type}
 use Rattle.nest_model.specs.declared.fill.Fill.{Fill}
@@ -20,10 +20,10 @@ use Rattle.nest_model.specs.Checks.{refuse_if, first_of, is_past, most_fields, m
 use Rattle.nest_model.specs.Layout as layouts
 use Rattle.nest_model.specs.Accessors.{with_type}
 use Rattle.nest_model.specs.Slot as slots
-use Rattle.nest_model.specs.Nulls.{null_slot, values_below, ids_count_differs, has_bad_id, fault_of, fields_fault, float_fault, union_fault}
+use Rattle.nest_model.specs.Nulls.{null_slot, values_below, ids_count_differs, has_bad_id, error_of, fields_error, float_error, union_error}
 use Rattle.nest_model.specs.NullLayout.{none_valid, native_of_key, type_of_key, native_nulls, flat_nulls, null_type, null_offsets, null_array, null_children}
 
--- how many types a data type is made of
+-- A weight of data types. A data type weighs more than each of its children, so recursion on it ends.
 abbrev mutual
   pub type_weight : TypeTree → ℕ
   type_weight (types.list f) = suc (field_weight f)
@@ -65,7 +65,7 @@ fields-lighter (types.union fs ids mode) = omega arith
 fields-lighter (types.extension x t m) = let l = fields-lighter t in omega arith
 fields-lighter t = omega arith
 
--- parts
+-- Parts.
 pub null-parts : (t : TypeTree) (n : ℕ) (d : Fill) → physical_type t ≡ physical.Null → null_array t n d ≡ layouts.null t n
 null-parts types.null n d h = refl
 null-parts (types.extension x t m) n d h = ap (λ a. with_type a (types.extension x t m)) (null-parts t n d h)
@@ -99,7 +99,7 @@ binary-parts large (types.extension x t m) n d h = ap (λ a. with_type a (types.
 binary-parts false t n d h = cc
 binary-parts true t n d h = cc
 
-pub text-parts : (large : Bool) (t : TypeTree) (n : ℕ) (d : Fill) → physical_type t ≡ text_of_width large → null_array t n d ≡ layouts.text large t (replicate (suc n) 0) [] (none_valid d n)
+pub text-parts : (large : Bool) (t : TypeTree) (n : ℕ) (d : Fill) → physical_type t ≡ utf8_of_width large → null_array t n d ≡ layouts.utf8 large t (replicate (suc n) 0) [] (none_valid d n)
 text-parts false types.utf8 n d h = refl
 text-parts true types.large_utf8 n d h = refl
 text-parts large (types.extension x t m) n d h = ap (λ a. with_type a (types.extension x t m)) (text-parts large t n d h)
@@ -147,93 +147,93 @@ dictionary-parts (types.dictionary j v b) u k n d h e =
 dictionary-parts (types.extension x t m) u k n d h e = ap (λ a. with_type a (types.extension x t m)) (dictionary-parts t u k n d h e)
 dictionary-parts t u k n d h e = cc
 
--- types whose slots take no product and no child: nulls, booleans, native values
+-- Kinds without a product of lengths and without children: nulls, Booleans, native values.
 abbrev pub is_plain : PhysicalType → Bool
 is_plain physical.Null = true
 is_plain physical.Boolean = true
 is_plain (physical.Primitive k) = true
 is_plain p = false
 
-pub plain-fault : (t : TypeTree) (n : ℕ) (d : Fill) → is_plain (physical_type t) ≡ true → fault_of t n d ≡ float_fault (physical_type t)
-plain-fault (types.interval YearMonth) n d h = refl
-plain-fault (types.interval DayTime) n d h = refl
-plain-fault (types.interval MonthDayNano) n d h = refl
-plain-fault types.binary n d h = cc
-plain-fault types.large_binary n d h = cc
-plain-fault types.utf8 n d h = cc
-plain-fault types.large_utf8 n d h = cc
-plain-fault (types.fixed_size_binary s) n d h = cc
-plain-fault (types.list f) n d h = cc
-plain-fault (types.large_list f) n d h = cc
-plain-fault (types.fixed_size_list f s) n d h = cc
-plain-fault (types.map f b) n d h = cc
-plain-fault (types.struct fs) n d h = cc
-plain-fault (types.union fs ids mode) n d h = cc
-plain-fault (types.dictionary j t b) n d h = cc
-plain-fault (types.extension x t m) n d h = plain-fault t n d h
-plain-fault t n d h = refl
+pub plain-first_error : (t : TypeTree) (n : ℕ) (d : Fill) → is_plain (physical_type t) ≡ true → error_of t n d ≡ float_error (physical_type t)
+plain-first_error (types.interval YearMonth) n d h = refl
+plain-first_error (types.interval DayTime) n d h = refl
+plain-first_error (types.interval MonthDayNano) n d h = refl
+plain-first_error types.binary n d h = cc
+plain-first_error types.large_binary n d h = cc
+plain-first_error types.utf8 n d h = cc
+plain-first_error types.large_utf8 n d h = cc
+plain-first_error (types.fixed_size_binary s) n d h = cc
+plain-first_error (types.list f) n d h = cc
+plain-first_error (types.large_list f) n d h = cc
+plain-first_error (types.fixed_size_list f s) n d h = cc
+plain-first_error (types.map f b) n d h = cc
+plain-first_error (types.struct fs) n d h = cc
+plain-first_error (types.union fs ids mode) n d h = cc
+plain-first_error (types.dictionary j t b) n d h = cc
+plain-first_error (types.extension x t m) n d h = plain-first_error t n d h
+plain-first_error t n d h = refl
 
-pub binary-fault : (large : Bool) (t : TypeTree) (n : ℕ) (d : Fill) → physical_type t ≡ binary_of_width large → fault_of t n d ≡ refuse_if (is_past (n + 1)) Overflow None
-binary-fault false types.binary n d h = refl
-binary-fault true types.large_binary n d h = refl
-binary-fault large (types.extension x t m) n d h = binary-fault large t n d h
-binary-fault false t n d h = cc
-binary-fault true t n d h = cc
+pub binary-first_error : (large : Bool) (t : TypeTree) (n : ℕ) (d : Fill) → physical_type t ≡ binary_of_width large → error_of t n d ≡ refuse_if (is_past (n + 1)) Overflow None
+binary-first_error false types.binary n d h = refl
+binary-first_error true types.large_binary n d h = refl
+binary-first_error large (types.extension x t m) n d h = binary-first_error large t n d h
+binary-first_error false t n d h = cc
+binary-first_error true t n d h = cc
 
-pub text-fault : (large : Bool) (t : TypeTree) (n : ℕ) (d : Fill) → physical_type t ≡ text_of_width large → fault_of t n d ≡ refuse_if (is_past (n + 1)) Overflow None
-text-fault false types.utf8 n d h = refl
-text-fault true types.large_utf8 n d h = refl
-text-fault large (types.extension x t m) n d h = text-fault large t n d h
-text-fault false t n d h = cc
-text-fault true t n d h = cc
+pub text-first_error : (large : Bool) (t : TypeTree) (n : ℕ) (d : Fill) → physical_type t ≡ utf8_of_width large → error_of t n d ≡ refuse_if (is_past (n + 1)) Overflow None
+text-first_error false types.utf8 n d h = refl
+text-first_error true types.large_utf8 n d h = refl
+text-first_error large (types.extension x t m) n d h = text-first_error large t n d h
+text-first_error false t n d h = cc
+text-first_error true t n d h = cc
 
-pub bytes-fault : (t : TypeTree) (n : ℕ) (d : Fill) → physical_type t ≡ physical.FixedSizeBinary → fault_of t n d ≡ refuse_if (nat_eq (size_of t) 0) (OutOfSpec spec.ZeroSize) (refuse_if (is_past (n * size_of t)) Overflow None)
-bytes-fault (types.fixed_size_binary s) n d h = refl
-bytes-fault (types.extension x t m) n d h = bytes-fault t n d h
-bytes-fault t n d h = cc
+pub bytes-first_error : (t : TypeTree) (n : ℕ) (d : Fill) → physical_type t ≡ physical.FixedSizeBinary → error_of t n d ≡ refuse_if (nat_eq (size_of t) 0) (OutOfSpec spec.ZeroSize) (refuse_if (is_past (n * size_of t)) Overflow None)
+bytes-first_error (types.fixed_size_binary s) n d h = refl
+bytes-first_error (types.extension x t m) n d h = bytes-first_error t n d h
+bytes-first_error t n d h = cc
 
-pub list-fault : (large : Bool) (t u : TypeTree) (n : ℕ) (d : Fill) → physical_type t ≡ list_of_width large → item_type t ≡ Some u → fault_of t n d ≡ refuse_if (is_past (n + 1)) Overflow (fault_of u 0 Nothing)
-list-fault false (types.list (field x v b es)) u n d h e = let q : v ≡ u = cc in ap (λ w. refuse_if (is_past (n + 1)) Overflow (fault_of w 0 Nothing)) q
-list-fault true (types.large_list (field x v b es)) u n d h e = let q : v ≡ u = cc in ap (λ w. refuse_if (is_past (n + 1)) Overflow (fault_of w 0 Nothing)) q
-list-fault large (types.extension x t m) u n d h e = list-fault large t u n d h e
-list-fault false t u n d h e = cc
-list-fault true t u n d h e = cc
+pub list-first_error : (large : Bool) (t u : TypeTree) (n : ℕ) (d : Fill) → physical_type t ≡ list_of_width large → item_type t ≡ Some u → error_of t n d ≡ refuse_if (is_past (n + 1)) Overflow (error_of u 0 Nothing)
+list-first_error false (types.list (field x v b es)) u n d h e = let q : v ≡ u = cc in ap (λ w. refuse_if (is_past (n + 1)) Overflow (error_of w 0 Nothing)) q
+list-first_error true (types.large_list (field x v b es)) u n d h e = let q : v ≡ u = cc in ap (λ w. refuse_if (is_past (n + 1)) Overflow (error_of w 0 Nothing)) q
+list-first_error large (types.extension x t m) u n d h e = list-first_error large t u n d h e
+list-first_error false t u n d h e = cc
+list-first_error true t u n d h e = cc
 
-pub sized-fault : (t u : TypeTree) (n : ℕ) (d : Fill) → physical_type t ≡ physical.FixedSizeList → item_type t ≡ Some u
-    → fault_of t n d ≡ refuse_if (nat_eq (size_of t) 0) (OutOfSpec spec.ZeroSize) (refuse_if (is_past (n * size_of t)) Overflow (fault_of u (n * size_of t) d))
-sized-fault (types.fixed_size_list (field x v b es) s) u n d h e =
-    let q : v ≡ u = cc in ap (λ w. refuse_if (nat_eq s 0) (OutOfSpec spec.ZeroSize) (refuse_if (is_past (n * s)) Overflow (fault_of w (n * s) d))) q
-sized-fault (types.extension x t m) u n d h e = sized-fault t u n d h e
-sized-fault t u n d h e = cc
+pub sized-first_error : (t u : TypeTree) (n : ℕ) (d : Fill) → physical_type t ≡ physical.FixedSizeList → item_type t ≡ Some u
+    → error_of t n d ≡ refuse_if (nat_eq (size_of t) 0) (OutOfSpec spec.ZeroSize) (refuse_if (is_past (n * size_of t)) Overflow (error_of u (n * size_of t) d))
+sized-first_error (types.fixed_size_list (field x v b es) s) u n d h e =
+    let q : v ≡ u = cc in ap (λ w. refuse_if (nat_eq s 0) (OutOfSpec spec.ZeroSize) (refuse_if (is_past (n * s)) Overflow (error_of w (n * s) d))) q
+sized-first_error (types.extension x t m) u n d h e = sized-first_error t u n d h e
+sized-first_error t u n d h e = cc
 
-pub map-fault : (t u : TypeTree) (n : ℕ) (d : Fill) → physical_type t ≡ physical.Map → item_type t ≡ Some u
-    → fault_of t n d ≡ refuse_if (not (has_pairs t)) (InvalidArgumentError argument.MapInner) (refuse_if (is_past (n + 1)) Overflow (fault_of u 0 Nothing))
-map-fault (types.map (field x v b es) s) u n d h e =
-    let q : v ≡ u = cc in ap (λ w. refuse_if (not (is_pair v)) (InvalidArgumentError argument.MapInner) (refuse_if (is_past (n + 1)) Overflow (fault_of w 0 Nothing))) q
-map-fault (types.extension x t m) u n d h e = map-fault t u n d h e
-map-fault t u n d h e = cc
+pub map-first_error : (t u : TypeTree) (n : ℕ) (d : Fill) → physical_type t ≡ physical.Map → item_type t ≡ Some u
+    → error_of t n d ≡ refuse_if (not (has_pairs t)) (InvalidArgumentError argument.MapInner) (refuse_if (is_past (n + 1)) Overflow (error_of u 0 Nothing))
+map-first_error (types.map (field x v b es) s) u n d h e =
+    let q : v ≡ u = cc in ap (λ w. refuse_if (not (is_pair v)) (InvalidArgumentError argument.MapInner) (refuse_if (is_past (n + 1)) Overflow (error_of w 0 Nothing))) q
+map-first_error (types.extension x t m) u n d h e = map-first_error t u n d h e
+map-first_error t u n d h e = cc
 
-pub struct-fault : (t : TypeTree) (n : ℕ) (d : Fill) → physical_type t ≡ physical.Struct → fault_of t n d ≡ refuse_if (nat_eq (count_fields (fields_of t)) 0) (OutOfSpec spec.NoFields) (fields_fault (fields_of t) n d)
-struct-fault (types.struct fs) n d h = refl
-struct-fault (types.extension x t m) n d h = struct-fault t n d h
-struct-fault t n d h = cc
+pub struct-first_error : (t : TypeTree) (n : ℕ) (d : Fill) → physical_type t ≡ physical.Struct → error_of t n d ≡ refuse_if (nat_eq (count_fields (fields_of t)) 0) (OutOfSpec spec.NoFields) (fields_error (fields_of t) n d)
+struct-first_error (types.struct fs) n d h = refl
+struct-first_error (types.extension x t m) n d h = struct-first_error t n d h
+struct-first_error t n d h = cc
 
-pub dictionary-fault : (t u : TypeTree) (n : ℕ) (d : Fill) → value_type t ≡ Some u → fault_of t n d ≡ fault_of u (values_below d) d
-dictionary-fault (types.dictionary j v b) u n d e = let q : v ≡ u = cc in ap (λ w. fault_of w (values_below d) d) q
-dictionary-fault (types.extension x t m) u n d e = dictionary-fault t u n d e
-dictionary-fault t u n d e = cc
+pub dictionary-first_error : (t u : TypeTree) (n : ℕ) (d : Fill) → value_type t ≡ Some u → error_of t n d ≡ error_of u (values_below d) d
+dictionary-first_error (types.dictionary j v b) u n d e = let q : v ≡ u = cc in ap (λ w. error_of w (values_below d) d) q
+dictionary-first_error (types.extension x t m) u n d e = dictionary-first_error t u n d e
+dictionary-first_error t u n d e = cc
 
-pub union-fault : (t : TypeTree) (mode : UnionMode) (n : ℕ) (d : Fill) → mode_of t ≡ Some mode → fault_of t n d ≡ union_fault (count_fields (fields_of t)) (ids_of t) mode n (fields_fault (fields_of t) n d)
-union-fault (types.union fs ids m) mode n d e = let q : m ≡ mode = cc in ap (λ o. union_fault (count_fields fs) ids o n (fields_fault fs n d)) q
-union-fault (types.extension x t m) mode n d e = union-fault t mode n d e
-union-fault t mode n d e = cc
+pub union-first_error : (t : TypeTree) (mode : UnionMode) (n : ℕ) (d : Fill) → mode_of t ≡ Some mode → error_of t n d ≡ union_error (count_fields (fields_of t)) (ids_of t) mode n (fields_error (fields_of t) n d)
+union-first_error (types.union fs ids m) mode n d e = let q : m ≡ mode = cc in ap (λ o. union_error (count_fields fs) ids o n (fields_error fs n d)) q
+union-first_error (types.extension x t m) mode n d e = union-first_error t mode n d e
+union-first_error t mode n d e = cc
 
--- the own fault of a type goes before that of its children
+-- A data type's own error precedes those of its children.
 first-refused : (b : Bool) (e : Error) (own rest : Option Error) → refuse_if b e (first_of own rest) ≡ first_of (refuse_if b e own) rest
 first-refused true e own rest = refl
 first-refused false e own rest = refl
 
-pub union-own : (count : ℕ) (ids : Option (List ℤ)) (mode : UnionMode) (n : ℕ) (rest : Option Error) → union_fault count ids mode n rest ≡ first_of (union_fault count ids mode n None) rest
+pub union-own : (count : ℕ) (ids : Option (List ℤ)) (mode : UnionMode) (n : ℕ) (rest : Option Error) → union_error count ids mode n rest ≡ first_of (union_error count ids mode n None) rest
 union-own count ids mode n rest =
     let e5 = first-refused (is_dense_mode mode && nat_lt most_picks n) Overflow None rest in
     let e4 = first-refused (nat_eq count 0 && nat_lt 0 n) (OutOfSpec spec.UnionType) _ rest in
@@ -246,7 +246,7 @@ union-own count ids mode n rest =
     ∙ ap (λ o. refuse_if (nat_lt most_fields count) (OutOfSpec spec.TooManyFields) o) e2
     ∙ e1
 
--- a null slot of any type but a union's is Null
+-- A null slot of any data type except unions is `Null`.
 pub native-slot : (k : PrimitiveType) (t : TypeTree) → physical_type t ≡ physical.Primitive k → null_slot t ≡ slots.null
 native-slot k (types.union fs ids mode) h = cc
 native-slot k (types.extension x t m) h = native-slot k t h

@@ -1,4 +1,4 @@
--- Null and empty arrays are arrays of their data type: they fit, and their slots are the null slots.
+-- Laws: null and empty arrays are arrays of their data type, and their slots are null slots.
 use Rattle.std.specs.Prelude.{Option, Some, None, get_or, replicate, map, length, if◌then◌else◌, take, not, ◌&&◌, nat_eq, nat_lt}
 use Rattle.std.specs.Ordering.{int_eq}
 use Rattle.std.specs.List.{All, range_with_len}
@@ -19,28 +19,28 @@ use Rattle.nest_memory.specs.declared.datatypes.physical_type.PhysicalType.TheVa
 use Rattle.nest_memory.specs.declared.datatypes.physical_type.PrimitiveType.{PrimitiveType}
 use Rattle.nest_memory.specs.TypeTree as types
 use Rattle.nest_memory.specs.TypeTree.{Letters, Entries, TypeTree, FieldTree, field, FieldTrees, no_fields, more_fields, field_type, count_fields, item_type, size_of, is_dense_mode, is_pair, has_pairs}
-use Rattle.nest_memory.specs.Physical.{physical_type, list_of_width, binary_of_width, text_of_width}
-use Rattle.nest_memory.specs.Cut.{cut}
+use Rattle.nest_memory.specs.Physical.{physical_type, list_of_width, binary_of_width, utf8_of_width}
+use Rattle.nest_memory.specs.Sublist.{sublist}
 use Rattle.nest_memory.specs.Rising.{last_of}
 use Rattle.nest_model.specs.declared.fill.Fill.{Fill}
 use Rattle.nest_model.specs.declared.fill.Fill.TheVariants.{Nulls, Nothing}
-use Rattle.nest_model.specs.Part.{valid_at, begin, extent, count_rows, place, last_place, field_named}
+use Rattle.nest_model.specs.Part.{valid_at, begin, extent, count_rows, to_index, last_position, field_named}
 use Rattle.nest_model.specs.Slot as slots
 use Rattle.nest_model.specs.Slot.{Slot}
-use Rattle.nest_model.specs.Layout.{Layout, Layouts, null, boolean, primitive, binary, text, fixed_size_binary, fixed_size_list, list, struct, union, dictionary, no_layouts, more_layouts, layout_type, count_layouts}
+use Rattle.nest_model.specs.Layout.{Layout, Layouts, null, boolean, primitive, binary, utf8, fixed_size_binary, fixed_size_list, list, struct, union, dictionary, no_layouts, more_layouts, layout_type, count_layouts}
 use Rattle.nest_model.specs.Layout as layouts
 use Rattle.nest_model.specs.Accessors.{with_type, key_type_of}
-use Rattle.nest_model.specs.Meaning.{run, len, first_len, union_place, slot, of_field, picked, slots_of}
+use Rattle.nest_model.specs.Meaning.{run, len, first_len, union_index, slot, of_field, picked, slots_of}
 use Rattle.nest_model.specs.Runs.{product-exact}
 use Rattle.nest_model.specs.Fits.{Fits, ValidityFits, EachType, EachLen, EachCovers, Names, MeansField, EachMeansField, IdsCount, IdsInRange, OffsetsCount, OffsetsByMode, SlotsThere, child_len}
 use Rattle.nest_model.specs.FitsLaws.{fits-keeps}
 use Rattle.nest_model.specs.Array.{AreOffsets, AreKeys, PartsHold, ChildrenFit, AreArrays, IsArray}
 use Rattle.nest_model.specs.Decide.{refuse-none, first-none, not-false}
-use Rattle.nest_model.specs.Nulls.{values_below, Fills, null_field, null_slot, null_pick, null_slots, is_id, are_ids, ids_count_differs, has_bad_id, fault_of, field_fault, fields_fault, type_fault, empty_fault}
+use Rattle.nest_model.specs.Nulls.{values_below, Fills, null_field, null_slot, null_pick, null_slots, is_id, are_ids, ids_count_differs, has_bad_id, error_of, field_error, fields_error, type_error, empty_error}
 use Rattle.nest_model.specs.NullLayout.{zero_value, native_of_key, type_of_key, none_valid, native_nulls, null_type, null_offsets, null_array, null_item, null_children, null_layout, empty_layout}
 use Rattle.nest_model.specs.Checks.{most_fields, type_count}
 
--- an array of n null slots of data type t
+-- The array has data type t and n null slots, and is valid at every level.
 pub record IsNullArray (t : TypeTree) (n : ℕ) (a : Layout) : Type 0 where
   pub typed : layout_type a ≡ t
   pub long : len a ≡ n
@@ -49,7 +49,7 @@ pub record IsNullArray (t : TypeTree) (n : ℕ) (a : Layout) : Type 0 where
   pub fits : Fits a
   pub children : ChildrenFit a
 
--- children of n null slots each, one of each field
+-- Children of a struct or union, one for each field, with n null slots each.
 pub record AreNullArrays (fs : FieldTrees) (n : ℕ) (cs : Layouts) : Type 0 where
   pub typed : EachType fs cs
   pub as_many : count_layouts cs ≡ count_fields fs
@@ -74,7 +74,7 @@ not-above m n h = grind (arith)
 below : (m n : ℕ) → nat_lt m n ≡ true → m < n
 below m n h = grind (arith)
 
--- no place is valid
+-- No index is valid.
 null-valid : (d : Fill) (n i : ℕ) → Fills d n → i < n → valid_at (none_valid d n) i ≡ false
 null-valid Nulls n i h k = get_or-replicate n i false true k
 null-valid Nothing n i h k = absurd (omega arith)
@@ -90,7 +90,7 @@ otherwise : (b : Bool) (s r : Slot) → b ≡ false → (if b then s else r) ≡
 otherwise true s r h = cc
 otherwise false s r h = refl
 
--- offsets that are all 0
+-- Offsets that are all 0.
 zero-at : (n i : ℕ) → ◌≡◌ {A = ℕ} (get_or (replicate n 0) i 0) 0
 zero-at zero i = refl
 zero-at (suc n) zero = refl
@@ -108,7 +108,7 @@ zero-rows n = let e = length-replicate {A = ℕ} (suc n) 0 in omega arith
 zero-last : (n m : ℕ) → last_of (replicate (suc n) 0) ≤ m
 zero-last n m = let e = zero-at (suc n) (length {A = ℕ} (replicate (suc n) 0) - 1) in omega arith
 
--- flat arrays
+-- Flat arrays.
 pub native-null : (k : PrimitiveType) (t : TypeTree) (n : ℕ) (d : Fill) → Fills d n → physical_type t ≡ physical.Primitive k → null_slot t ≡ slots.null → IsNullArray t n (native_nulls k t n d)
 native-null k t n d h p e =
     let l = length-replicate n (zero_value k) in
@@ -132,7 +132,7 @@ binary-null large t n d h p e =
       children = tt;
     }
 
-text-null : (large : Bool) (t : TypeTree) (n : ℕ) (d : Fill) → Fills d n → physical_type t ≡ text_of_width large → null_slot t ≡ slots.null → IsNullArray t n (text large t (replicate (suc n) 0) [] (none_valid d n))
+text-null : (large : Bool) (t : TypeTree) (n : ℕ) (d : Fill) → Fills d n → physical_type t ≡ utf8_of_width large → null_slot t ≡ slots.null → IsNullArray t n (utf8 large t (replicate (suc n) 0) [] (none_valid d n))
 text-null large t n d h p e =
     record {
       typed = refl;
@@ -143,10 +143,10 @@ text-null large t n d h p e =
       children = tt;
     }
   where
-    empty-cut : (o m : ℕ) → [] ≡ cut {A = ℕ} [] o m
+    empty-cut : (o m : ℕ) → [] ≡ sublist {A = ℕ} [] o m
     empty-cut o m = sym (ap (take m) (drop-nil o) ∙ take-nil m)
 
-    no-bytes : (i : ℕ) → IsUtf8 (cut [] (begin (replicate (suc n) 0) i) (extent (replicate (suc n) 0) i))
+    no-bytes : (i : ℕ) → IsUtf8 (sublist [] (begin (replicate (suc n) 0) i) (extent (replicate (suc n) 0) i))
     no-bytes i = subst IsUtf8 (empty-cut (begin (replicate (suc n) 0) i) (extent (replicate (suc n) 0) i)) IsUtf8-nil
 
 fixed-null : (s n : ℕ) (d : Fill) → Fills d n → 0 < s → IsNullArray (types.fixed_size_binary s) n (fixed_size_binary (types.fixed_size_binary s) (replicate (n * s) 0) (none_valid d n))
@@ -162,7 +162,7 @@ fixed-null s n d h z =
       children = tt;
     }
 
--- lists of nothing
+-- Lists without items.
 list-null : (large : Bool) (t u : TypeTree) (n : ℕ) (d : Fill) (c : Layout) → Fills d n → physical_type t ≡ list_of_width large → item_type t ≡ Some u → null_slot t ≡ slots.null → IsNullArray u 0 c
     → IsNullArray t n (list large t (replicate (suc n) 0) c (none_valid d n))
 list-null large t u n d c h p q e r =
@@ -213,7 +213,7 @@ struct-null fs n d cs h z r =
       children = r.arrays;
     }
 
--- dictionaries of null keys
+-- Dictionaries with null keys only.
 key-fits : (k : IntegerType) (n : ℕ) (d : Fill) → AreKeys (native_nulls (native_of_key k) (type_of_key k) n d)
 key-fits integers.Int8 n d = (refl, (null-bits-at d n (length (replicate n (pos 0 ∷ []))) (length-replicate n (pos 0 ∷ [])), (refl, tt)))
 key-fits k n d = (refl, (null-bits-at d n (length (replicate n (pos 0 ∷ []))) (length-replicate n (pos 0 ∷ [])), (refl, tt)))
@@ -244,41 +244,41 @@ dictionary-null k t b n d c h r =
       children = is-array t (values_below d) c r;
     }
 
--- the last place of a number
+-- The last position of an integer in a list.
 last-step : (o : Option ℕ) (b : Bool) (m : ℕ) → ((k : ℕ) → o ≡ Some k → k < m) → (k : ℕ) → elim o as (λ _. Option ℕ) [ Some j ↦ Some (suc j) | None ↦ if b then Some 0 else None ] ≡ Some k → k < suc m
 last-step None true m h k e = let z : 0 ≡ k = cc in omega arith
 last-step None false m h k e = cc
 last-step (Some j) b m h k e = let z : suc j ≡ k = cc in let l = h j refl in omega arith
 
-last_place-below : (zs : List ℤ) (z : ℤ) (k : ℕ) → last_place zs z ≡ Some k → k < length zs
-last_place-below [] z k e = cc
-last_place-below (x ∷ xs) z k e = last-step (last_place xs z) (int_eq x z) (length xs) (last_place-below xs z) k e
+last_position-below : (zs : List ℤ) (z : ℤ) (k : ℕ) → last_position zs z ≡ Some k → k < length zs
+last_position-below [] z k e = cc
+last_position-below (x ∷ xs) z k e = last-step (last_position xs z) (int_eq x z) (length xs) (last_position-below xs z) k e
 
 last-there : (o : Option ℕ) (b : Bool) → b ≡ true → (k : ℕ) × (elim o as (λ _. Option ℕ) [ Some j ↦ Some (suc j) | None ↦ if b then Some 0 else None ] ≡ Some k)
 last-there None true h = (0, refl)
 last-there None false h = cc
 last-there (Some j) b h = (suc j, refl)
 
--- the field that a null slot picks is there, and it is the one that the type means
+-- The field of a null slot exists, and it is the field that the type id names.
 record MeansNull (ids : Option (List ℤ)) (m f : ℕ) : Type 0 where
   named : field_named ids (null_type ids) ≡ Some f
   there : f < m
-  chosen : null_field ids ≡ Some f
+  selected : null_field ids ≡ Some f
 
 means-null : (ids : Option (List ℤ)) (m : ℕ) → ids_count_differs ids m ≡ false → 0 < m → (f : ℕ) × MeansNull ids m f
-means-null None m h z = (0, record { named = refl; there = z; chosen = refl })
+means-null None m h z = (0, record { named = refl; there = z; selected = refl })
 means-null (Some []) m h z = absurd (let e = same-number 0 m (not-false (nat_eq 0 m) h) in omega arith)
 means-null (Some (x ∷ xs)) m h z =
     let e = same-number (length (x ∷ xs)) m (not-false (nat_eq (length (x ∷ xs)) m) h) in
-    let l = last-there (last_place xs x) (int_eq x x) ((Decides-int_eq x x).1 refl) in
-    let b = last_place-below (x ∷ xs) x l.0 l.1 in
-    (l.0, record { named = l.1; there = omega arith; chosen = l.1 })
+    let l = last-there (last_position xs x) (int_eq x x) ((Decides-int_eq x x).1 refl) in
+    let b = last_position-below (x ∷ xs) x l.0 l.1 in
+    (l.0, record { named = l.1; there = omega arith; selected = l.1 })
 
 has-field : (m n : ℕ) → (nat_eq m 0 && nat_lt 0 n) ≡ false → 0 < n → 0 < m
 has-field zero n h k = absurd (let l = not-above 0 n h in omega arith)
 has-field (suc m) n h k = omega arith
 
--- ids and offsets
+-- Type ids and offsets.
 id-names : (z : ℤ) → is_id z ≡ true → Names z type_count
 id-names (pos n) h = below n type_count h
 id-names (negsuc n) h = cc
@@ -314,8 +314,8 @@ offsets-mode : (mode : UnionMode) (n : ℕ) → OffsetsByMode (null_offsets mode
 offsets-mode modes.Dense n = refl
 offsets-mode modes.Sparse n = refl
 
-null-place : (mode : UnionMode) (n i : ℕ) → i < n → union_place (null_offsets mode n) 0 i ≡ i
-null-place modes.Dense n i h = ap place (offset-at n i h)
+null-place : (mode : UnionMode) (n i : ℕ) → i < n → union_index (null_offsets mode n) 0 i ≡ i
+null-place modes.Dense n i h = ap to_index (offset-at n i h)
 null-place modes.Sparse n i h = omega arith
 
 each-covers : (cs : Layouts) (n m : ℕ) → EachLen cs n → m ≤ n → EachCovers cs m
@@ -356,11 +356,11 @@ union-null fs ids mode n cs many count range some r =
       long = l;
       nulls = λ i j.
           let q = means-null ids (count_fields fs) count (has-field (count_fields fs) n some (omega arith)) in
-          ap (λ k. of_field (field_named ids k) (λ f. picked f cs f (union_place (null_offsets mode n) 0 i))) (get_or-replicate n i (null_type ids) (pos 0) j)
-          ∙ ap (λ o. of_field o (λ f. picked f cs f (union_place (null_offsets mode n) 0 i))) q.1.named
+          ap (λ k. of_field (field_named ids k) (λ f. picked f cs f (union_index (null_offsets mode n) 0 i))) (get_or-replicate n i (null_type ids) (pos 0) j)
+          ∙ ap (λ o. of_field o (λ f. picked f cs f (union_index (null_offsets mode n) 0 i))) q.1.named
           ∙ ap (picked q.0 cs q.0) (null-place mode n i j)
           ∙ r.picks q.0 q.0 i q.1.there j
-          ∙ ap (λ o. of_field o (λ f. null_pick f fs f)) (sym q.1.chosen);
+          ∙ ap (λ o. of_field o (λ f. null_pick f fs f)) (sym q.1.selected);
       parts = tt;
       fits = (
         refl,
@@ -396,7 +396,7 @@ union-null fs ids mode n cs many count range some r =
       children = r.arrays;
     }
 
--- the array of a type looked through: an extension's is the same but for its type
+-- The array of an extension type differs from that of its storage type only in its data type.
 with_type-own : (a : Layout) → with_type a (layout_type a) ≡ a
 with_type-own (null t n) = refl
 with_type-own a = refl
@@ -437,7 +437,7 @@ extension-null x t m n a r =
       children = extended-children a x t m (subst ChildrenFit (sym e) r.children);
     }
 
--- what lies below a list of a size, and below a dictionary, is filled as they are
+-- The children of a fixed-size list and of a dictionary have the same fill.
 pub fills-product : (d : Fill) (n s : ℕ) → Fills d n → Fills d (n * s)
 fills-product Nulls n s h = tt
 fills-product Nothing n s h = let e : 0 * s ≡ 0 = omega arith in ap (λ m. m * s) h ∙ e
@@ -463,7 +463,7 @@ more-null (field x t b es) fs n c cs r rs =
     more-picks x t b es fs n c cs r rs f (suc k) i j l = rs.picks f k i (omega arith) l
 
 mutual
-  pub null-array : (t : TypeTree) (n : ℕ) (d : Fill) → Fills d n → fault_of t n d ≡ None → IsNullArray t n (null_array t n d)
+  pub null-array : (t : TypeTree) (n : ℕ) (d : Fill) → Fills d n → error_of t n d ≡ None → IsNullArray t n (null_array t n d)
   null-array types.null n d p h = record { typed = refl; long = refl; nulls = λ i j. refl; parts = tt; fits = (refl, tt); children = tt }
   null-array types.boolean n d p h =
       let l = length-replicate n false in
@@ -504,10 +504,10 @@ mutual
   null-array (types.extension x t m) n d p h = extension-null x t m n (null_array t n d) (null-array t n d p h)
   null-array t n d p h = native-null _ t n d p refl refl
 
-  null-item : (f : FieldTree) (n : ℕ) (d : Fill) → Fills d n → field_fault f n d ≡ None → IsNullArray (field_type f) n (null_item f n d)
+  null-item : (f : FieldTree) (n : ℕ) (d : Fill) → Fills d n → field_error f n d ≡ None → IsNullArray (field_type f) n (null_item f n d)
   null-item (field x t b es) n d p h = null-array t n d p h
 
-  null-children : (fs : FieldTrees) (n : ℕ) (d : Fill) → Fills d n → fields_fault fs n d ≡ None → AreNullArrays fs n (null_children fs n d)
+  null-children : (fs : FieldTrees) (n : ℕ) (d : Fill) → Fills d n → fields_error fs n d ≡ None → AreNullArrays fs n (null_children fs n d)
   null-children no_fields n d p h =
       record {
         typed = tt;
@@ -518,14 +518,14 @@ mutual
         arrays = tt;
       }
   null-children (more_fields f fs) n d p h =
-      let e = first-none (field_fault f n d) (fields_fault fs n d) h in
+      let e = first-none (field_error f n d) (fields_error fs n d) h in
       more-null f fs n (null_item f n d) (null_children fs n d) (null-item f n d p e.0) (null-children fs n d p e.1)
 
--- an array of n null slots that fits, where the type and the length are not refused
-pub null-layout : (t : TypeTree) (n : ℕ) → type_fault t n ≡ None → IsNullArray t n (null_layout t n)
+-- If the data type and length have no error, `null_layout` is an array of n null slots.
+pub null-layout : (t : TypeTree) (n : ℕ) → type_error t n ≡ None → IsNullArray t n (null_layout t n)
 null-layout t n h = null-array t n Nulls tt h
 
-pub empty-layout : (t : TypeTree) → empty_fault t ≡ None → IsNullArray t 0 (empty_layout t)
+pub empty-layout : (t : TypeTree) → empty_error t ≡ None → IsNullArray t 0 (empty_layout t)
 empty-layout t h = null-array t 0 Nothing refl h
 
 run-nulls : (f : ℕ → Slot) (s : Slot) (o n : ℕ) → ((i : ℕ) → i < n → f (o + i) ≡ s) → run f o n ≡ replicate n s

@@ -1,4 +1,5 @@
--- The array of n null slots of a data type, and the empty one, part by part (of this project).
+-- The parts of the array of n null slots of a data type, and of the empty array.
+-- The definitions are this library's own.
 use Rattle.std.specs.Prelude.{ℕ, suc, ◌*◌, ℤ, pos, true, false, List, [], ◌∷◌, map, replicate, Option, Some, None}
 use Rattle.std.specs.List.{range_with_len}
 use Rattle.nest_memory.specs.declared.datatypes.IntegerType.{IntegerType}
@@ -20,14 +21,14 @@ use Rattle.nest_model.specs.Layout.{Layout, Layouts, no_layouts, more_layouts}
 use Rattle.nest_model.specs.Accessors.{with_type}
 use Rattle.nest_model.specs.Nulls.{values_below}
 
--- the native value of this kind whose whole numbers are zeros
+-- The native value of this primitive type whose integers are zeros.
 abbrev pub zero_value : PrimitiveType → List ℤ
 zero_value primitives.Int256 = pos 0 ∷ pos 0 ∷ []
 zero_value primitives.DaysMs = pos 0 ∷ pos 0 ∷ []
 zero_value primitives.MonthDayNano = pos 0 ∷ pos 0 ∷ pos 0 ∷ []
 zero_value k = pos 0 ∷ []
 
--- native values and data type of keys of this type
+-- The primitive type and the data type of keys of this key type.
 abbrev pub native_of_key : IntegerType → PrimitiveType
 native_of_key integers.Int8 = primitives.Int8
 native_of_key integers.Int16 = primitives.Int16
@@ -48,12 +49,12 @@ type_of_key integers.UInt16 = types.uint16
 type_of_key integers.UInt32 = types.uint32
 type_of_key integers.UInt64 = types.uint64
 
--- no place of n is valid; an empty array has no validity
+-- A validity without a set bit. An empty array has no validity.
 abbrev pub none_valid : Fill → ℕ → Validity
 none_valid Nulls n = Some (replicate n false)
 none_valid Nothing n = None
 
--- n nulls of a primitive type
+-- An array of n nulls of a primitive type.
 abbrev pub native_nulls : PrimitiveType → TypeTree → ℕ → Fill → Layout
 native_nulls k t n fill = layouts.primitive k t (replicate n (zero_value k)) (none_valid fill n)
 
@@ -62,24 +63,24 @@ flat_nulls physical.Boolean t n fill = layouts.boolean t (replicate n false) (no
 flat_nulls (physical.Primitive k) t n fill = native_nulls k t n fill
 flat_nulls p t n fill = layouts.null t n
 
--- the type of each slot of a union: its first id, without ids that of the first field
+-- The type id of each slot of a union: the first id, or that of field 0 if there are no ids.
 abbrev pub null_type : Option (List ℤ) → ℤ
 null_type None = pos 0
 null_type (Some []) = pos 0
 null_type (Some (z ∷ zs)) = z
 
--- a dense union's slots lie one after another
+-- The offsets of a dense union, which are consecutive.
 abbrev pub null_offsets : UnionMode → ℕ → Option (List ℤ)
 null_offsets modes.Dense n = Some (map (λ i. pos i) (range_with_len 0 n))
 null_offsets modes.Sparse n = None
 
--- n null slots. Below a list or a map lies an empty array.
+-- An array of n null slots. The child of a list or map is empty.
 abbrev mutual
   pub null_array : TypeTree → ℕ → Fill → Layout
   null_array types.binary n fill = layouts.binary false types.binary (replicate (suc n) 0) [] (none_valid fill n)
   null_array types.large_binary n fill = layouts.binary true types.large_binary (replicate (suc n) 0) [] (none_valid fill n)
-  null_array types.utf8 n fill = layouts.text false types.utf8 (replicate (suc n) 0) [] (none_valid fill n)
-  null_array types.large_utf8 n fill = layouts.text true types.large_utf8 (replicate (suc n) 0) [] (none_valid fill n)
+  null_array types.utf8 n fill = layouts.utf8 false types.utf8 (replicate (suc n) 0) [] (none_valid fill n)
+  null_array types.large_utf8 n fill = layouts.utf8 true types.large_utf8 (replicate (suc n) 0) [] (none_valid fill n)
   null_array (types.fixed_size_binary s) n fill = layouts.fixed_size_binary (types.fixed_size_binary s) (replicate (n * s) 0) (none_valid fill n)
   null_array (types.list f) n fill = layouts.list false (types.list f) (replicate (suc n) 0) (null_item f 0 Nothing) (none_valid fill n)
   null_array (types.large_list f) n fill = layouts.list true (types.large_list f) (replicate (suc n) 0) (null_item f 0 Nothing) (none_valid fill n)
@@ -98,7 +99,7 @@ abbrev mutual
   null_children no_fields n fill = no_layouts
   null_children (more_fields f fs) n fill = more_layouts (null_item f n fill) (null_children fs n fill)
 
--- the array of n null slots, and the empty array
+-- The array of n null slots, and the empty array.
 abbrev pub null_layout : TypeTree → ℕ → Layout
 null_layout t n = null_array t n Nulls
 

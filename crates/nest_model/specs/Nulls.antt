@@ -1,16 +1,17 @@
--- Null and empty arrays of a data type: their slots, and why a type and a length have none (of this project).
+-- Null and empty arrays of a data type: their slots, and the error if there is no such array.
+-- The definitions are this library's own.
 use Rattle.std.specs.Prelude.{◌≡◌, ℕ, zero, suc, ◌+◌, ◌*◌, ℤ, pos, negsuc, Bool, true, false, not, ◌&&◌, nat_eq, nat_lt, List, [], ◌∷◌, length, replicate, Option, Some, None}
 use Rattle.nest_memory.specs.TypeTree as types
 use Rattle.nest_memory.specs.TypeTree.{TypeTree, FieldTree, field, FieldTrees, no_fields, more_fields, field_type, count_fields, is_dense_mode, is_pair}
 use Rattle.nest_model.specs.declared.fill.Fill.{Fill}
 use Rattle.nest_model.specs.declared.fill.Fill.TheVariants.{Nulls, Nothing}
-use Rattle.nest_model.specs.Part.{last_place}
+use Rattle.nest_model.specs.Part.{last_position}
 use Rattle.nest_model.specs.Slot as slots
 use Rattle.nest_model.specs.Slot.{Slot}
 use Rattle.nest_model.specs.Meaning.{of_field}
 use Rattle.nest_model.specs.Checks.{refuse_if, first_of, is_past, most_fields, most_picks, type_count}
-use Rattle.nest_memory.specs.declared.error.Spec.TheVariants as spec
-use Rattle.nest_memory.specs.declared.error.Argument.TheVariants as argument
+use Rattle.nest_memory.specs.declared.error.SpecError.TheVariants as spec
+use Rattle.nest_memory.specs.declared.error.ArgumentError.TheVariants as argument
 use Rattle.nest_memory.specs.declared.error.Error.{Error}
 use Rattle.nest_memory.specs.declared.error.Error.TheVariants.{OutOfSpec, InvalidArgumentError, Overflow, NotYetImplemented}
 use Rattle.nest_memory.specs.declared.datatypes.physical_type.PhysicalType.{PhysicalType}
@@ -18,20 +19,20 @@ use Rattle.nest_memory.specs.declared.datatypes.physical_type.PhysicalType.TheVa
 use Rattle.nest_memory.specs.declared.datatypes.physical_type.PrimitiveType.TheVariants as primitives
 use Rattle.nest_memory.specs.declared.datatypes.UnionMode.{UnionMode}
 
--- the field that a null slot of a union picks: the one that the first id names, without ids the first
+-- The field of a union's null slot: the one that the first id names, or field 0 if there are no ids.
 abbrev pub null_field : Option (List ℤ) → Option ℕ
 null_field None = Some 0
 null_field (Some []) = None
-null_field (Some (z ∷ zs)) = last_place (z ∷ zs) z
+null_field (Some (z ∷ zs)) = last_position (z ∷ zs) z
 
--- a null slot: of a union the pick of one field and of a null slot of it, else Null
+-- A null slot. For a union it is the pick of a null slot of one field, otherwise `Null`.
 abbrev mutual
   pub null_slot : TypeTree → Slot
   null_slot (types.union fs ids mode) = of_field (null_field ids) (λ f. null_pick f fs f)
   null_slot (types.extension n t m) = null_slot t
   null_slot t = slots.null
 
-  -- the null pick of field f, which is field k of these
+  -- The pick of a null slot of field f, which is field k of these fields.
   pub null_pick : ℕ → FieldTrees → ℕ → Slot
   null_pick f no_fields k = slots.null
   null_pick f (more_fields g fs) zero = null_of f g
@@ -43,7 +44,8 @@ abbrev mutual
 abbrev pub null_slots : TypeTree → ℕ → List Slot
 null_slots t n = replicate n (null_slot t)
 
--- Union Layout: an id is a type; each of them is; there aren't as many as fields; one of them is no type
+-- Union Layout: whether an integer is a type id, whether all are, whether their number differs from that of the fields,
+-- and whether one is not a type id.
 abbrev pub is_id : ℤ → Bool
 is_id (pos n) = nat_lt n type_count
 is_id (negsuc n) = false
@@ -60,16 +62,16 @@ abbrev pub has_bad_id : Option (List ℤ) → Bool
 has_bad_id None = false
 has_bad_id (Some ids) = not (are_ids ids)
 
--- of native values: floats have no array of nulls
-abbrev pub float_fault : PhysicalType → Option Error
-float_fault (physical.Primitive primitives.Float16) = Some NotYetImplemented
-float_fault (physical.Primitive primitives.Float32) = Some NotYetImplemented
-float_fault (physical.Primitive primitives.Float64) = Some NotYetImplemented
-float_fault p = None
+-- The error of native values: null arrays of floats are not supported.
+abbrev pub float_error : PhysicalType → Option Error
+float_error (physical.Primitive primitives.Float16) = Some NotYetImplemented
+float_error (physical.Primitive primitives.Float32) = Some NotYetImplemented
+float_error (physical.Primitive primitives.Float64) = Some NotYetImplemented
+float_error p = None
 
--- the first fault of a union of so many fields and n null slots: its own, then the rest, that of its fields
-abbrev pub union_fault : ℕ → Option (List ℤ) → UnionMode → ℕ → Option Error → Option Error
-union_fault count ids mode n rest =
+-- The first error of a union of n null slots: its own, otherwise `rest`, which is that of its fields.
+abbrev pub union_error : ℕ → Option (List ℤ) → UnionMode → ℕ → Option Error → Option Error
+union_error count ids mode n rest =
     refuse_if (nat_lt most_fields count) (OutOfSpec spec.TooManyFields)
     (refuse_if (ids_count_differs ids count) (OutOfSpec spec.IdCount)
     (refuse_if (has_bad_id ids) (OutOfSpec spec.IdRange)
@@ -77,48 +79,48 @@ union_fault count ids mode n rest =
     (refuse_if (is_dense_mode mode && nat_lt most_picks n) Overflow
     rest))))
 
--- the values below a dictionary: one null in an array of nulls, none in an empty one
+-- The number of values of a dictionary: one null value in a null array, none in an empty one.
 abbrev pub values_below : Fill → ℕ
 values_below Nulls = 1
 values_below Nothing = 0
 
--- an array of so many slots is filled so: one of nothing has no slot
+-- An array of n slots can have this fill: `Nothing` requires that n is 0.
 abbrev pub Fills : Fill → ℕ → Type 0
 Fills Nulls n = Unit {0}
 Fills Nothing n = n ≡ 0
 
--- The first fault of an array of n null slots, in the order node, product, children from the left.
--- Below a list or a map lies an empty array.
+-- The first error of an array of n null slots. The data type is checked first, then the product of length and size,
+-- then the children from left to right. The child of a list or map is empty.
 abbrev mutual
-  pub fault_of : TypeTree → ℕ → Fill → Option Error
-  fault_of types.float16 n fill = Some NotYetImplemented
-  fault_of types.float32 n fill = Some NotYetImplemented
-  fault_of types.float64 n fill = Some NotYetImplemented
-  fault_of types.binary n fill = refuse_if (is_past (n + 1)) Overflow None
-  fault_of types.large_binary n fill = refuse_if (is_past (n + 1)) Overflow None
-  fault_of types.utf8 n fill = refuse_if (is_past (n + 1)) Overflow None
-  fault_of types.large_utf8 n fill = refuse_if (is_past (n + 1)) Overflow None
-  fault_of (types.fixed_size_binary s) n fill = refuse_if (nat_eq s 0) (OutOfSpec spec.ZeroSize) (refuse_if (is_past (n * s)) Overflow None)
-  fault_of (types.list f) n fill = refuse_if (is_past (n + 1)) Overflow (field_fault f 0 Nothing)
-  fault_of (types.large_list f) n fill = refuse_if (is_past (n + 1)) Overflow (field_fault f 0 Nothing)
-  fault_of (types.fixed_size_list f s) n fill = refuse_if (nat_eq s 0) (OutOfSpec spec.ZeroSize) (refuse_if (is_past (n * s)) Overflow (field_fault f (n * s) fill))
-  fault_of (types.map f b) n fill = refuse_if (not (is_pair (field_type f))) (InvalidArgumentError argument.MapInner) (refuse_if (is_past (n + 1)) Overflow (field_fault f 0 Nothing))
-  fault_of (types.struct fs) n fill = refuse_if (nat_eq (count_fields fs) 0) (OutOfSpec spec.NoFields) (fields_fault fs n fill)
-  fault_of (types.union fs ids mode) n fill = union_fault (count_fields fs) ids mode n (fields_fault fs n fill)
-  fault_of (types.dictionary k t b) n fill = fault_of t (values_below fill) fill
-  fault_of (types.extension x t m) n fill = fault_of t n fill
-  fault_of t n fill = None
+  pub error_of : TypeTree → ℕ → Fill → Option Error
+  error_of types.float16 n fill = Some NotYetImplemented
+  error_of types.float32 n fill = Some NotYetImplemented
+  error_of types.float64 n fill = Some NotYetImplemented
+  error_of types.binary n fill = refuse_if (is_past (n + 1)) Overflow None
+  error_of types.large_binary n fill = refuse_if (is_past (n + 1)) Overflow None
+  error_of types.utf8 n fill = refuse_if (is_past (n + 1)) Overflow None
+  error_of types.large_utf8 n fill = refuse_if (is_past (n + 1)) Overflow None
+  error_of (types.fixed_size_binary s) n fill = refuse_if (nat_eq s 0) (OutOfSpec spec.ZeroSize) (refuse_if (is_past (n * s)) Overflow None)
+  error_of (types.list f) n fill = refuse_if (is_past (n + 1)) Overflow (field_error f 0 Nothing)
+  error_of (types.large_list f) n fill = refuse_if (is_past (n + 1)) Overflow (field_error f 0 Nothing)
+  error_of (types.fixed_size_list f s) n fill = refuse_if (nat_eq s 0) (OutOfSpec spec.ZeroSize) (refuse_if (is_past (n * s)) Overflow (field_error f (n * s) fill))
+  error_of (types.map f b) n fill = refuse_if (not (is_pair (field_type f))) (InvalidArgumentError argument.MapInner) (refuse_if (is_past (n + 1)) Overflow (field_error f 0 Nothing))
+  error_of (types.struct fs) n fill = refuse_if (nat_eq (count_fields fs) 0) (OutOfSpec spec.NoFields) (fields_error fs n fill)
+  error_of (types.union fs ids mode) n fill = union_error (count_fields fs) ids mode n (fields_error fs n fill)
+  error_of (types.dictionary k t b) n fill = error_of t (values_below fill) fill
+  error_of (types.extension x t m) n fill = error_of t n fill
+  error_of t n fill = None
 
-  pub field_fault : FieldTree → ℕ → Fill → Option Error
-  field_fault (field x t b es) n fill = fault_of t n fill
+  pub field_error : FieldTree → ℕ → Fill → Option Error
+  field_error (field x t b es) n fill = error_of t n fill
 
-  pub fields_fault : FieldTrees → ℕ → Fill → Option Error
-  fields_fault no_fields n fill = None
-  fields_fault (more_fields f fs) n fill = first_of (field_fault f n fill) (fields_fault fs n fill)
+  pub fields_error : FieldTrees → ℕ → Fill → Option Error
+  fields_error no_fields n fill = None
+  fields_error (more_fields f fs) n fill = first_of (field_error f n fill) (fields_error fs n fill)
 
--- the first fault of an array of n null slots, and of an empty one
-abbrev pub type_fault : TypeTree → ℕ → Option Error
-type_fault t n = fault_of t n Nulls
+-- The first error of an array of n null slots, and of an empty array.
+abbrev pub type_error : TypeTree → ℕ → Option Error
+type_error t n = error_of t n Nulls
 
-abbrev pub empty_fault : TypeTree → Option Error
-empty_fault t = fault_of t 0 Nothing
+abbrev pub empty_error : TypeTree → Option Error
+empty_error t = error_of t 0 Nothing

@@ -1,16 +1,16 @@
--- The slots of each kind in the reader's words: cuts and places of the children's lists of slots.
+-- The slots of each kind in terms of the children's lists of slots: sublists and indices of them.
 use Rattle.std.specs.Prelude.{Option, Some, None, if◌then◌else◌}
 use Rattle.std.proofs.Common.{◌≡◌, ℕ, zero, suc, ◌+◌, ◌-◌, ◌*◌, ◌<◌, ◌≤◌, ℤ, pos, negsuc, Bool, true, false, List, length, get_or, refl, ap, sym, ◌∙◌, arith}
 use Rattle.std.proofs.lemmas.List.Elements.{All-get_or}
 use Rattle.nest_memory.specs.TypeTree.{TypeTree, size_of, ids_of}
-use Rattle.nest_memory.specs.Cut.{cut}
+use Rattle.nest_memory.specs.Sublist.{sublist}
 use Rattle.nest_memory.specs.Rising.{last_of}
-use Rattle.nest_model.specs.Part.{Validity, valid_at, count_rows, begin, extent, place, field_named}
+use Rattle.nest_model.specs.Part.{Validity, valid_at, count_rows, begin, extent, to_index, field_named}
 use Rattle.nest_model.specs.Layout.{Layout, Layouts, fixed_size_list, list, map, struct, union, dictionary, no_layouts, more_layouts, layout_type, count_layouts}
 use Rattle.nest_model.specs.Slot as slots
 use Rattle.nest_model.specs.Slot.{Slot, seal}
 use Rattle.nest_model.specs.Accessors.{validity_of, child_at, key_at}
-use Rattle.nest_model.specs.Meaning.{run, len, first_len, union_place, slot, each, of_field, picked, slots_of, fields_at, where_valid, IsPick}
+use Rattle.nest_model.specs.Meaning.{run, len, first_len, union_index, slot, each, of_field, picked, slots_of, fields_at, where_valid, IsPick}
 use Rattle.nest_model.specs.Runs.{product-fits, cut-run, length-run, get_or-run}
 use Rattle.nest_model.specs.Fits.{EachLen, EachCovers, Names, MeansField, SlotsThere, child_len}
 use Rattle.nest_model.specs.Array.{AreOffsets, TopFits}
@@ -18,11 +18,11 @@ use Rattle.nest_model.specs.Array.{AreOffsets, TopFits}
 pub slots-length : (a : Layout) → length (slots_of a) ≡ len a
 slots-length a = length-run (slot a) 0 (len a)
 
--- the list of slots has at each place the slot there
+-- The item of the list of slots at an index is the slot at that index.
 pub slot-place : (a : Layout) (i : ℕ) (d : Slot) → i < len a → get_or (slots_of a) i d ≡ slot a i
 slot-place a i d h = get_or-run (slot a) 0 (len a) i d h ∙ ap (slot a) (let e : 0 + i ≡ i = omega arith in e)
 
-pub items-cut : (c : Layout) (o n : ℕ) → o + n ≤ len c → run (slot c) o n ≡ cut (slots_of c) o n
+pub items-cut : (c : Layout) (o n : ℕ) → o + n ≤ len c → run (slot c) o n ≡ sublist (slots_of c) o n
 items-cut c o n h = ap (λ q. run (slot c) q n) (let e : o ≡ 0 + o = omega arith in e) ∙ sym (cut-run (slot c) 0 (len c) o n h)
 
 pub extent-fits : (os : List ℕ) (m i : ℕ) → AreOffsets os → last_of os ≤ m → i < count_rows os → begin os i + extent os i ≤ m
@@ -32,15 +32,15 @@ extent-fits os m i h l k =
     omega arith
 
 pub list-slot : (l : Bool) (t : TypeTree) (os : List ℕ) (c : Layout) (va : Validity) (i : ℕ) → TopFits (list l t os c va) → i < count_rows os
-    → slot (list l t os c va) i ≡ where_valid va i (slots.list (seal (cut (slots_of c) (begin os i) (extent os i))))
+    → slot (list l t os c va) i ≡ where_valid va i (slots.list (seal (sublist (slots_of c) (begin os i) (extent os i))))
 list-slot l t os c va i h k = ap (λ ss. where_valid va i (slots.list (seal ss))) (items-cut c (begin os i) (extent os i) (extent-fits os (len c) i h.0 h.1.0 k))
 
 pub map-slot : (t : TypeTree) (os : List ℕ) (c : Layout) (va : Validity) (i : ℕ) → TopFits (map t os c va) → i < count_rows os
-    → slot (map t os c va) i ≡ where_valid va i (slots.list (seal (cut (slots_of c) (begin os i) (extent os i))))
+    → slot (map t os c va) i ≡ where_valid va i (slots.list (seal (sublist (slots_of c) (begin os i) (extent os i))))
 map-slot t os c va i h k = ap (λ ss. where_valid va i (slots.list (seal ss))) (items-cut c (begin os i) (extent os i) (extent-fits os (len c) i h.0 h.1.0 k))
 
 pub fixed_size_list-slot : (t : TypeTree) (c : Layout) (va : Validity) (i : ℕ) → i < len (fixed_size_list t c va)
-    → slot (fixed_size_list t c va) i ≡ where_valid va i (slots.list (seal (cut (slots_of c) (i * size_of t) (size_of t))))
+    → slot (fixed_size_list t c va) i ≡ where_valid va i (slots.list (seal (sublist (slots_of c) (i * size_of t) (size_of t))))
 fixed_size_list-slot t c va i k =
     let p = product-fits i 1 (len c) (size_of t) (omega arith) in
     let e : 1 * size_of t ≡ size_of t = omega arith in
@@ -57,11 +57,11 @@ pub struct-slot : (t : TypeTree) (cs : Layouts) (va : Validity) (i : ℕ) → To
     → slot (struct t cs va) i ≡ where_valid va i (slots.record_of (fields_at cs i))
 struct-slot t cs va i h k = ap (λ ss. where_valid va i (slots.record_of ss)) (each-row cs (first_len cs) i h.1.1.1.1.1.0 k)
 
-names-place : (z : ℤ) (n : ℕ) → Names z n → place z < n
+names-place : (z : ℤ) (n : ℕ) → Names z n → to_index z < n
 names-place (pos k) n h = h
 names-place (negsuc k) n h = absurd h
 
--- a union's slot is the pick of a field that its type means, and of that field's slot
+-- A union's slot is the pick of the field that its type id names, with the slot of that field's child.
 pick-child : (f : ℕ) (cs : Layouts) (k i : ℕ) → k < count_layouts cs → i < len (child_at cs k)
     → picked f cs k i ≡ slots.pick f (layout_type (child_at cs k)) (get_or (slots_of (child_at cs k)) i slots.null)
 pick-child f no_layouts k i h l = absurd (omega arith)
@@ -79,7 +79,7 @@ child_len-child (more_layouts c cs) zero k = refl
 child_len-child (more_layouts c cs) (suc f) k = child_len-child cs f (omega arith)
 
 there-place : (ids : Option (List ℤ)) (ks : List ℤ) (cs : Layouts) (os : Option (List ℤ)) (start i f : ℕ) → SlotsThere ids ks cs os start → i < length ks
-    → field_named ids (get_or ks i (pos 0)) ≡ Some f → f < count_layouts cs → union_place os start i < len (child_at cs f)
+    → field_named ids (get_or ks i (pos 0)) ≡ Some f → f < count_layouts cs → union_index os start i < len (child_at cs f)
 there-place ids ks cs None start i f h k e g = let a = covers-child cs (start + length ks) f h g in omega arith
 there-place ids ks cs (Some os) start i f h k e g =
     let a = names-place (get_or os i (pos 0)) (child_len cs (field_named ids (get_or ks i (pos 0)))) (h i k) in
@@ -102,7 +102,7 @@ union-slot t ks cs os start i h k =
         means = m.1;
         field_there = m.2;
         slot_there = p;
-        picks = ap (λ o. of_field o (λ f. picked f cs f (union_place os start i))) m.1 ∙ pick-child m.0 cs m.0 (union_place os start i) m.2 p;
+        picks = ap (λ o. of_field o (λ f. picked f cs f (union_index os start i))) m.1 ∙ pick-child m.0 cs m.0 (union_index os start i) m.2 p;
       },
     )
 
@@ -111,7 +111,7 @@ where-valid true x y z h = h refl
 where-valid false x y z h = refl
 
 pub dictionary-slot : (t : TypeTree) (ks c : Layout) (i : ℕ) → TopFits (dictionary t ks c) → i < len ks
-    → slot (dictionary t ks c) i ≡ where_valid (validity_of ks) i (get_or (slots_of c) (place (key_at ks i)) slots.null)
+    → slot (dictionary t ks c) i ≡ where_valid (validity_of ks) i (get_or (slots_of c) (to_index (key_at ks i)) slots.null)
 dictionary-slot t ks c i h k =
-    where-valid (valid_at (validity_of ks) i) (slot c (place (key_at ks i))) (get_or (slots_of c) (place (key_at ks i)) slots.null) slots.null
-    (λ v. sym (slot-place c (place (key_at ks i)) slots.null (names-place (key_at ks i) (len c) (h.1.1.1.1 i k v))))
+    where-valid (valid_at (validity_of ks) i) (slot c (to_index (key_at ks i))) (get_or (slots_of c) (to_index (key_at ks i)) slots.null) slots.null
+    (λ v. sym (slot-place c (to_index (key_at ks i)) slots.null (names-place (key_at ks i) (len c) (h.1.1.1.1 i k v))))

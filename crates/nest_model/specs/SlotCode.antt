@@ -1,4 +1,5 @@
--- Slots told apart: a code of slots, and tests whether two slots, and two lists of slots, are equal (of this project).
+-- An encoding of slots as trees, and tests of equality of slots and of lists of slots.
+-- The definitions are this library's own.
 use Rattle.std.specs.Prelude.{◌≡◌, ℕ, ℤ, Bool, true, false, ◌&&◌, List, [], ◌∷◌}
 use Rattle.std.specs.Bool.{Decides}
 use Rattle.std.specs.Cmp.{IsEquivalence, decided, first_so, second_so}
@@ -9,7 +10,7 @@ use base.Stored.{Gv, gnil, gnum, gcons}
 use Rattle.nest_memory.specs.TypeCode.{coded_type, head, tail, tag}
 use Rattle.nest_memory.specs.TypeEq.{same_code}
 use Rattle.nest_model.specs.Decide.{apart}
-use Rattle.nest_model.specs.Slot.{Slot, Slots, null, truth, number, text, bytes, list, record_of, pick, no_slots, more_slots}
+use Rattle.nest_model.specs.Slot.{Slot, Slots, null, boolean, number, utf8, bytes, list, record_of, pick, no_slots, more_slots}
 
 abbrev letters : Coded (List ℕ)
 letters = coded_list coded_ℕ
@@ -20,9 +21,9 @@ whole = coded_list coded_ℤ
 abbrev mutual
   pub code_slot : Slot → Gv
   code_slot null = gcons (gnum 0) gnil
-  code_slot (truth b) = gcons (gnum 1) (coded_bool.code b)
+  code_slot (boolean b) = gcons (gnum 1) (coded_bool.code b)
   code_slot (number zs) = gcons (gnum 2) (whole.code zs)
-  code_slot (text t) = gcons (gnum 3) (letters.code t)
+  code_slot (utf8 t) = gcons (gnum 3) (letters.code t)
   code_slot (bytes b) = gcons (gnum 4) (letters.code b)
   code_slot (list ss) = gcons (gnum 5) (code_slots ss)
   code_slot (record_of ss) = gcons (gnum 6) (code_slots ss)
@@ -35,9 +36,9 @@ abbrev mutual
 mutual
   pub slot_one : (x y : Slot) → code_slot x ≡ code_slot y → x ≡ y
   slot_one null null h = refl
-  slot_one (truth b) (truth c) h = ap truth (coded_bool.inj b c (ap tail h))
+  slot_one (boolean b) (boolean c) h = ap boolean (coded_bool.inj b c (ap tail h))
   slot_one (number zs) (number ys) h = ap number (whole.inj zs ys (ap tail h))
-  slot_one (text t) (text u) h = ap text (letters.inj t u (ap tail h))
+  slot_one (utf8 t) (utf8 u) h = ap utf8 (letters.inj t u (ap tail h))
   slot_one (bytes b) (bytes c) h = ap bytes (letters.inj b c (ap tail h))
   slot_one (list ss) (list rs) h = ap list (slots_one ss rs (ap tail h))
   slot_one (record_of ss) (record_of rs) h = ap record_of (slots_one ss rs (ap tail h))
@@ -79,18 +80,18 @@ code_own gnil = refl
 code_own (gnum n) = (Decides-eqb n n).1 refl
 code_own (gcons a b) = let p = code_own a in let q = code_own b in λ i. p i && q i
 
--- whether two values have one code
+-- Whether two values have the same encoding.
 abbrev pub same_by : {A : Type 0} → Coded A → A → A → Bool
 same_by c x y = same_code (c.code x) (c.code y)
 
 pub same_by-decides : {A : Type 0} (c : Coded A) (x y : A) → Decides (same_by c x y) (x ≡ y)
 same_by-decides {A} c x y = (λ h. c.inj x y (code_found (c.code x) (c.code y) h), λ e. subst (λ (z : A). same_by c x z ≡ true) e (code_own (c.code x)))
 
--- whether two slots are equal
+-- Whether two slots are equal.
 abbrev pub same_slot : Slot → Slot → Bool
 same_slot = same_by coded_slot
 
--- whether two lists of slots are equal
+-- Whether two lists of slots are equal.
 abbrev pub same_slots : List Slot → List Slot → Bool
 same_slots [] [] = true
 same_slots (s ∷ ss) (r ∷ rs) = same_slot s r && same_slots ss rs

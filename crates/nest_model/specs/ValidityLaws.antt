@@ -1,17 +1,17 @@
--- The same array under a new validity, and which places of an array are null.
+-- Laws: an array with a new validity, and the null indices of an array.
 use Rattle.std.specs.Prelude.{true, false, if◌then◌else◌}
 use Rattle.std.proofs.Common.{◌≡◌, ℕ, Bool, refl, ap, sym, ◌∙◌, subst, arith}
-use Rattle.nest_model.specs.Part.{Validity, valid_at, place}
+use Rattle.nest_model.specs.Part.{Validity, valid_at, to_index}
 use Rattle.nest_model.specs.Slot as slots
 use Rattle.nest_model.specs.Slot.{Slot}
-use Rattle.nest_model.specs.Layout.{Layout, null, boolean, primitive, binary, text, fixed_size_binary, fixed_size_list, list, map as map_of, struct, union, dictionary, layout_type}
+use Rattle.nest_model.specs.Layout.{Layout, null, boolean, primitive, binary, utf8, fixed_size_binary, fixed_size_list, list, map as map_of, struct, union, dictionary, layout_type}
 use Rattle.nest_model.specs.Accessors.{validity_of, with_validity, key_at, key_type_of}
 use Rattle.nest_model.specs.Meaning.{len, slot}
 use Rattle.nest_model.specs.Checks.{Pass}
 use Rattle.nest_model.specs.Fits.{Names, EachValidNames, ValidityFits, validity_checks}
 use Rattle.nest_model.specs.Array.{AreKeys, PartsHold, TopFits, ChildrenFit, IsArray}
 
--- it keeps its length, its data type, its keys' values
+-- The length, the data type and the values of a dictionary's keys are unchanged.
 pub len-with_validity : (a : Layout) (va : Validity) → len (with_validity a va) ≡ len a
 len-with_validity (dictionary t ks c) va = len-with_validity ks va
 len-with_validity a va = refl
@@ -28,7 +28,7 @@ key_type-with_validity : (a : Layout) (va : Validity) → key_type_of (with_vali
 key_type-with_validity (primitive k t vs old) va = refl
 key_type-with_validity a va = refl
 
--- its validity is the new one
+-- The array has the new validity.
 keys-validity : (ks : Layout) (va : Validity) → AreKeys ks → validity_of (with_validity ks va) ≡ va
 keys-validity (primitive k t vs old) va h = refl
 keys-validity ks va h = absurd h
@@ -48,13 +48,13 @@ names-revalidated ks va n h f i j v =
     let l = len-with_validity ks va in
     subst (λ z. Names z n) (sym (key_at-with_validity ks va i)) (f i (omega arith) (ap (λ w. valid_at w i) (sym (keys-validity ks va h)) ∙ v))
 
--- under a validity that is taken it is an array
+-- An array with a validity that passes the checks is an array.
 pub taken-fits : (a : Layout) (va : Validity) → TopFits a → Pass (validity_checks a va) → TopFits (with_validity a va)
 taken-fits (null t n) va h p = absurd p.0
 taken-fits (boolean t bs old) va h p = (tt, (p.0, h.1.1))
 taken-fits (primitive k t vs old) va h p = (tt, (p.0, h.1.1))
 taken-fits (binary l t os bs old) va h p = let f = h.1 in (h.0, (f.0, (p.0, f.1.1)))
-taken-fits (text l t os bs old) va h p = let f = h.1 in (h.0, (f.0, (f.1.0, (p.0, f.1.1.1))))
+taken-fits (utf8 l t os bs old) va h p = let f = h.1 in (h.0, (f.0, (f.1.0, (p.0, f.1.1.1))))
 taken-fits (fixed_size_binary t bs old) va h p = let f = h.1 in (tt, (f.0, (f.1.0, (f.1.1.0, (p.0, tt)))))
 taken-fits (fixed_size_list t c old) va h p = let f = h.1 in (tt, (f.0, (f.1.0, (f.1.1.0, (f.1.1.1.0, (p.0, tt))))))
 taken-fits (list l t os c old) va h p = let f = h.1 in (h.0, (f.0, (p.0, f.1.1)))
@@ -74,7 +74,7 @@ children-revalidated a va h = h
 pub taken-array : (a : Layout) (va : Validity) → IsArray a → Pass (validity_checks a va) → IsArray (with_validity a va)
 taken-array a va h p = (taken-fits a va h.0 p, children-revalidated a va h.1)
 
--- each slot is null where the new validity says so, and stays where both say that it is valid
+-- A slot is `Null` where the new validity bit is unset. It is unchanged where the old and new bits are set.
 by-bit : (b : Bool) (s r : Slot) → b ≡ false → (if b then s else r) ≡ r
 by-bit true s r h = cc
 by-bit false s r h = refl
@@ -96,5 +96,5 @@ slot-with_validity (union t ks cs os start) va i h p e f = refl
 slot-with_validity (dictionary t ks c) va i h p e f =
     let k = key_at-with_validity ks va i in
     let w = ap (λ v. valid_at v i) (keys-validity ks va h) ∙ e in
-    by-bits (valid_at (validity_of (with_validity ks va)) i) (valid_at (validity_of ks) i) _ slots.null w f ∙ ap (λ z. if valid_at (validity_of ks) i then slot c (place z) else slots.null) k
+    by-bits (valid_at (validity_of (with_validity ks va)) i) (valid_at (validity_of ks) i) _ slots.null w f ∙ ap (λ z. if valid_at (validity_of ks) i then slot c (to_index z) else slots.null) k
 slot-with_validity a va i h p e f = by-bits (valid_at va i) (valid_at (validity_of a) i) _ slots.null e f

@@ -1,10 +1,10 @@
-//! What an array without a value is filled with.
+//! The fill of an array without values.
 
-/// What the slots of an array without a value are.
+/// The slots of an array without values.
 #[derive(Clone, Copy)]
 pub enum Fill {
-    /// Nulls, as many as are asked for, and below a dictionary one null value.
+    /// Null slots. A dictionary has one null value.
     Nulls,
-    /// Nothing: there is no slot, and below a dictionary no value.
+    /// No slots. A dictionary has no values.
     Nothing,
 }

@@ -1,4 +1,4 @@
--- The children of an array of records have its length.
+-- The children of a struct array have its length.
 use Rattle.std.proofs.Common.{◌≡◌, ℕ, ◌≤◌, sym, ap, subst, arith}
 use Rattle.nest_model.specs.Accessors.{children_of, validity_of}
 use Rattle.nest_model.specs.Array.{TopFits}

@@ -1,4 +1,4 @@
--- What contracts of this crate cite.
+-- Definitions that the contracts of this crate use.
 pub mod Examples
 pub mod Items
-pub mod Places
+pub mod Elements

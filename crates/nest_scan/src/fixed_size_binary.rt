@@ -1,19 +1,19 @@
-//! The byte strings of one size of an array, from both ends. They take no memory.
+//! Iterators over fixed-size binary arrays, without allocation.
 ghost use Rattle.std.specs.Prelude.{◌≡◌};
-ghost use Rattle.nest_scan.specs.Places.{all_places};
+ghost use Rattle.nest_scan.specs.Elements.{all_elements};
 
-use crate::places::{BothEnds, Places, PlacesIter};
+use crate::elements::{DoubleEnded, Elements, ElementsIter};
 use crate::scan::{Scan, ScanValues};
 use nest_array::FixedSizeBinaryArray;
 use std::alloc::Global;
 
-/// The bytes of each slot, which mean nothing where it is null.
-pub type FixedSizeBinaryValuesIter<'a> = PlacesIter<&'a FixedSizeBinaryArray>;
+/// An iterator over the bytes of each slot, which have no meaning under a null.
+pub type FixedSizeBinaryValuesIter<'a> = ElementsIter<&'a FixedSizeBinaryArray>;
 
-/// The bytes of each slot, `None` where it is null.
-pub type FixedSizeBinaryIter<'a> = PlacesIter<BytesOrNull<'a>>;
+/// An iterator over the bytes of each slot, `None` for a null.
+pub type FixedSizeBinaryIter<'a> = ElementsIter<BytesOrNull<'a>>;
 
-impl<'a> Places for &'a FixedSizeBinaryArray {
+impl<'a> Elements for &'a FixedSizeBinaryArray {
     type Item = &'a [u8];
 
     ghost array = { λ s. s.now };
@@ -31,19 +31,19 @@ impl<'a> Places for &'a FixedSizeBinaryArray {
     }
 }
 
-impl<'a> BothEnds for &'a FixedSizeBinaryArray {}
+impl<'a> DoubleEnded for &'a FixedSizeBinaryArray {}
 
-/// The bytes of an array's slots, `None` where one is null.
+/// The bytes of the slots of an array, `None` for a null.
 #[derive(Clone, Copy)]
 pub struct BytesOrNull<'a>(pub &'a FixedSizeBinaryArray);
 
-impl<'a> Places for BytesOrNull<'a> {
+impl<'a> Elements for BytesOrNull<'a> {
     type Item = Option<&'a [u8]>;
 
     ghost array = { λ s. s.0.now };
 
     ghost use Rattle.nest_scan.specs.Items.{IsBytes};
-    ghost use Rattle.nest_scan.specs.Places.{IsItemOrNull};
+    ghost use Rattle.nest_scan.specs.Elements.{IsItemOrNull};
 
     ghost IsItem = { IsItemOrNull (λ a i x. IsBytes a i x.now) };
 
@@ -59,26 +59,26 @@ impl<'a> Places for BytesOrNull<'a> {
     }
 }
 
-impl<'a> BothEnds for BytesOrNull<'a> {}
+impl<'a> DoubleEnded for BytesOrNull<'a> {}
 
 impl<'a> Scan for &'a FixedSizeBinaryArray {
     type Iter = FixedSizeBinaryIter<'a>;
 
-    ghost Scans = { λ a it. it ≡ all_places a.now };
+    ghost Scans = { λ a it. it ≡ all_elements a.now };
 
     fn iter(self, alloc: Global) -> FixedSizeBinaryIter<'a> {
         let _ = alloc;
-        PlacesIter::of(BytesOrNull(self))
+        ElementsIter::of(BytesOrNull(self))
     }
 }
 
 impl<'a> ScanValues for &'a FixedSizeBinaryArray {
     type ValuesIter = FixedSizeBinaryValuesIter<'a>;
 
-    ghost ScansValues = { λ a it. it ≡ all_places a.now };
+    ghost ScansValues = { λ a it. it ≡ all_elements a.now };
 
     fn values_iter(self, alloc: Global) -> FixedSizeBinaryValuesIter<'a> {
         let _ = alloc;
-        PlacesIter::of(self)
+        ElementsIter::of(self)
     }
 }

@@ -1,17 +1,17 @@
-//! The lists of one size of an array, from both ends.
-use crate::places::{BothEnds, PlacesIter};
-use crate::tried::{NullPlaces, OrNull, Tried, TryPlaces};
+//! Iterators over fixed-size list arrays.
+use crate::elements::{DoubleEnded, ElementsIter};
+use crate::tried::{NullableElements, OptionalItems, Tried, TryElements};
 use nest_array::{AnyArray, FixedSizeListArray};
 use nest_memory::error::Error;
 use std::alloc::Global;
 
-/// The items of each list, also under a null: arrow2's `FixedSizeListValuesIter`.
-pub type FixedSizeListValuesIter<'a> = PlacesIter<Tried<&'a FixedSizeListArray>>;
+/// An iterator over the items of each slot, also under a null: arrow2's `FixedSizeListValuesIter`.
+pub type FixedSizeListValuesIter<'a> = ElementsIter<Tried<&'a FixedSizeListArray>>;
 
-/// The items of each list, `None` where it is null.
-pub type FixedSizeListIter<'a> = PlacesIter<Tried<OrNull<&'a FixedSizeListArray>>>;
+/// An iterator over the items of each slot, `None` for a null.
+pub type FixedSizeListIter<'a> = ElementsIter<Tried<OptionalItems<&'a FixedSizeListArray>>>;
 
-impl<'a> TryPlaces for &'a FixedSizeListArray {
+impl<'a> TryElements for &'a FixedSizeListArray {
     type Item = AnyArray;
 
     ghost array = { λ s. s.now };
@@ -29,10 +29,10 @@ impl<'a> TryPlaces for &'a FixedSizeListArray {
     }
 }
 
-impl<'a> BothEnds for &'a FixedSizeListArray {}
+impl<'a> DoubleEnded for &'a FixedSizeListArray {}
 
-impl<'a> NullPlaces for &'a FixedSizeListArray {
-    fn is_null_place(&self, i: usize) -> bool {
+impl<'a> NullableElements for &'a FixedSizeListArray {
+    fn is_null_element(&self, i: usize) -> bool {
         self.is_null(i)
     }
 

@@ -1,16 +1,15 @@
-//! Iterators over arrays of any nesting in the Arrow format.
+//! Iterators over arrays of any nesting.
 //!
-//! A statement whose value is never read (`let _len = ..`, `x.known()`) shows the prover a fact that the next step needs, and does
-//! nothing when it runs.
+//! A statement with an unused value (`let _len = ..`, `x.known()`) states a fact for the prover and does nothing else.
 #![tactic(auto)]
 
 pub mod dictionary;
+pub mod elements;
 pub mod examples;
 pub mod fixed_size_binary;
 pub mod fixed_size_list;
 pub mod list;
 pub mod map;
-pub mod places;
 pub mod scan;
 pub mod struct_;
 pub mod tried;
@@ -20,12 +19,12 @@ pub use dictionary::{
     DictionaryIter, DictionaryIterTyped, DictionaryValuesIter, DictionaryValuesIterTyped, KeysIter,
     KeysValuesIter, ScanKeys, TextOffset,
 };
+pub use elements::{DoubleEnded, Elements, ElementsIter};
 pub use fixed_size_binary::{FixedSizeBinaryIter, FixedSizeBinaryValuesIter};
 pub use fixed_size_list::{FixedSizeListIter, FixedSizeListValuesIter};
 pub use list::{ListIter, ListValuesIter};
 pub use map::{MapIter, MapValuesIter};
-pub use places::{BothEnds, Places, PlacesIter};
 pub use scan::{Scan, ScanValues};
 pub use struct_::{StructIter, StructValueIter};
-pub use tried::{NullPlaces, OrNull, Tried, TryPlaces};
+pub use tried::{NullableElements, OptionalItems, Tried, TryElements};
 pub use union::UnionIter;

@@ -1,17 +1,17 @@
-//! The lists of an array, from both ends.
-use crate::places::{BothEnds, PlacesIter};
-use crate::tried::{NullPlaces, OrNull, Tried, TryPlaces};
+//! Iterators over list arrays.
+use crate::elements::{DoubleEnded, ElementsIter};
+use crate::tried::{NullableElements, OptionalItems, Tried, TryElements};
 use nest_array::{AnyArray, LargeListArray, ListArray, ListOffset};
 use nest_memory::error::Error;
 use std::alloc::Global;
 
-/// The items of each list, also under a null: arrow2's `ListValuesIter`.
-pub type ListValuesIter<'a, O> = PlacesIter<Tried<&'a <O as ListOffset>::List>>;
+/// An iterator over the items of each slot, also under a null: arrow2's `ListValuesIter`.
+pub type ListValuesIter<'a, O> = ElementsIter<Tried<&'a <O as ListOffset>::List>>;
 
-/// The items of each list, `None` where it is null.
-pub type ListIter<'a, O> = PlacesIter<Tried<OrNull<&'a <O as ListOffset>::List>>>;
+/// An iterator over the items of each slot, `None` for a null.
+pub type ListIter<'a, O> = ElementsIter<Tried<OptionalItems<&'a <O as ListOffset>::List>>>;
 
-impl<'a> TryPlaces for &'a ListArray {
+impl<'a> TryElements for &'a ListArray {
     type Item = AnyArray;
 
     ghost array = { λ s. s.now };
@@ -29,17 +29,17 @@ impl<'a> TryPlaces for &'a ListArray {
     }
 }
 
-impl<'a> BothEnds for &'a ListArray {}
+impl<'a> DoubleEnded for &'a ListArray {}
 
-impl<'a> NullPlaces for &'a ListArray {
-    fn is_null_place(&self, i: usize) -> bool {
+impl<'a> NullableElements for &'a ListArray {
+    fn is_null_element(&self, i: usize) -> bool {
         self.is_null(i)
     }
 
     ghost asks_nothing = { λ _. tt };
 }
 
-impl<'a> TryPlaces for &'a LargeListArray {
+impl<'a> TryElements for &'a LargeListArray {
     type Item = AnyArray;
 
     ghost array = { λ s. s.now };
@@ -57,10 +57,10 @@ impl<'a> TryPlaces for &'a LargeListArray {
     }
 }
 
-impl<'a> BothEnds for &'a LargeListArray {}
+impl<'a> DoubleEnded for &'a LargeListArray {}
 
-impl<'a> NullPlaces for &'a LargeListArray {
-    fn is_null_place(&self, i: usize) -> bool {
+impl<'a> NullableElements for &'a LargeListArray {
+    fn is_null_element(&self, i: usize) -> bool {
         self.is_null(i)
     }
 

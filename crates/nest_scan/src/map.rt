@@ -1,17 +1,17 @@
-//! The maps of an array, from both ends.
-use crate::places::{BothEnds, PlacesIter};
-use crate::tried::{NullPlaces, OrNull, Tried, TryPlaces};
+//! Iterators over map arrays.
+use crate::elements::{DoubleEnded, ElementsIter};
+use crate::tried::{NullableElements, OptionalItems, Tried, TryElements};
 use nest_array::{AnyArray, MapArray};
 use nest_memory::error::Error;
 use std::alloc::Global;
 
-/// The entries of each map, also under a null: arrow2's `MapValuesIter`.
-pub type MapValuesIter<'a> = PlacesIter<Tried<&'a MapArray>>;
+/// An iterator over the entries of each slot, also under a null: arrow2's `MapValuesIter`.
+pub type MapValuesIter<'a> = ElementsIter<Tried<&'a MapArray>>;
 
-/// The entries of each map, `None` where it is null.
-pub type MapIter<'a> = PlacesIter<Tried<OrNull<&'a MapArray>>>;
+/// An iterator over the entries of each slot, `None` for a null.
+pub type MapIter<'a> = ElementsIter<Tried<OptionalItems<&'a MapArray>>>;
 
-impl<'a> TryPlaces for &'a MapArray {
+impl<'a> TryElements for &'a MapArray {
     type Item = AnyArray;
 
     ghost array = { λ s. s.now };
@@ -29,10 +29,10 @@ impl<'a> TryPlaces for &'a MapArray {
     }
 }
 
-impl<'a> BothEnds for &'a MapArray {}
+impl<'a> DoubleEnded for &'a MapArray {}
 
-impl<'a> NullPlaces for &'a MapArray {
-    fn is_null_place(&self, i: usize) -> bool {
+impl<'a> NullableElements for &'a MapArray {
+    fn is_null_element(&self, i: usize) -> bool {
         self.is_null(i)
     }
 

@@ -1,55 +1,55 @@
-//! The calls that make iterators, on references to arrays.
+//! `iter` and `values_iter` for references to arrays.
 ghost use Rattle.std.specs.Prelude.{◌≡◌};
-ghost use Rattle.nest_scan.specs.Places.{all_places};
+ghost use Rattle.nest_scan.specs.Elements.{all_elements};
 
-use crate::places::PlacesIter;
-use crate::tried::{NullPlaces, OrNull, Tried};
+use crate::elements::ElementsIter;
+use crate::tried::{NullableElements, OptionalItems, Tried};
 use std::alloc::Global;
 
-/// A reference to an array whose slots are gone through.
+/// A reference to an array whose slots can be iterated.
 pub trait Scan: Copy {
     type Iter;
 
-    /// Which iterators stand for all slots.
+    /// Whether an iterator has all slots left.
     ghost Scans: { Self → Self.Iter → Type 0 };
 
-    /// The items of its slots, `None` where one is null. This call takes no memory, the iterator takes it.
+    /// Returns an iterator over the items, `None` for a null. This call does not allocate; the iterator may.
     fn iter(self, alloc: Global) -> Self::Iter
         ensures { Scans self result };
 }
 
-/// A reference to an array whose values are gone through, also those under nulls.
+/// A reference to an array whose values can be iterated, also those under nulls.
 pub trait ScanValues: Copy {
     type ValuesIter;
 
-    /// What is asked of the array, so that each value can be read.
+    /// The condition under which each value can be read.
     ghost CanScanValues: { Self → Type 0 } = { λ _. Unit {0} };
 
-    /// Which iterators stand for all values.
+    /// Whether an iterator has all values left.
     ghost ScansValues: { Self → Self.ValuesIter → Type 0 };
 
-    /// Its values, also those under nulls. This call takes no memory, the iterator takes it.
+    /// Returns an iterator over the values, also those under nulls. This call does not allocate; the iterator may.
     fn values_iter(self, alloc: Global) -> Self::ValuesIter
         requires { CanScanValues self }
         ensures { ScansValues self result };
 }
 
-impl<A: NullPlaces> Scan for A {
-    type Iter = PlacesIter<Tried<OrNull<A>>>;
+impl<A: NullableElements> Scan for A {
+    type Iter = ElementsIter<Tried<OptionalItems<A>>>;
 
-    ghost Scans = { λ a it. it ≡ all_places (A.array a) };
+    ghost Scans = { λ a it. it ≡ all_elements (A.array a) };
 
-    fn iter(self, alloc: Global) -> PlacesIter<Tried<OrNull<A>>> {
-        PlacesIter::new(alloc, OrNull(self))
+    fn iter(self, alloc: Global) -> ElementsIter<Tried<OptionalItems<A>>> {
+        ElementsIter::new(alloc, OptionalItems(self))
     }
 }
 
-impl<A: NullPlaces> ScanValues for A {
-    type ValuesIter = PlacesIter<Tried<A>>;
+impl<A: NullableElements> ScanValues for A {
+    type ValuesIter = ElementsIter<Tried<A>>;
 
-    ghost ScansValues = { λ a it. it ≡ all_places (A.array a) };
+    ghost ScansValues = { λ a it. it ≡ all_elements (A.array a) };
 
-    fn values_iter(self, alloc: Global) -> PlacesIter<Tried<A>> {
-        PlacesIter::new(alloc, self)
+    fn values_iter(self, alloc: Global) -> ElementsIter<Tried<A>> {
+        ElementsIter::new(alloc, self)
     }
 }

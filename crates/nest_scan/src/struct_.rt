@@ -1,17 +1,17 @@
-//! The records of an array, from both ends.
-use crate::places::{BothEnds, PlacesIter};
-use crate::tried::{NullPlaces, OrNull, Tried, TryPlaces};
+//! Iterators over struct arrays.
+use crate::elements::{DoubleEnded, ElementsIter};
+use crate::tried::{NullableElements, OptionalItems, Tried, TryElements};
 use nest_array::{AnyScalar, StructArray, scalars_at};
 use nest_memory::error::Error;
 use std::alloc::Global;
 
-/// A scalar for each field of each record, also under a null: arrow2's `StructValueIter`.
-pub type StructValueIter<'a> = PlacesIter<Tried<&'a StructArray>>;
+/// An iterator over the scalars of the fields of each slot, also under a null: arrow2's `StructValueIter`.
+pub type StructValueIter<'a> = ElementsIter<Tried<&'a StructArray>>;
 
-/// A scalar for each field of each record, `None` where it is null.
-pub type StructIter<'a> = PlacesIter<Tried<OrNull<&'a StructArray>>>;
+/// An iterator over the scalars of the fields of each slot, `None` for a null.
+pub type StructIter<'a> = ElementsIter<Tried<OptionalItems<&'a StructArray>>>;
 
-impl<'a> TryPlaces for &'a StructArray {
+impl<'a> TryElements for &'a StructArray {
     type Item = Vec<AnyScalar>;
 
     ghost array = { λ s. s.now };
@@ -30,10 +30,10 @@ impl<'a> TryPlaces for &'a StructArray {
     }
 }
 
-impl<'a> BothEnds for &'a StructArray {}
+impl<'a> DoubleEnded for &'a StructArray {}
 
-impl<'a> NullPlaces for &'a StructArray {
-    fn is_null_place(&self, i: usize) -> bool {
+impl<'a> NullableElements for &'a StructArray {
+    fn is_null_element(&self, i: usize) -> bool {
         self.is_null(i)
     }
 

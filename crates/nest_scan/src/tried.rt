@@ -1,56 +1,59 @@
-//! The items of places for which memory may be taken.
+//! Items that may need an allocation.
 ghost use Rattle.std.specs.Prelude.{◌≡◌, ℕ, ◌<◌};
 ghost use Rattle.nest_model.specs.Layout.{Layout};
 ghost use Rattle.nest_model.specs.Meaning.{len};
 ghost use Rattle.nest_model.specs.Nullness.{is_null_at};
-ghost use Rattle.nest_scan.specs.Places.{IsItemOrMemory};
+ghost use Rattle.nest_scan.specs.Elements.{IsItemOrMemory};
 
-use crate::places::{BothEnds, Places};
+use crate::elements::{DoubleEnded, Elements};
 use nest_memory::error::Error;
 use std::alloc::Global;
 
-/// A reference to an array that has an item for each of its places, for which memory may be taken.
-pub trait TryPlaces: Copy {
+/// A reference to an array with one item for each slot, which may need an allocation.
+pub trait TryElements: Copy {
     type Item;
 
     /// The array.
     ghost array: { Self → Layout };
 
-    /// What is asked of the array, so that each place has an item.
+    /// The condition on the array under which each slot has an item.
     ghost Asks: { Layout → Type 0 } = { λ _. Unit {0} };
 
-    /// Whether a value is the item of a place.
+    /// Whether a value is the item of a slot.
     ghost IsItem: { Layout → ℕ → Self.Item → Type 0 };
 
-    /// How many places there are.
+    /// Returns the number of slots.
     fn count(&self) -> usize
         ensures { result ≡ len (array self.now) };
 
-    /// The item of place i. `Memory` alone is refused.
+    /// Returns the item of slot `i`.
+    ///
+    /// # Errors
+    /// `Memory` where an allocation fails.
     fn item(&self, alloc: Global, i: usize) -> Result<Self::Item, Error>
         requires asked { Asks (array self.now) }
         requires within { i < len (array self.now) }
         ensures { IsItemOrMemory IsItem (array self.now) i result };
 }
 
-/// An array with a validity, of which each place has an item, also where it is null.
-pub trait NullPlaces: TryPlaces + BothEnds {
-    /// Whether place i is null.
-    fn is_null_place(&self, i: usize) -> bool
+/// A reference to an array with a validity bitmap and one item for each slot, also under a null.
+pub trait NullableElements: TryElements + DoubleEnded {
+    /// Returns whether slot `i` is null.
+    fn is_null_element(&self, i: usize) -> bool
         requires { i < len (Self.array self.now) }
         ensures { result ≡ is_null_at (Self.array self.now) i };
 
     ghost asks_nothing: { (a : Layout) → Self.Asks a };
 }
 
-/// The items of an array, each with the memory that it takes. An item that finds none is an `Err`.
+/// The items of an array as `Result`s, `Err` where an allocation fails.
 #[derive(Clone, Copy)]
-pub struct Tried<A: TryPlaces> {
+pub struct Tried<A: TryElements> {
     alloc: Global,
     array: A,
 }
 
-impl<A: TryPlaces> Tried<A> {
+impl<A: TryElements> Tried<A> {
     pub(crate) fn new(alloc: Global, array: A) -> Tried<A>
         ensures { result.array ≡ array }
     {
@@ -58,10 +61,10 @@ impl<A: TryPlaces> Tried<A> {
     }
 }
 
-impl<A: TryPlaces> Places for Tried<A> {
+impl<A: TryElements> Elements for Tried<A> {
     type Item = Result<A::Item, Error>;
 
-    ghost use Rattle.nest_scan.specs.Places.{IsItemOrMemory};
+    ghost use Rattle.nest_scan.specs.Elements.{IsItemOrMemory};
 
     ghost array = { λ s. A.array s.array };
 
@@ -78,16 +81,16 @@ impl<A: TryPlaces> Places for Tried<A> {
     }
 }
 
-impl<A: TryPlaces + BothEnds> BothEnds for Tried<A> {}
+impl<A: TryElements + DoubleEnded> DoubleEnded for Tried<A> {}
 
-/// The items of an array, `None` where a place is null.
+/// The items of an array, `None` for a null.
 #[derive(Clone, Copy)]
-pub struct OrNull<A: NullPlaces>(pub A);
+pub struct OptionalItems<A: NullableElements>(pub A);
 
-impl<A: NullPlaces> TryPlaces for OrNull<A> {
+impl<A: NullableElements> TryElements for OptionalItems<A> {
     type Item = Option<A::Item>;
 
-    ghost use Rattle.nest_scan.specs.Places.{IsItemOrNull};
+    ghost use Rattle.nest_scan.specs.Elements.{IsItemOrNull};
 
     ghost array = { λ s. A.array s.0 };
 
@@ -98,7 +101,7 @@ impl<A: NullPlaces> TryPlaces for OrNull<A> {
     }
 
     fn item(&self, alloc: Global, i: usize) -> Result<Option<A::Item>, Error> {
-        if self.0.is_null_place(i) {
+        if self.0.is_null_element(i) {
             return Ok(None);
         }
         match self.0.item(alloc, i) {
@@ -108,4 +111,4 @@ impl<A: NullPlaces> TryPlaces for OrNull<A> {
     }
 }
 
-impl<A: NullPlaces> BothEnds for OrNull<A> {}
+impl<A: NullableElements> DoubleEnded for OptionalItems<A> {}

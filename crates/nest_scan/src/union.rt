@@ -1,18 +1,18 @@
-//! What the slots of a union pick, from the front.
+//! Iterators over union arrays.
 ghost use Rattle.std.specs.Prelude.{◌≡◌};
-ghost use Rattle.nest_scan.specs.Places.{all_places};
+ghost use Rattle.nest_scan.specs.Elements.{all_elements};
 
-use crate::places::PlacesIter;
+use crate::elements::ElementsIter;
 use crate::scan::Scan;
-use crate::tried::{Tried, TryPlaces};
+use crate::tried::{Tried, TryElements};
 use nest_array::{AnyScalar, UnionArray};
 use nest_memory::error::Error;
 use std::alloc::Global;
 
-/// The scalar that each slot picks: arrow2's `UnionIter`. It goes forward alone.
-pub type UnionIter<'a> = PlacesIter<Tried<&'a UnionArray>>;
+/// An iterator over the scalar that each slot picks, from the front only: arrow2's `UnionIter`.
+pub type UnionIter<'a> = ElementsIter<Tried<&'a UnionArray>>;
 
-impl<'a> TryPlaces for &'a UnionArray {
+impl<'a> TryElements for &'a UnionArray {
     type Item = AnyScalar;
 
     ghost array = { λ s. s.now };
@@ -33,9 +33,9 @@ impl<'a> TryPlaces for &'a UnionArray {
 impl<'a> Scan for &'a UnionArray {
     type Iter = UnionIter<'a>;
 
-    ghost Scans = { λ a it. it ≡ all_places a.now };
+    ghost Scans = { λ a it. it ≡ all_elements a.now };
 
     fn iter(self, alloc: Global) -> UnionIter<'a> {
-        PlacesIter::new(alloc, self)
+        ElementsIter::new(alloc, self)
     }
 }

@@ -1,4 +1,4 @@
--- Values at places: read one by one, and seen through a function.
+-- Values at indices: one by one, and through a function.
 use Rattle.std.specs.Prelude.{Some, None, List, [], ◌∷◌, ◌++◌, map, slice_get, length, get_or, option_map}
 use Rattle.std.proofs.Common.{◌≡◌, ℕ, ◌+◌, ◌<◌, true, take, drop, refl, ap, sym, ◌∙◌, arith}
 use Rattle.std.proofs.lemmas.List.{get_or-map, length-map, map-append, map_more}
@@ -6,9 +6,9 @@ use Rattle.std.proofs.lemmas.Simd.{map-map}
 use Rattle.std.proofs.lemmas.Option.{get_or_from_slice_get, slice_get-map}
 use Rattle.nest_model.specs.Part.{Validity, valid_at}
 use Rattle.nest_model.specs.Fits.{ValidityFits}
-use Rattle.nest_take.specs.Places.{AreAt, AreBelow, ReachesBits, taken_validity}
+use Rattle.nest_take.specs.Indices.{AreAt, AreBelow, ReachesBits, taken_validity}
 
--- by one value more
+-- one more value
 pub at-more : {A : Type 0} (xs : List A) (is : List ℕ) (ys : List A) (k : ℕ) (y : A) → k < length is → AreAt xs (take k is) ys
     → slice_get xs (get_or is k 0) ≡ Some y → AreAt xs (take (k + 1) is) (ys ++ y ∷ [])
 at-more xs is ys k y h e f =
@@ -46,7 +46,7 @@ at-map f xs is ys e =
     map-ext g h k [] = refl
     map-ext g h k (z ∷ zs) = let a = k z in let b = map-ext g h k zs in cc
 
--- a validity's bits at places are those of the rows there
+-- the bits of a validity at indices are those of the rows there
 pub at-valid : (va : Validity) (is : List ℕ) (j : ℕ) → j < length is → valid_at (taken_validity va is) j ≡ valid_at va (get_or is j 0)
 at-valid None is j h = refl
 at-valid (Some bits) is j h = get_or-map (λ i. get_or bits i true) is j 0 true h
@@ -55,7 +55,7 @@ pub taken-fits : (va : Validity) (is : List ℕ) → ValidityFits (taken_validit
 taken-fits None is = tt
 taken-fits (Some bits) is = length-map is (λ i. get_or bits i true)
 
--- places of slots have bits
+-- indices of slots have bits
 pub reaches : (va : Validity) (n : ℕ) (is : List ℕ) → ValidityFits va n → AreBelow is n → ReachesBits va is
 reaches None n is h b = tt
 reaches (Some bits) n is h b = λ j d l. let a = b j d l in omega arith

@@ -1,4 +1,4 @@
--- Children in a vector: how deep each is, and what holds of each that is taken.
+-- Children in a vector: the depth of each, and the facts about each taken child.
 use Rattle.std.specs.Prelude.{◌⊎◌, List as Seq, [], ◌∷◌, ◌++◌, alloc_error}
 use Rattle.std.proofs.Common.{◌≡◌, ℕ, zero, suc, ◌+◌, ◌<◌, List, length, get_or, inl, inr, refl, ap, sym, ◌∙◌, subst, arith}
 use Rattle.nest_memory.specs.declared.error.Error.{Error}
@@ -9,7 +9,7 @@ use Rattle.nest_model.specs.Accessors.{child_at}
 use Rattle.nest_model.specs.Layout.{Layouts, count_layouts, weight, weight_all}
 use Rattle.nest_model.specs.Meaning.{len}
 use Rattle.nest_take.specs.Limits.{PassesLimits, PicksPass, SomePasses}
-use Rattle.nest_take.specs.Places.{AreBelow}
+use Rattle.nest_take.specs.Indices.{AreBelow}
 use Rattle.nest_take.specs.Taken.{IsTaken, EachPicked, EachReaches, EachTaken, RefusesTake}
 
 pub weight-at : (xs : Seq AnyArray) (i : ℕ) (d : AnyArray) → i < length xs → weight (layout_of (get_or xs i d)) < weight_all (layouts_of xs)
@@ -34,7 +34,7 @@ all-taken [] (y ∷ ys) is e h = absurd (omega arith)
 all-taken (x ∷ xs) [] is e h = absurd (omega arith)
 all-taken (x ∷ xs) (y ∷ ys) is e h = (h 0 x (omega arith), all-taken xs ys is (omega arith) (λ k d l. h (suc k) d (omega arith)))
 
--- a child by its position
+-- a child by its index
 pub layout-at : (xs : Seq AnyArray) (i : ℕ) (d : AnyArray) → i < length xs → layout_of (get_or xs i d) ≡ child_at (layouts_of xs) i
 layout-at [] i d h = absurd (omega arith)
 layout-at (x ∷ xs) zero d h = refl
@@ -66,13 +66,13 @@ picks-pass-at P (x ∷ xs) k (suc f) d h l =
     let w : k + suc f ≡ suc k + f = omega arith in
     inr (inr (picks-pass-at P xs (suc k) f d (subst (λ p. PassesLimits (layout_of (get_or xs f d)) (P p)) w h) (omega arith)))
 
--- the refusal of one child
+-- the error of one child
 pub refuses-at : (xs : Seq AnyArray) (is : List ℕ) (i : ℕ) (x : AnyArray) (e : Error) → x ≡ get_or xs i x → i < length xs → RefusesTake e (layout_of x) is
     → (e ≡ Memory alloc_error) ⊎ ((e ≡ Overflow) × SomePasses (layouts_of xs) is)
 refuses-at xs is i x e s h (inl m) = inl m
 refuses-at xs is i x e s h (inr p) = inr (p.0, passes-at xs is i x (subst (λ z. PassesLimits (layout_of z) is) s p.1) h)
 
--- one more child that is taken
+-- one more taken child
 before-last : (ys : Seq AnyArray) (y d : AnyArray) (k : ℕ) → k < length ys → get_or (ys ++ y ∷ []) k d ≡ get_or ys k d
 before-last [] y d k h = absurd (omega arith)
 before-last (z ∷ zs) y d zero h = refl
@@ -113,7 +113,7 @@ one-more P xs ys n x y l s h f t k d m = go (last-or-before k n m)
         let r = subst (λ j. IsTaken (layout_of x) (P j) (layout_of y)) (sym e) t in
         subst (λ z. IsTaken (layout_of z) (P k) (layout_of (get_or (ys ++ y ∷ []) k d))) p (subst (λ z. IsTaken (layout_of x) (P k) (layout_of z)) q r)
 
--- all fields, and the refusal of one
+-- all fields, and the error of one
 pub fields-picked : (P : ℕ → List ℕ) (xs ys : Seq AnyArray) (cs : Layouts) → layouts_of xs ≡ cs → length ys ≡ length xs
     → ((f : ℕ) (d : AnyArray) → f < length xs → IsTaken (layout_of (get_or xs f d)) (P f) (layout_of (get_or ys f d))) → EachPicked P 0 cs (layouts_of ys)
 fields-picked P xs ys cs e l h =

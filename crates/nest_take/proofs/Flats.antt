@@ -1,38 +1,38 @@
--- Flat arrays that are made of values and bits at places.
+-- Flat arrays with the values and bits at given indices.
 use Rattle.std.specs.Prelude.{MatchResult, IfOk, IfErr, if◌then◌else◌}
 use Rattle.std.proofs.Common.{◌≡◌, ℕ, ◌<◌, ℤ, Bool, true, false, List, [], get_or, length, Result, Ok, Err, refl, ap, sym, ◌∙◌, subst}
 use Rattle.nest_memory.specs.TypeTree.{TypeTree}
 use Rattle.nest_memory.specs.declared.datatypes.physical_type.PrimitiveType.{PrimitiveType}
 use Rattle.nest_memory.specs.declared.error.Error.{Error}
-use Rattle.nest_model.specs.Decide.{pass-no_fault}
-use Rattle.nest_model.specs.Fits.{Fits, FirstFault, checks}
+use Rattle.nest_model.specs.Decide.{pass-no_error}
+use Rattle.nest_model.specs.Fits.{Fits, FirstError, checks}
 use Rattle.nest_model.specs.Layout.{Layout, boolean, primitive, layout_type}
 use Rattle.nest_model.specs.Meaning.{len, slot, where_valid}
 use Rattle.nest_model.specs.Part.{Validity, valid_at}
 use Rattle.nest_model.specs.Slot as slots
 use Rattle.nest_model.specs.Slot.{Slot}
-use Rattle.nest_take.specs.Places.{AreAt, AreBelow, taken_validity}
+use Rattle.nest_take.specs.Indices.{AreAt, AreBelow, taken_validity}
 use Rattle.nest_take.specs.Taken.{IsTaken}
 use Rattle.nest_take.proofs.At.{at-length, at-get, at-valid}
 use Rattle.nest_take.proofs.Rows.{taken}
 
--- what a constructor made of parts that are the taken ones
-pub made-ok : (r : Result Layout Error) (p a : Layout) (is : List ℕ) → MatchResult r (λ b. Fits p × (b ≡ p)) (λ e. FirstFault e p)
+-- the result of a constructor from the taken parts
+pub made-ok : (r : Result Layout Error) (p a : Layout) (is : List ℕ) → MatchResult r (λ b. Fits p × (b ≡ p)) (λ e. FirstError e p)
     → IsTaken a is p → IfOk r (λ b. IsTaken a is b)
 made-ok (Ok b) p a is h t = subst (IsTaken a is) (sym h.1) t
 made-ok (Err e) p a is h t = tt
 
--- it refuses no parts that fit
-pub made-err : (r : Result Layout Error) (p a : Layout) (is : List ℕ) (Q : Error → Type 0) → MatchResult r (λ b. Fits p × (b ≡ p)) (λ e. FirstFault e p)
+-- it accepts parts that fit
+pub made-err : (r : Result Layout Error) (p a : Layout) (is : List ℕ) (Q : Error → Type 0) → MatchResult r (λ b. Fits p × (b ≡ p)) (λ e. FirstError e p)
     → Fits p × IsTaken a is p → IfErr r Q
 made-err (Ok b) p a is Q h f = tt
-made-err (Err e) p a is Q h f = absurd (pass-no_fault (checks p) e f.0 h)
+made-err (Err e) p a is Q h f = absurd (pass-no_error (checks p) e f.0 h)
 
 where-valid : (b : Bool) (x y z : Slot) → (b ≡ true → x ≡ y) → (if b then x else z) ≡ (if b then y else z)
 where-valid true x y z h = h refl
 where-valid false x y z h = refl
 
--- slots under a validity are the same where they are under the validity of the place
+-- slots are the same under the validity where they are under the validity at the index
 pub mask-same : (va v : Validity) (is : List ℕ) (j : ℕ) (x y : Slot) → v ≡ taken_validity va is → j < length is
     → (valid_at va (get_or is j 0) ≡ true → x ≡ y) → where_valid v j x ≡ where_valid va (get_or is j 0) y
 mask-same va v is j x y e h f =
@@ -43,7 +43,7 @@ pub boolean-taken : (a : Layout) (t u : TypeTree) (xs bs cs : List Bool) (va v :
 boolean-taken a t u xs bs cs va v is e h d x p q =
     let p' = subst (λ z. AreAt z is cs) x p in
     taken a (boolean u cs v) is h (at-length bs is cs p')
-    (λ j l. mask-same va v is j (slots.truth (get_or cs j false)) (slots.truth (get_or bs (get_or is j 0) false)) q l (λ _. ap slots.truth (at-get bs is cs j false p' l)) ∙ sym (ap (λ z. slot z (get_or is j 0)) e))
+    (λ j l. mask-same va v is j (slots.boolean (get_or cs j false)) (slots.boolean (get_or bs (get_or is j 0) false)) q l (λ _. ap slots.boolean (at-get bs is cs j false p' l)) ∙ sym (ap (λ z. slot z (get_or is j 0)) e))
     d
 
 pub primitive-taken : (k : PrimitiveType) (a : Layout) (t u : TypeTree) (vs ws : List (List ℤ)) (va v : Validity) (is : List ℕ) → a ≡ primitive k t vs va → AreBelow is (len a)

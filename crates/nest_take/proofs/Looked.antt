@@ -9,11 +9,11 @@ use Rattle.nest_model.specs.Array.{TopFits}
 use Rattle.nest_model.specs.FactLaws.{dictionary-facts, union-facts}
 use Rattle.nest_model.specs.Fits.{Fits, Names, KeysInRange, EachLen, EachCovers, EachMeansField, MeansField, IdsCount}
 use Rattle.nest_model.specs.Layout.{Layout, Layouts, dictionary, union, no_layouts, more_layouts, layout_type, count_layouts}
-use Rattle.nest_model.specs.Meaning.{len, slot, of_field, picked, union_place}
-use Rattle.nest_model.specs.Part.{valid_at, place, field_named}
+use Rattle.nest_model.specs.Meaning.{len, slot, of_field, picked, union_index}
+use Rattle.nest_model.specs.Part.{valid_at, to_index, field_named}
 use Rattle.nest_model.specs.Slot as slots
 use Rattle.nest_model.specs.Slot.{Slot}
-use Rattle.nest_take.specs.Places.{AreAt, AreBelow}
+use Rattle.nest_take.specs.Indices.{AreAt, AreBelow}
 use Rattle.nest_take.specs.Taken.{IsTaken, EachReaches, EachTaken}
 use Rattle.nest_take.specs.TakenKeys.{AreKeysAt, raw_at}
 use Rattle.nest_take.proofs.At.{at-valid, at-length, at-get}
@@ -21,7 +21,7 @@ use Rattle.nest_take.proofs.Flats.{mask-same}
 use Rattle.nest_take.proofs.Nested.{each-count, each-type, each-len, taken-slot}
 use Rattle.nest_take.proofs.Rows.{taken}
 
-names-place : (z : ℤ) (n : ℕ) → Names z n → place z < n
+names-place : (z : ℤ) (n : ℕ) → Names z n → to_index z < n
 names-place (pos k) n h = h
 names-place (negsuc k) n h = absurd h
 
@@ -51,8 +51,8 @@ keyed-core t ks c new is h b g =
       taken (dictionary t ks c) (dictionary t new c) is b g.count
           (λ j k.
           let i = get_or is j 0 in
-          mask-same va (validity_of new) is j (slot c (place (key_at new j))) (slot c (place (key_at ks i))) g.validity k
-          (λ v. ap (λ z. slot c (place z)) (g.raw j k ∙ raw-valid ks i v)))
+          mask-same va (validity_of new) is j (slot c (to_index (key_at new j))) (slot c (to_index (key_at ks i))) g.validity k
+          (λ v. ap (λ z. slot c (to_index z)) (g.raw j k ∙ raw-valid ks i v)))
           refl,
     )
 
@@ -131,12 +131,12 @@ sparse-core t ks xs cs ds start is h b p g =
     )
 
 pub sparse-taken : (a : Layout) (u : TypeTree) (ks xs : List ℤ) (cs ds : Layouts) (os : Option (List ℤ)) (start : ℕ) (is ps : List ℕ) → TopFits a → a ≡ union (layout_type a) ks cs os start → os ≡ None → AreBelow is (len a)
-    → u ≡ layout_type a → AreAt ks is xs → ps ≡ map (union_place os start) is → EachTaken cs ps ds
+    → u ≡ layout_type a → AreAt ks is xs → ps ≡ map (union_index os start) is → EachTaken cs ps ds
     → Fits (union u xs ds None 0) × IsTaken a is (union u xs ds None 0)
 sparse-taken a u ks xs cs ds os start is ps h e o b p q r g =
     let t = layout_type a in
     let e' = e ∙ ap (λ z. union t ks cs z start) o in
-    let r' = r ∙ ap (λ z. map (union_place z start) is) o in
+    let r' = r ∙ ap (λ z. map (union_index z start) is) o in
     let x = sparse-core t ks xs cs ds start is (subst TopFits e' h) (subst (λ z. AreBelow is (len z)) e' b) q (subst (λ z. EachTaken cs z ds) r' g) in
     let y : union t xs ds None 0 ≡ union u xs ds None 0 = cc in
     subst (λ z. Fits z × IsTaken a is z) y (subst (λ z. Fits (union t xs ds None 0) × IsTaken z is (union t xs ds None 0)) (sym e') x)

@@ -1,4 +1,4 @@
--- What a call that made an array owes.
+-- Results of constructors.
 use Rattle.std.specs.Prelude.{◌⊎◌, IfOk, IfErr, IsErrOf, IsOkUnless, alloc_error}
 use Rattle.std.proofs.Common.{◌≡◌, ◌<◌, ◌≤◌, ℕ, List, Result, Ok, Err, inl, inr, ap, sym, subst, arith}
 use Rattle.nest_array.specs.declared.any.AnyArray.{AnyArray}
@@ -16,7 +16,7 @@ pub err-memory : (r : Result AnyArray Error) (a : Layout) (is : List ℕ) → Is
 err-memory (Ok b) a is h = tt
 err-memory (Err e) a is h = inl h
 
--- where a number is not past its type, memory alone was wanting
+-- where no number overflows, the error is a failed allocation
 pub only-memory : {T : Type 0} (e : Error) (m n : ℕ) → (IsErrOf {T = T} {E = Error} (Err e) Overflow → m < n) → n ≤ m → (e ≡ Overflow) ⊎ (e ≡ Memory alloc_error) → e ≡ Memory alloc_error
 only-memory e m n past fits h = elim h [
   | inl o ↦ absurd (omega (arith, past (ap Err o), fits))

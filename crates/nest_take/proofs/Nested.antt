@@ -1,15 +1,15 @@
--- Arrays that are made of taken children.
+-- Arrays with taken children.
 use Rattle.std.specs.Prelude.{Some}
 use Rattle.std.specs.List.{All}
 use Rattle.std.proofs.Common.{◌≡◌, ℕ, suc, ◌+◌, ◌*◌, ◌/◌, ◌%◌, ◌<◌, ◌≤◌, Bool, true, List, get_or, length, refl, ap, sym, ◌∙◌, subst, arith}
 use Rattle.std.proofs.lemmas.List.Elements.{All-get_or}
 use Rattle.std.proofs.lemmas.List.{get_or-map}
 use Rattle.std.proofs.Math.Nat.{mul-div_cancel}
-use Rattle.nest_memory.specs.Cut.{cut}
+use Rattle.nest_memory.specs.Sublist.{sublist}
 use Rattle.nest_memory.specs.Rising.{last_of}
 use Rattle.nest_memory.specs.TypeTree.{TypeTree, FieldTrees, no_fields, more_fields, size_of, fields_of}
 use Rattle.nest_model.specs.Array.{AreOffsets, TopFits}
-use Rattle.nest_model.specs.ChosenLaws.{length-chosen}
+use Rattle.nest_model.specs.SelectedLaws.{length-selected}
 use Rattle.nest_model.specs.FactLaws.{list-facts, map-facts, fixed_size_list-facts, fixed_size_binary-facts, struct-facts}
 use Rattle.nest_model.specs.Fits.{Fits, ValidityFits, EachType, EachLen}
 use Rattle.nest_model.specs.Layout.{Layout, Layouts, null, fixed_size_binary, fixed_size_list, list, map, struct, no_layouts, more_layouts, layout_type, count_layouts}
@@ -19,17 +19,17 @@ use Rattle.nest_model.specs.Reads.{slots-length, slot-place, list-slot, map-slot
 use Rattle.nest_model.specs.Runs.{length-cut, product-fits, product-exact}
 use Rattle.nest_model.specs.Slot as slots
 use Rattle.nest_model.specs.Slot.{Slot, Slots, seal}
-use Rattle.nest_take.specs.Places.{AreBelow, count_at, item_places, items_at, block_places, blocks_at, taken_validity}
+use Rattle.nest_take.specs.Indices.{AreBelow, count_at, item_indices, items_at, block_indices, blocks_at, taken_validity}
 use Rattle.nest_take.specs.Taken.{IsTaken, EachReaches, EachTaken}
 use Rattle.nest_take.proofs.At.{taken-fits}
 use Rattle.nest_take.proofs.Flats.{mask-same}
-use Rattle.nest_take.proofs.Pieces.{ends, ends-last, ends-rows, rows-within, row-items, items-length, count-valid, chosen-pieces, blocks-length, block-cut, pieces-below}
+use Rattle.nest_take.proofs.Pieces.{ends, ends-last, ends-rows, rows-within, row-items, items-length, count-valid, selected-pieces, blocks-length, block-cut, pieces-below}
 use Rattle.nest_take.proofs.Rows.{taken}
 use Rattle.nest_take.proofs.SpanRows.{validity-rows}
 
--- as many slots as places, each the one at its place
+-- as many slots as indices, each the one at its index
 pub taken-len : (a b : Layout) (is : List ℕ) → IsTaken a is b → len b ≡ length is
-taken-len a b is t = sym (slots-length b) ∙ ap length t.slots ∙ length-chosen (slots_of a) is
+taken-len a b is t = sym (slots-length b) ∙ ap length t.slots ∙ length-selected (slots_of a) is
 
 pub taken-slot : (a b : Layout) (is : List ℕ) (j : ℕ) → IsTaken a is b → AreBelow is (len a) → j < length is → slot b j ≡ slot a (get_or is j 0)
 taken-slot a b is j t h k =
@@ -47,16 +47,16 @@ rows-in : (c : Layout) (os : List ℕ) (va : Validity) (is : List ℕ) → AreOf
     → All (λ i. begin os i + count_at os va i ≤ length (slots_of c)) is
 rows-in c os va is h l b = rows-within os va (length (slots_of c)) is h (let e = slots-length c in omega arith) b
 
-pub list-places : (c : Layout) (os : List ℕ) (va : Validity) (is : List ℕ) → AreOffsets os → last_of os ≤ len c → AreBelow is (count_rows os)
-    → AreBelow (item_places os va is) (len c)
-list-places c os va is h l b = pieces-below (len c) (begin os) (count_at os va) is (rows-within os va (len c) is h l b)
+pub list-indices : (c : Layout) (os : List ℕ) (va : Validity) (is : List ℕ) → AreOffsets os → last_of os ≤ len c → AreBelow is (count_rows os)
+    → AreBelow (item_indices os va is) (len c)
+list-indices c os va is h l b = pieces-below (len c) (begin os) (count_at os va) is (rows-within os va (len c) is h l b)
 
 items-slots : (c d : Layout) (os : List ℕ) (va : Validity) (is : List ℕ) → All (λ i. begin os i + count_at os va i ≤ length (slots_of c)) is
-    → IsTaken c (item_places os va is) d → slots_of d ≡ items_at (slots_of c) os va is
-items-slots c d os va is w t = t.slots ∙ chosen-pieces (slots_of c) (begin os) (count_at os va) is w
+    → IsTaken c (item_indices os va is) d → slots_of d ≡ items_at (slots_of c) os va is
+items-slots c d os va is w t = t.slots ∙ selected-pieces (slots_of c) (begin os) (count_at os va) is w
 
 items-count : (c d : Layout) (os : List ℕ) (va : Validity) (is : List ℕ) → All (λ i. begin os i + count_at os va i ≤ length (slots_of c)) is
-    → IsTaken c (item_places os va is) d → last_of (ends (count_at os va) is) ≤ len d
+    → IsTaken c (item_indices os va is) d → last_of (ends (count_at os va) is) ≤ len d
 items-count c d os va is w t =
     let e = ap length (items-slots c d os va is w t) in
     let f = items-length (slots_of c) os va is w in
@@ -65,21 +65,21 @@ items-count c d os va is w t =
     omega arith
 
 row-same : (c d : Layout) (os : List ℕ) (va : Validity) (is : List ℕ) (j : ℕ) → All (λ i. begin os i + count_at os va i ≤ length (slots_of c)) is
-    → IsTaken c (item_places os va is) d → j < length is → valid_at va (get_or is j 0) ≡ true
-    → slots.list (seal (cut (slots_of d) (begin (ends (count_at os va) is) j) (extent (ends (count_at os va) is) j)))
-    ≡ slots.list (seal (cut (slots_of c) (begin os (get_or is j 0)) (extent os (get_or is j 0))))
+    → IsTaken c (item_indices os va is) d → j < length is → valid_at va (get_or is j 0) ≡ true
+    → slots.list (seal (sublist (slots_of d) (begin (ends (count_at os va) is) j) (extent (ends (count_at os va) is) j)))
+    ≡ slots.list (seal (sublist (slots_of c) (begin os (get_or is j 0)) (extent os (get_or is j 0))))
 row-same c d os va is j w t k v =
     let es = ends (count_at os va) is in
     let i = get_or is j 0 in
-    ap (λ ss. slots.list (seal (cut ss (begin es j) (extent es j)))) (items-slots c d os va is w t)
-    ∙ ap (λ ss. slots.list (seal ss)) (row-items (slots_of c) os va is j w k ∙ ap (cut (slots_of c) (begin os i)) (count-valid os va i v))
+    ap (λ ss. slots.list (seal (sublist ss (begin es j) (extent es j)))) (items-slots c d os va is w t)
+    ∙ ap (λ ss. slots.list (seal ss)) (row-items (slots_of c) os va is j w k ∙ ap (sublist (slots_of c) (begin os i)) (count-valid os va i v))
 
 -- the parts of taken lists
 abbrev pub list_at : Bool → TypeTree → List ℕ → Layout → Validity → List ℕ → Layout
 list_at large t os d va is = list large t (ends (count_at os va) is) d (taken_validity va is)
 
 list-core : (large : Bool) (t : TypeTree) (os : List ℕ) (c d : Layout) (va : Validity) (is : List ℕ) → TopFits (list large t os c va) → AreBelow is (count_rows os)
-    → AreOffsets (ends (count_at os va) is) → IsTaken c (item_places os va is) d
+    → AreOffsets (ends (count_at os va) is) → IsTaken c (item_indices os va is) d
     → Fits (list_at large t os d va is) × IsTaken (list large t os c va) is (list_at large t os d va is)
 list-core large t os c d va is h b o g =
     let f = list-facts large t os c va h in
@@ -99,7 +99,7 @@ list-core large t os c d va is h b o g =
     )
 
 pub list-taken : (large : Bool) (a : Layout) (u : TypeTree) (os es : List ℕ) (c d : Layout) (va v : Validity) (is ps : List ℕ) → TopFits a → a ≡ list large (layout_type a) os c va → AreBelow is (len a)
-    → u ≡ layout_type a → es ≡ ends (count_at os va) is → AreOffsets es → v ≡ taken_validity va is → ps ≡ item_places os va is → IsTaken c ps d
+    → u ≡ layout_type a → es ≡ ends (count_at os va) is → AreOffsets es → v ≡ taken_validity va is → ps ≡ item_indices os va is → IsTaken c ps d
     → Fits (list large u es d v) × IsTaken a is (list large u es d v)
 list-taken large a u os es c d va v is ps h e b p q o r s g =
     let t = layout_type a in
@@ -111,7 +111,7 @@ abbrev pub map_at : TypeTree → List ℕ → Layout → Validity → List ℕ �
 map_at t os d va is = map t (ends (count_at os va) is) d (taken_validity va is)
 
 map-core : (t : TypeTree) (os : List ℕ) (c d : Layout) (va : Validity) (is : List ℕ) → TopFits (map t os c va) → AreBelow is (count_rows os)
-    → AreOffsets (ends (count_at os va) is) → IsTaken c (item_places os va is) d
+    → AreOffsets (ends (count_at os va) is) → IsTaken c (item_indices os va is) d
     → Fits (map_at t os d va is) × IsTaken (map t os c va) is (map_at t os d va is)
 map-core t os c d va is h b o g =
     let f = map-facts t os c va h in
@@ -131,7 +131,7 @@ map-core t os c d va is h b o g =
     )
 
 pub map-taken : (a : Layout) (u : TypeTree) (os es : List ℕ) (c d : Layout) (va v : Validity) (is ps : List ℕ) → TopFits a → a ≡ map (layout_type a) os c va → AreBelow is (len a)
-    → u ≡ layout_type a → es ≡ ends (count_at os va) is → AreOffsets es → v ≡ taken_validity va is → ps ≡ item_places os va is → IsTaken c ps d
+    → u ≡ layout_type a → es ≡ ends (count_at os va) is → AreOffsets es → v ≡ taken_validity va is → ps ≡ item_indices os va is → IsTaken c ps d
     → Fits (map u es d v) × IsTaken a is (map u es d v)
 map-taken a u os es c d va v is ps h e b p q o r s g =
     let t = layout_type a in
@@ -139,7 +139,7 @@ map-taken a u os es c d va v is ps h e b p q o r s g =
     let y : map_at t os d va is ≡ map u es d v = cc in
     subst (λ z. Fits z × IsTaken a is z) y (subst (λ z. Fits (map_at t os d va is) × IsTaken z is (map_at t os d va is)) (sym e) x)
 
--- rows of one size
+-- fixed-size rows
 pub blocks-within : (s m : ℕ) (is : List ℕ) → AreBelow is (m / s) → All (λ i. i * s + s ≤ m) is
 blocks-within s m is h j d k =
     let i = get_or is j d in
@@ -148,17 +148,17 @@ blocks-within s m is h j d k =
     let e : 1 * s ≡ s = omega arith in
     omega arith
 
-pub block-places-below : (s m : ℕ) (is : List ℕ) → AreBelow is (m / s) → AreBelow (block_places s is) m
-block-places-below s m is h = pieces-below m (λ i. i * s) (λ i. s) is (blocks-within s m is h)
+pub block-indices-below : (s m : ℕ) (is : List ℕ) → AreBelow is (m / s) → AreBelow (block_indices s is) m
+block-indices-below s m is h = pieces-below m (λ i. i * s) (λ i. s) is (blocks-within s m is h)
 
-block-lengths : {A : Type 0} (xs : List A) (s : ℕ) (is : List ℕ) → All (λ i. i * s + s ≤ length xs) is → All (λ i. length (cut xs (i * s) s) ≡ s) is
+block-lengths : {A : Type 0} (xs : List A) (s : ℕ) (is : List ℕ) → All (λ i. i * s + s ≤ length xs) is → All (λ i. length (sublist xs (i * s) s) ≡ s) is
 block-lengths xs s is h j d k = length-cut xs (get_or is j d * s) s (h j d k)
 
 abbrev pub sized_at : TypeTree → Layout → Validity → List ℕ → Layout
 sized_at t d va is = fixed_size_list t d (taken_validity va is)
 
 sized-core : (t : TypeTree) (c d : Layout) (va : Validity) (is : List ℕ) → TopFits (fixed_size_list t c va) → AreBelow is (len c / size_of t)
-    → IsTaken c (block_places (size_of t) is) d
+    → IsTaken c (block_indices (size_of t) is) d
     → Fits (sized_at t d va is) × IsTaken (fixed_size_list t c va) is (sized_at t d va is)
 sized-core t c d va is h b g =
     let s = size_of t in
@@ -166,8 +166,8 @@ sized-core t c d va is h b g =
     let w = blocks-within s (len c) is b in
     let w' : All (λ i. i * s + s ≤ length (slots_of c)) is = λ j x k. let y = w j x k in let z = slots-length c in omega arith in
     let bl = block-lengths (slots_of c) s is w' in
-    let es = g.slots ∙ chosen-pieces (slots_of c) (λ i. i * s) (λ i. s) is w' in
-    let l : len d ≡ length is * s = sym (slots-length d) ∙ ap length es ∙ blocks-length (λ i. cut (slots_of c) (i * s) s) s is bl in
+    let es = g.slots ∙ selected-pieces (slots_of c) (λ i. i * s) (λ i. s) is w' in
+    let l : len d ≡ length is * s = sym (slots-length d) ∙ ap length es ∙ blocks-length (λ i. sublist (slots_of c) (i * s) s) s is bl in
     let n : len d / s ≡ length is = ap (λ z. z / s) l ∙ mul-div_cancel (length is) f.sized in
     let m : len d % s ≡ 0 = ap (λ z. z % s) l ∙ product-exact (length is) s in
     let v = taken_validity va is in
@@ -178,23 +178,23 @@ sized-core t c d va is h b g =
           let i = get_or is j 0 in
           let r : j < len (fixed_size_list t d v) = omega arith in
           fixed_size_list-slot t d v j r
-          ∙ mask-same va v is j (slots.list (seal (cut (slots_of d) (j * s) s))) (slots.list (seal (cut (slots_of c) (i * s) s))) refl k
-          (λ _. ap (λ ss. slots.list (seal (cut ss (j * s) s))) es ∙ ap (λ ss. slots.list (seal ss)) (block-cut (λ p. cut (slots_of c) (p * s) s) s is j bl k))
+          ∙ mask-same va v is j (slots.list (seal (sublist (slots_of d) (j * s) s))) (slots.list (seal (sublist (slots_of c) (i * s) s))) refl k
+          (λ _. ap (λ ss. slots.list (seal (sublist ss (j * s) s))) es ∙ ap (λ ss. slots.list (seal ss)) (block-cut (λ p. sublist (slots_of c) (p * s) s) s is j bl k))
           ∙ sym (fixed_size_list-slot t c va i (b j 0 k)))
           refl,
     )
 
 pub sized-taken : (a : Layout) (u : TypeTree) (s : ℕ) (c d : Layout) (va v : Validity) (is ps : List ℕ) → TopFits a → a ≡ fixed_size_list (layout_type a) c va → AreBelow is (len a)
-    → u ≡ layout_type a → s ≡ size_of (layout_type a) → v ≡ taken_validity va is → ps ≡ block_places s is → IsTaken c ps d
+    → u ≡ layout_type a → s ≡ size_of (layout_type a) → v ≡ taken_validity va is → ps ≡ block_indices s is → IsTaken c ps d
     → Fits (fixed_size_list u d v) × IsTaken a is (fixed_size_list u d v)
 sized-taken a u s c d va v is ps h e b p q r k g =
     let t = layout_type a in
-    let m = k ∙ ap (λ z. block_places z is) q in
+    let m = k ∙ ap (λ z. block_indices z is) q in
     let x = sized-core t c d va is (subst TopFits e h) (subst (λ z. AreBelow is (len z)) e b) (subst (λ z. IsTaken c z d) m g) in
     let y : sized_at t d va is ≡ fixed_size_list u d v = cc in
     subst (λ z. Fits z × IsTaken a is z) y (subst (λ z. Fits (sized_at t d va is) × IsTaken z is (sized_at t d va is)) (sym e) x)
 
--- byte strings of one size
+-- fixed-size binary
 abbrev pub fixed_at : TypeTree → List ℕ → Validity → List ℕ → Layout
 fixed_at t bs va is = fixed_size_binary t (blocks_at bs (size_of t) is) (taken_validity va is)
 
@@ -205,7 +205,7 @@ fixed-core t bs va is h b =
     let f = fixed_size_binary-facts t bs va h in
     let w = blocks-within s (length bs) is b in
     let bl = block-lengths bs s is w in
-    let l = blocks-length (λ i. cut bs (i * s) s) s is bl in
+    let l = blocks-length (λ i. sublist bs (i * s) s) s is bl in
     let n : length (blocks_at bs s is) / s ≡ length is = ap (λ z. z / s) l ∙ mul-div_cancel (length is) f.sized in
     let m : length (blocks_at bs s is) % s ≡ 0 = ap (λ z. z % s) l ∙ product-exact (length is) s in
     let v = taken_validity va is in
@@ -214,8 +214,8 @@ fixed-core t bs va is h b =
       taken (fixed_size_binary t bs va) (fixed_at t bs va is) is b n
           (λ j k.
           let i = get_or is j 0 in
-          mask-same va v is j (slots.bytes (cut (blocks_at bs s is) (j * s) s)) (slots.bytes (cut bs (i * s) s)) refl k
-          (λ _. ap slots.bytes (block-cut (λ p. cut bs (p * s) s) s is j bl k)))
+          mask-same va v is j (slots.bytes (sublist (blocks_at bs s is) (j * s) s)) (slots.bytes (sublist bs (i * s) s)) refl k
+          (λ _. ap slots.bytes (block-cut (λ p. sublist bs (p * s) s) s is j bl k)))
           refl,
     )
 
@@ -229,7 +229,7 @@ fixed-taken a u s bs cs va v is h e b p q k r =
     let y : fixed_at t bs va is ≡ fixed_size_binary u cs v = cc in
     subst (λ z. Fits z × IsTaken a is z) y (subst (λ z. Fits (fixed_at t bs va is) × IsTaken z is (fixed_at t bs va is)) (sym e) x)
 
--- records
+-- structs
 pub each-reaches : (cs : Layouts) (n : ℕ) (is : List ℕ) → EachLen cs n → AreBelow is n → EachReaches cs is
 each-reaches no_layouts n is h b = tt
 each-reaches (more_layouts c cs) n is h b = (subst (AreBelow is) (sym h.0) b, each-reaches cs n is h.1 b)

@@ -1,4 +1,4 @@
--- Pieces of a list one after another, and where each lies.
+-- Consecutive pieces of a list, and their positions.
 use Rattle.std.specs.Prelude.{List, [], ◌∷◌, ◌++◌, map, length, get_or, if◌then◌else◌}
 use Rattle.std.specs.List.{All, flat_map, range_with_len, sum_by}
 use Rattle.std.proofs.Common.{◌≡◌, ℕ, Bool, true, false, sum, zero, suc, ◌+◌, ◌-◌, ◌*◌, ◌<◌, ◌≤◌, take, drop, refl, ap, sym, ◌∙◌, arith, append-nil, length-append}
@@ -7,24 +7,24 @@ use Rattle.std.proofs.lemmas.Grind.{flat_map-append}
 use Rattle.std.proofs.lemmas.List.Concat.{flat_map-cons}
 use Rattle.std.proofs.lemmas.List.Elements.{All-nil, All-cons, All-append}
 use Rattle.std.proofs.lemmas.List.Sums.{sum-map, sum_by-cons, sum_by_more, sum_by_more_le}
-use Rattle.nest_memory.specs.Cut.{cut}
+use Rattle.nest_memory.specs.Sublist.{sublist}
 use Rattle.nest_memory.specs.Rising.{ends_from, last_of, largest_offset}
-use Rattle.nest_model.specs.Chosen.{chosen}
-use Rattle.nest_model.specs.ChosenLaws.{chosen-range, chosen-append}
+use Rattle.nest_model.specs.Selected.{selected}
+use Rattle.nest_model.specs.SelectedLaws.{selected-range, selected-append}
 use Rattle.nest_model.specs.Part.{Validity, valid_at, begin, extent, count_rows}
 use Rattle.nest_model.specs.Array.{AreOffsets}
 use Rattle.nest_model.specs.Reads.{extent-fits}
 use Rattle.nest_model.specs.Runs.{length-cut}
 use Rattle.nest_model.specs.Slot.{Slot}
-use Rattle.nest_take.specs.Places.{AreBelow, count_at, items_at}
+use Rattle.nest_take.specs.Indices.{AreBelow, count_at, items_at}
 use Rattle.nest_take.specs.Limits.{PassesOffsets}
 
--- what holds of each place holds of the first one, and of each after it
+-- a property of each index is one of the first and of the rest
 pub first-place : (P : ℕ → Type 0) (i : ℕ) (is : List ℕ) → All P (i ∷ is) → P i
 first-place P i is h = h 0 0 (omega arith)
 
-pub later-places : (P : ℕ → Type 0) (i : ℕ) (is : List ℕ) → All P (i ∷ is) → All P is
-later-places P i is h = λ j d l. h (suc j) d (omega arith)
+pub later-indices : (P : ℕ → Type 0) (i : ℕ) (is : List ℕ) → All P (i ∷ is) → All P is
+later-indices P i is h = λ j d l. h (suc j) d (omega arith)
 
 -- the offsets of pieces of these lengths
 abbrev pub ends : (ℕ → ℕ) → List ℕ → List ℕ
@@ -35,7 +35,7 @@ begin-from n is a zero h = omega arith
 begin-from n [] a (suc j) h = absurd (omega arith)
 begin-from n (i ∷ is) a (suc j) h = omega (arith, begin-from n is (a + n i) j (omega arith), sum_by-cons n i (take j is))
 
--- where piece j begins, and how long it is
+-- the start and the length of piece j
 pub piece-begin : (n : ℕ → ℕ) (is : List ℕ) (j : ℕ) → j ≤ length is → begin (ends n is) j ≡ sum_by n (take j is)
 piece-begin n is j h = omega (arith, begin-from n is 0 j h)
 
@@ -71,7 +71,7 @@ from-more n (i ∷ is) a (suc k) h =
     let e : a + n i + sum_by n (take k is) + n (get_or is k 0) ≡ a + sum_by n (take (suc k) (i ∷ is)) + n (get_or is k 0) = omega (arith, s) in
     ap (◌∷◌ (a + n i)) (from-more n is (a + n i) k (omega arith) ∙ ap (λ z. ends_from (a + n i) (map n (take k is)) ++ z ∷ []) e)
 
--- one piece more ends where it is added to the last offset, and no later than all pieces
+-- one more piece ends at its length after the last offset, and no later than all pieces
 pub ends-more : (n : ℕ → ℕ) (is es : List ℕ) (k : ℕ) → k < length is → es ≡ ends n (take k is) → es ++ (last_of es + n (get_or is k 0)) ∷ [] ≡ ends n (take (k + 1) is)
 ends-more n is es k h e =
     let l = ap last_of e ∙ ends-last n (take k is) in
@@ -85,7 +85,7 @@ ends-more n is es k h e =
 pub ends-within : (n : ℕ → ℕ) (is es : List ℕ) (k : ℕ) → k < length is → es ≡ ends n (take k is) → last_of es + n (get_or is k 0) ≤ sum_by n is
 ends-within n is es k h e = omega (arith, ap last_of e ∙ ends-last n (take k is), sum_by_more_le n is k 0 h)
 
--- piece j lies after those before it
+-- piece j follows the earlier ones
 take-piece : {A : Type 0} (xs ys : List A) (n : ℕ) → length xs ≡ n → take n (xs ++ ys) ≡ xs
 take-piece [] ys zero h = refl
 take-piece [] ys (suc n) h = absurd (omega arith)
@@ -101,14 +101,14 @@ drop-piece (x ∷ xs) ys (suc n) k h =
     ap (λ z. drop z (x ∷ (xs ++ ys))) e ∙ drop-piece xs ys n k (omega arith)
 
 pub piece-cut : {A : Type 0} (f : ℕ → List A) (n : ℕ → ℕ) (is : List ℕ) (j : ℕ) → All (λ i. length (f i) ≡ n i) is → j < length is
-    → cut (flat_map f is) (sum_by n (take j is)) (n (get_or is j 0)) ≡ f (get_or is j 0)
+    → sublist (flat_map f is) (sum_by n (take j is)) (n (get_or is j 0)) ≡ f (get_or is j 0)
 piece-cut f n [] j h k = absurd (omega arith)
 piece-cut f n (i ∷ is) zero h k = take-piece (f i) (flat_map f is) (n i) (first-place (λ p. length (f p) ≡ n p) i is h)
 piece-cut f n (i ∷ is) (suc j) h k =
     let l = first-place (λ p. length (f p) ≡ n p) i is h in
     ap (λ s. take (n (get_or is j 0)) (drop s (f i ++ flat_map f is))) (sum_by-cons n i (take j is))
     ∙ ap (take (n (get_or is j 0))) (drop-piece (f i) (flat_map f is) (n i) (sum_by n (take j is)) l)
-    ∙ piece-cut f n is j (later-places (λ p. length (f p) ≡ n p) i is h) (omega arith)
+    ∙ piece-cut f n is j (later-indices (λ p. length (f p) ≡ n p) i is h) (omega arith)
 
 -- pieces of one length
 same-sum : (n : ℕ) (is : List ℕ) (j : ℕ) → j ≤ length is → sum_by (λ i. n) (take j is) ≡ j * n
@@ -117,28 +117,28 @@ same-sum n [] (suc j) h = absurd (omega arith)
 same-sum n (i ∷ is) (suc j) h = omega (arith, sum_by-cons (λ p. n) i (take j is), same-sum n is j (omega arith))
 
 pub block-cut : {A : Type 0} (f : ℕ → List A) (n : ℕ) (is : List ℕ) (j : ℕ) → All (λ i. length (f i) ≡ n) is → j < length is
-    → cut (flat_map f is) (j * n) n ≡ f (get_or is j 0)
-block-cut f n is j h k = ap (λ s. cut (flat_map f is) s n) (sym (same-sum n is j (omega arith))) ∙ piece-cut f (λ i. n) is j h k
+    → sublist (flat_map f is) (j * n) n ≡ f (get_or is j 0)
+block-cut f n is j h k = ap (λ s. sublist (flat_map f is) s n) (sym (same-sum n is j (omega arith))) ∙ piece-cut f (λ i. n) is j h k
 
--- how long all pieces are
+-- the length of all pieces
 pub pieces-length : {A : Type 0} (f : ℕ → List A) (n : ℕ → ℕ) (is : List ℕ) → All (λ i. length (f i) ≡ n i) is → length (flat_map f is) ≡ sum_by n is
 pieces-length f n [] h = refl
 pieces-length f n (i ∷ is) h =
-    omega (arith, length-append (f i) (flat_map f is), first-place (λ p. length (f p) ≡ n p) i is h, pieces-length f n is (later-places (λ p. length (f p) ≡ n p) i is h), sum_by-cons n i is)
+    omega (arith, length-append (f i) (flat_map f is), first-place (λ p. length (f p) ≡ n p) i is h, pieces-length f n is (later-indices (λ p. length (f p) ≡ n p) i is h), sum_by-cons n i is)
 
 pub blocks-length : {A : Type 0} (f : ℕ → List A) (n : ℕ) (is : List ℕ) → All (λ i. length (f i) ≡ n) is → length (flat_map f is) ≡ length is * n
 blocks-length f n is h = pieces-length f (λ i. n) is h ∙ ap (sum_by (λ i. n)) (sym (take-whole is)) ∙ same-sum n is (length is) (omega arith)
 
--- slots at the places of ranges are cuts one after another
-pub chosen-pieces : (ss : List Slot) (b n : ℕ → ℕ) (is : List ℕ) → All (λ i. b i + n i ≤ length ss) is
-    → chosen ss (flat_map (λ i. range_with_len (b i) (n i)) is) ≡ flat_map (λ i. cut ss (b i) (n i)) is
-chosen-pieces ss b n [] h = refl
-chosen-pieces ss b n (i ∷ is) h =
-    let e = chosen-range ss (b i) (n i) (first-place (λ p. b p + n p ≤ length ss) i is h) in
-    let d = chosen-pieces ss b n is (later-places (λ p. b p + n p ≤ length ss) i is h) in
-    chosen-append ss (range_with_len (b i) (n i)) (flat_map (λ p. range_with_len (b p) (n p)) is) ∙ ap (λ x. x ++ chosen ss (flat_map (λ p. range_with_len (b p) (n p)) is)) e ∙ ap (◌++◌ (cut ss (b i) (n i))) d
+-- slots at ranges of indices are consecutive slices
+pub selected-pieces : (ss : List Slot) (b n : ℕ → ℕ) (is : List ℕ) → All (λ i. b i + n i ≤ length ss) is
+    → selected ss (flat_map (λ i. range_with_len (b i) (n i)) is) ≡ flat_map (λ i. sublist ss (b i) (n i)) is
+selected-pieces ss b n [] h = refl
+selected-pieces ss b n (i ∷ is) h =
+    let e = selected-range ss (b i) (n i) (first-place (λ p. b p + n p ≤ length ss) i is h) in
+    let d = selected-pieces ss b n is (later-indices (λ p. b p + n p ≤ length ss) i is h) in
+    selected-append ss (range_with_len (b i) (n i)) (flat_map (λ p. range_with_len (b p) (n p)) is) ∙ ap (λ x. x ++ selected ss (flat_map (λ p. range_with_len (b p) (n p)) is)) e ∙ ap (◌++◌ (sublist ss (b i) (n i))) d
 
--- and those places are there
+-- and those indices are in bounds
 range-below : (m b n : ℕ) → b + n ≤ m → AreBelow (range_with_len b n) m
 range-below m b zero h = All-nil (λ p. p < m)
 range-below m b (suc n) h = All-cons (λ p. p < m) b (range_with_len (b + 1) n) (omega arith) (range-below m (b + 1) n (omega arith))
@@ -148,7 +148,7 @@ pieces-below m b n [] h = All-nil (λ p. p < m)
 pieces-below m b n (i ∷ is) h =
     All-append (λ p. p < m) (range_with_len (b i) (n i)) (flat_map (λ p. range_with_len (b p) (n p)) is)
     (range-below m (b i) (n i) (first-place (λ p. b p + n p ≤ m) i is h))
-    (pieces-below m b n is (later-places (λ p. b p + n p ≤ m) i is h))
+    (pieces-below m b n is (later-indices (λ p. b p + n p ≤ m) i is h))
 
 -- a range, one number longer
 pub range_more : (b n : ℕ) → range_with_len b (n + 1) ≡ range_with_len b n ++ (b + n) ∷ []
@@ -166,7 +166,7 @@ passes-offsets large m os va is ls es e f g h =
     let b = ap sum g in
     omega (arith, sum-map (count_at os va) is)
 
--- rows between offsets that end within m items have their items there
+-- rows between offsets up to m have their items in the first m
 count-le : (b : Bool) (n : ℕ) → (if b then n else 0) ≤ n
 count-le true n = omega arith
 count-le false n = omega arith
@@ -189,31 +189,31 @@ one-more f is k h =
     ap (λ j. flat_map f (take j is)) e ∙ ap (flat_map f) (take-suc is k 0 h) ∙ flat_map-append f (take k is) (x ∷ [])
     ∙ ap (λ w. flat_map f (take k is) ++ w) (flat_map-cons f x [] ∙ append-nil (f x))
 
--- the items of the row at place j, among the items of the taken rows
+-- the items of the row at index j, among the items of the taken rows
 pub row-items : {A : Type 0} (xs : List A) (os : List ℕ) (va : Validity) (is : List ℕ) (j : ℕ) → All (λ i. begin os i + count_at os va i ≤ length xs) is → j < length is
-    → cut (items_at xs os va is) (begin (ends (count_at os va) is) j) (extent (ends (count_at os va) is) j) ≡ cut xs (begin os (get_or is j 0)) (count_at os va (get_or is j 0))
+    → sublist (items_at xs os va is) (begin (ends (count_at os va) is) j) (extent (ends (count_at os va) is) j) ≡ sublist xs (begin os (get_or is j 0)) (count_at os va (get_or is j 0))
 row-items xs os va is j h k =
     let n = count_at os va in
-    let f = λ (i : ℕ). cut xs (begin os i) (n i) in
-    ap (λ b. cut (items_at xs os va is) b (extent (ends n is) j)) (piece-begin n is j (omega arith))
-    ∙ ap (cut (items_at xs os va is) (sum_by n (take j is))) (piece-extent n is j k)
+    let f = λ (i : ℕ). sublist xs (begin os i) (n i) in
+    ap (λ b. sublist (items_at xs os va is) b (extent (ends n is) j)) (piece-begin n is j (omega arith))
+    ∙ ap (sublist (items_at xs os va is) (sum_by n (take j is))) (piece-extent n is j k)
     ∙ piece-cut f n is j (λ p d l. length-cut xs (begin os (get_or is p d)) (n (get_or is p d)) (h p d l)) k
 
--- the items of one row more
+-- the items of one more row
 pub items-more : {A : Type 0} (xs : List A) (os : List ℕ) (va : Validity) (is : List ℕ) (k : ℕ) (ys zs more : List A) → k < length is → ys ≡ items_at xs os va (take k is)
-    → more ≡ ys ++ zs → zs ≡ cut xs (begin os (get_or is k 0)) (count_at os va (get_or is k 0)) → more ≡ items_at xs os va (take (k + 1) is)
+    → more ≡ ys ++ zs → zs ≡ sublist xs (begin os (get_or is k 0)) (count_at os va (get_or is k 0)) → more ≡ items_at xs os va (take (k + 1) is)
 items-more xs os va is k ys zs more h e f g =
     let n = count_at os va in
-    f ∙ ap (λ w. w ++ zs) e ∙ ap (λ w. items_at xs os va (take k is) ++ w) g ∙ sym (one-more (λ i. cut xs (begin os i) (n i)) is k h)
+    f ∙ ap (λ w. w ++ zs) e ∙ ap (λ w. items_at xs os va (take k is) ++ w) g ∙ sym (one-more (λ i. sublist xs (begin os i) (n i)) is k h)
 
--- as many items as their counts say
+-- the number of items is the sum of their counts
 pub items-length : {A : Type 0} (xs : List A) (os : List ℕ) (va : Validity) (is : List ℕ) → All (λ i. begin os i + count_at os va i ≤ length xs) is
     → length (items_at xs os va is) ≡ sum_by (count_at os va) is
 items-length xs os va is h =
     let n = count_at os va in
-    pieces-length (λ i. cut xs (begin os i) (n i)) n is (λ p d l. length-cut xs (begin os (get_or is p d)) (n (get_or is p d)) (h p d l))
+    pieces-length (λ i. sublist xs (begin os i) (n i)) n is (λ p d l. length-cut xs (begin os (get_or is p d)) (n (get_or is p d)) (h p d l))
 
--- the same offsets and validity give the same
+-- equal offsets and validity have equal items
 pub ends-same : (os ns : List ℕ) (va v : Validity) (is : List ℕ) → os ≡ ns → va ≡ v → ends (count_at os va) is ≡ ends (count_at ns v) is
 ends-same os ns va v is e f = ap (λ z. ends (count_at z va) is) e ∙ ap (λ z. ends (count_at ns z) is) f
 

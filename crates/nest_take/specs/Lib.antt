@@ -1,6 +1,6 @@
 pub mod Examples
 pub mod Limits
-pub mod Places
+pub mod Indices
 pub mod Taken
 pub mod TakenKeys
 pub mod TakenLaws

@@ -1,4 +1,4 @@
-//! Arrays of any kind.
+//! `take` for arrays of any type.
 ghost use Rattle.std.specs.Prelude.{IfErr, IfOk};
 ghost use Rattle.nest_array.specs.Seen.{layout_of};
 ghost use Rattle.nest_flat.specs.AnyPrimitive.{primitive_layout};
@@ -16,69 +16,72 @@ use nest_flat::utf8::Utf8Array;
 use nest_memory::error::Error;
 use std::alloc::Global;
 
-/// The slots of an array at some places, in that order, under its data type. A place may stand there more than once.
+/// Returns the slots of an array at the given indices, in that order. An index may occur more than once.
+///
+/// The result has the data type of `array`.
 ///
 /// # Errors
-/// `Overflow` where the items, bytes or picks of the rows that are taken, here or in an array below, are more than an
-/// offset can name or a length can be; a null row of lists, maps, byte strings or texts has none. They are counted before
-/// anything is made of them. Else `Memory`.
+/// `Overflow` where the selected items, bytes or picks, at some level, are more than an offset or a length can hold.
+/// A null list, map, binary or string has none. They are counted before they are copied.
+///
+/// `Memory` where an allocation fails.
 #[cycle(take)]
-pub fn take(alloc: Global, array: &AnyArray, indexes: &[usize]) -> Result<AnyArray, Error>
-    requires { AreBelow indexes.now (len (layout_of array.now)) }
-    ensures ok { IfOk result (λ a. IsTaken (layout_of array.now) indexes.now (layout_of a)) }
-    ensures err { IfErr result (λ e. RefusesTake e (layout_of array.now) indexes.now) }
+pub fn take(alloc: Global, array: &AnyArray, indices: &[usize]) -> Result<AnyArray, Error>
+    requires { AreBelow indices.now (len (layout_of array.now)) }
+    ensures ok { IfOk result (λ a. IsTaken (layout_of array.now) indices.now (layout_of a)) }
+    ensures err { IfErr result (λ e. RefusesTake e (layout_of array.now) indices.now) }
 {
     match array {
-        AnyArray::Null(array) => null::take(alloc, array, indexes),
-        AnyArray::Boolean(array) => take_truths(alloc, array, indexes),
-        AnyArray::Primitive(array) => take_natives(alloc, array, indexes),
-        AnyArray::Binary(array) => take_bytes(alloc, array, indexes),
-        AnyArray::LargeBinary(array) => take_large_bytes(alloc, array, indexes),
-        AnyArray::Utf8(array) => take_texts(alloc, array, indexes),
-        AnyArray::LargeUtf8(array) => take_large_texts(alloc, array, indexes),
-        AnyArray::FixedSizeBinary(array) => fixed_size_binary::take(alloc, array, indexes),
-        AnyArray::FixedSizeList(array) => fixed_size_list::take_lists(alloc, array, indexes),
-        AnyArray::List(array) => list::take_lists(alloc, array, indexes),
-        AnyArray::LargeList(array) => list::take_large_lists(alloc, array, indexes),
-        AnyArray::Struct(array) => struct_::take_records(alloc, array, indexes),
-        AnyArray::Map(array) => map::take_maps(alloc, array, indexes),
-        AnyArray::Union(array) => union::take_picks(alloc, array, indexes),
-        AnyArray::Dictionary(array) => dictionary::take_keyed(alloc, array, indexes),
+        AnyArray::Null(array) => null::take(alloc, array, indices),
+        AnyArray::Boolean(array) => take_booleans(alloc, array, indices),
+        AnyArray::Primitive(array) => take_natives(alloc, array, indices),
+        AnyArray::Binary(array) => take_bytes(alloc, array, indices),
+        AnyArray::LargeBinary(array) => take_large_bytes(alloc, array, indices),
+        AnyArray::Utf8(array) => take_texts(alloc, array, indices),
+        AnyArray::LargeUtf8(array) => take_large_texts(alloc, array, indices),
+        AnyArray::FixedSizeBinary(array) => fixed_size_binary::take(alloc, array, indices),
+        AnyArray::FixedSizeList(array) => fixed_size_list::take_lists(alloc, array, indices),
+        AnyArray::List(array) => list::take_lists(alloc, array, indices),
+        AnyArray::LargeList(array) => list::take_large_lists(alloc, array, indices),
+        AnyArray::Struct(array) => struct_::take_records(alloc, array, indices),
+        AnyArray::Map(array) => map::take_maps(alloc, array, indices),
+        AnyArray::Union(array) => union::take_picks(alloc, array, indices),
+        AnyArray::Dictionary(array) => dictionary::take_keyed(alloc, array, indices),
     }
 }
 
-// Flat kinds, each out of line: else the room for all of them would be cleared for each.
+// One function for each flat type, not inlined: otherwise each call clears the stack space of all of them.
 #[inline(never)]
-fn take_truths(alloc: Global, array: &BooleanArray, places: &[usize]) -> Result<AnyArray, Error>
-    requires { AreBelow places.now (len array.now) }
-    ensures ok { IfOk result (λ a. IsTaken array.now places.now (layout_of a)) }
-    ensures err { IfErr result (λ e. RefusesTake e array.now places.now) }
+fn take_booleans(alloc: Global, array: &BooleanArray, indices: &[usize]) -> Result<AnyArray, Error>
+    requires { AreBelow indices.now (len array.now) }
+    ensures ok { IfOk result (λ a. IsTaken array.now indices.now (layout_of a)) }
+    ensures err { IfErr result (λ e. RefusesTake e array.now indices.now) }
 {
-    match boolean::take(alloc, array, places) {
+    match boolean::take(alloc, array, indices) {
         Ok(array) => Ok(AnyArray::Boolean(array)),
         Err(error) => Err(error),
     }
 }
 
 #[inline(never)]
-fn take_natives(alloc: Global, array: &AnyPrimitive, places: &[usize]) -> Result<AnyArray, Error>
-    requires { AreBelow places.now (len (primitive_layout array.now)) }
-    ensures ok { IfOk result (λ a. IsTaken (primitive_layout array.now) places.now (layout_of a)) }
-    ensures err { IfErr result (λ e. RefusesTake e (primitive_layout array.now) places.now) }
+fn take_natives(alloc: Global, array: &AnyPrimitive, indices: &[usize]) -> Result<AnyArray, Error>
+    requires { AreBelow indices.now (len (primitive_layout array.now)) }
+    ensures ok { IfOk result (λ a. IsTaken (primitive_layout array.now) indices.now (layout_of a)) }
+    ensures err { IfErr result (λ e. RefusesTake e (primitive_layout array.now) indices.now) }
 {
-    match primitive::take(alloc, array, places) {
+    match primitive::take(alloc, array, indices) {
         Ok(array) => Ok(AnyArray::Primitive(array)),
         Err(error) => Err(error),
     }
 }
 
 #[inline(never)]
-fn take_bytes(alloc: Global, array: &BinaryArray<i32>, places: &[usize]) -> Result<AnyArray, Error>
-    requires { AreBelow places.now (len array.now) }
-    ensures ok { IfOk result (λ a. IsTaken array.now places.now (layout_of a)) }
-    ensures err { IfErr result (λ e. RefusesTake e array.now places.now) }
+fn take_bytes(alloc: Global, array: &BinaryArray<i32>, indices: &[usize]) -> Result<AnyArray, Error>
+    requires { AreBelow indices.now (len array.now) }
+    ensures ok { IfOk result (λ a. IsTaken array.now indices.now (layout_of a)) }
+    ensures err { IfErr result (λ e. RefusesTake e array.now indices.now) }
 {
-    match binary::take(alloc, array, places) {
+    match binary::take(alloc, array, indices) {
         Ok(array) => Ok(AnyArray::Binary(array)),
         Err(error) => Err(error),
     }
@@ -88,25 +91,25 @@ fn take_bytes(alloc: Global, array: &BinaryArray<i32>, places: &[usize]) -> Resu
 fn take_large_bytes(
     alloc: Global,
     array: &BinaryArray<i64>,
-    places: &[usize],
+    indices: &[usize],
 ) -> Result<AnyArray, Error>
-    requires { AreBelow places.now (len array.now) }
-    ensures ok { IfOk result (λ a. IsTaken array.now places.now (layout_of a)) }
-    ensures err { IfErr result (λ e. RefusesTake e array.now places.now) }
+    requires { AreBelow indices.now (len array.now) }
+    ensures ok { IfOk result (λ a. IsTaken array.now indices.now (layout_of a)) }
+    ensures err { IfErr result (λ e. RefusesTake e array.now indices.now) }
 {
-    match binary::take(alloc, array, places) {
+    match binary::take(alloc, array, indices) {
         Ok(array) => Ok(AnyArray::LargeBinary(array)),
         Err(error) => Err(error),
     }
 }
 
 #[inline(never)]
-fn take_texts(alloc: Global, array: &Utf8Array<i32>, places: &[usize]) -> Result<AnyArray, Error>
-    requires { AreBelow places.now (len array.now) }
-    ensures ok { IfOk result (λ a. IsTaken array.now places.now (layout_of a)) }
-    ensures err { IfErr result (λ e. RefusesTake e array.now places.now) }
+fn take_texts(alloc: Global, array: &Utf8Array<i32>, indices: &[usize]) -> Result<AnyArray, Error>
+    requires { AreBelow indices.now (len array.now) }
+    ensures ok { IfOk result (λ a. IsTaken array.now indices.now (layout_of a)) }
+    ensures err { IfErr result (λ e. RefusesTake e array.now indices.now) }
 {
-    match utf8::take(alloc, array, places) {
+    match utf8::take(alloc, array, indices) {
         Ok(array) => Ok(AnyArray::Utf8(array)),
         Err(error) => Err(error),
     }
@@ -116,13 +119,13 @@ fn take_texts(alloc: Global, array: &Utf8Array<i32>, places: &[usize]) -> Result
 fn take_large_texts(
     alloc: Global,
     array: &Utf8Array<i64>,
-    places: &[usize],
+    indices: &[usize],
 ) -> Result<AnyArray, Error>
-    requires { AreBelow places.now (len array.now) }
-    ensures ok { IfOk result (λ a. IsTaken array.now places.now (layout_of a)) }
-    ensures err { IfErr result (λ e. RefusesTake e array.now places.now) }
+    requires { AreBelow indices.now (len array.now) }
+    ensures ok { IfOk result (λ a. IsTaken array.now indices.now (layout_of a)) }
+    ensures err { IfErr result (λ e. RefusesTake e array.now indices.now) }
 {
-    match utf8::take(alloc, array, places) {
+    match utf8::take(alloc, array, indices) {
         Ok(array) => Ok(AnyArray::LargeUtf8(array)),
         Err(error) => Err(error),
     }

@@ -1,4 +1,4 @@
-//! Lists of one size.
+//! `take` for fixed-size list arrays.
 ghost use Rattle.std.specs.Prelude.{◌≡◌, IfErr, IfOk, IsOkUnless, alloc_error};
 ghost use Rattle.nest_model.specs.Fits.{Fits};
 ghost use Rattle.nest_model.specs.Layout as layouts;
@@ -6,40 +6,40 @@ ghost use Rattle.nest_array.specs.Seen.{layout_of};
 ghost use Rattle.nest_take.specs.Words.{AreBelow, IsTaken, Memory, RefusesTake, len, type_of};
 
 use crate::any::take;
-use crate::places;
+use crate::indices;
 use nest_array::{AnyArray, FixedSizeListArray};
 use nest_memory::bitmap::immutable::Bitmap;
 use nest_memory::datatypes::DataType;
 use nest_memory::error::Error;
 use std::alloc::Global;
 
-/// The slots at some places. A null row takes its items as they are.
+/// Takes the slots at `indices`. The items under a null are taken too.
 #[cycle(take)]
 #[inline(never)]
 pub(crate) fn take_lists(
     alloc: Global,
     array: &FixedSizeListArray,
-    places: &[usize],
+    indices: &[usize],
 ) -> Result<AnyArray, Error>
-    requires { AreBelow places.now (len array.now) }
-    ensures ok { IfOk result (λ a. IsTaken array.now places.now (layout_of a)) }
-    ensures err { IfErr result (λ e. RefusesTake e array.now places.now) }
+    requires { AreBelow indices.now (len array.now) }
+    ensures ok { IfOk result (λ a. IsTaken array.now indices.now (layout_of a)) }
+    ensures err { IfErr result (λ e. RefusesTake e array.now indices.now) }
 {
     array.known();
     let size = array.size();
     let children = array.values();
-    // A length that is held: so no place in it passes one.
+    // The child's length is a `usize`, so the index of an item cannot overflow.
     let _ = children.len();
-    let _ = places::count_blocks(size, places)?;
-    let items = places::blocks(alloc, size, places)?;
-    let validity = places::validity_at(alloc, array.validity(), places)?;
+    let _ = indices::count_blocks(size, indices)?;
+    let items = indices::blocks(alloc, size, indices)?;
+    let validity = indices::validity_at(alloc, array.validity(), indices)?;
     match take(alloc, children, &items) {
         Ok(values) => array_of(alloc, array.data_type(), values, validity),
         Err(error) => Err(error),
     }
 }
 
-/// The array of these parts.
+/// Returns the array with these parts.
 fn array_of(
     alloc: Global,
     data_type: &DataType,

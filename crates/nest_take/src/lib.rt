@@ -1,7 +1,6 @@
-//! Slots of arrays of any nesting: those at given places, and those where a mask is true.
+//! Selection of slots of arrays of any nesting: [`take`] by indices, [`filter`] by a Boolean mask.
 //!
-//! A statement whose value is never read (`let _len = ..`, `x.known()`) shows the prover a fact that the next step needs, and does
-//! nothing when it runs.
+//! A statement with an unused value (`let _len = ..`, `x.known()`) states a fact for the prover and does nothing else.
 #![tactic(auto)]
 
 mod any;
@@ -11,12 +10,12 @@ mod dictionary;
 pub mod examples;
 mod fixed_size_binary;
 mod fixed_size_list;
+mod indices;
 pub mod laws;
 mod list;
 mod map;
 mod mask;
 mod null;
-mod places;
 mod primitive;
 mod spans;
 mod struct_;

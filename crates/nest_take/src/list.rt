@@ -1,4 +1,4 @@
-//! Lists, by offsets of both widths.
+//! `take` for list arrays with 32-bit and 64-bit offsets.
 ghost use Rattle.std.specs.Prelude.{◌≡◌, IfErr, IfOk, IsOkUnless, alloc_error, false, true};
 ghost use Rattle.nest_model.specs.Fits.{Fits};
 ghost use Rattle.nest_model.specs.Layout as layouts;
@@ -14,21 +14,21 @@ use nest_memory::error::Error;
 use nest_memory::offsets::OffsetsBuffer;
 use std::alloc::Global;
 
-/// The slots at some places. A null row takes no item.
+/// Takes the slots at `indices`. A null row has no items.
 #[cycle(take)]
 #[inline(never)]
 pub(crate) fn take_lists(
     alloc: Global,
     array: &ListArray,
-    places: &[usize],
+    indices: &[usize],
 ) -> Result<AnyArray, Error>
-    requires { AreBelow places.now (len array.now) }
-    ensures ok { IfOk result (λ a. IsTaken array.now places.now (layout_of a)) }
-    ensures err { IfErr result (λ e. RefusesTake e array.now places.now) }
+    requires { AreBelow indices.now (len array.now) }
+    ensures ok { IfOk result (λ a. IsTaken array.now indices.now (layout_of a)) }
+    ensures err { IfErr result (λ e. RefusesTake e array.now indices.now) }
 {
     array.known();
     array.offsets().known();
-    let rows = spans::take_rows(alloc, array.offsets(), array.validity(), places)?;
+    let rows = spans::take_rows(alloc, array.offsets(), array.validity(), indices)?;
     rows.offsets.known();
     match take(alloc, array.values(), &rows.items) {
         Ok(values) => lists_of(
@@ -42,7 +42,7 @@ pub(crate) fn take_lists(
     }
 }
 
-/// The array of these parts.
+/// Returns the array with these parts.
 fn lists_of(
     alloc: Global,
     data_type: &DataType,
@@ -68,21 +68,21 @@ fn lists_of(
     }
 }
 
-/// The slots at some places. A null row takes no item.
+/// Takes the slots at `indices`. A null row has no items.
 #[cycle(take)]
 #[inline(never)]
 pub(crate) fn take_large_lists(
     alloc: Global,
     array: &LargeListArray,
-    places: &[usize],
+    indices: &[usize],
 ) -> Result<AnyArray, Error>
-    requires { AreBelow places.now (len array.now) }
-    ensures ok { IfOk result (λ a. IsTaken array.now places.now (layout_of a)) }
-    ensures err { IfErr result (λ e. RefusesTake e array.now places.now) }
+    requires { AreBelow indices.now (len array.now) }
+    ensures ok { IfOk result (λ a. IsTaken array.now indices.now (layout_of a)) }
+    ensures err { IfErr result (λ e. RefusesTake e array.now indices.now) }
 {
     array.known();
     array.offsets().known();
-    let rows = spans::take_rows(alloc, array.offsets(), array.validity(), places)?;
+    let rows = spans::take_rows(alloc, array.offsets(), array.validity(), indices)?;
     rows.offsets.known();
     match take(alloc, array.values(), &rows.items) {
         Ok(values) => large_lists_of(
@@ -96,7 +96,7 @@ pub(crate) fn take_large_lists(
     }
 }
 
-/// The array of these parts.
+/// Returns the array with these parts.
 fn large_lists_of(
     alloc: Global,
     data_type: &DataType,

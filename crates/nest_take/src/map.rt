@@ -1,4 +1,4 @@
-//! Maps.
+//! `take` for map arrays.
 ghost use Rattle.std.specs.Prelude.{◌≡◌, IfErr, IfOk, IsOkUnless, alloc_error};
 ghost use Rattle.nest_model.specs.Fits.{Fits};
 ghost use Rattle.nest_model.specs.Layout as layouts;
@@ -14,21 +14,21 @@ use nest_memory::error::Error;
 use nest_memory::offsets::OffsetsBuffer;
 use std::alloc::Global;
 
-/// The slots at some places. A null row takes no item.
+/// Takes the slots at `indices`. A null row has no entries.
 #[cycle(take)]
 #[inline(never)]
 pub(crate) fn take_maps(
     alloc: Global,
     array: &MapArray,
-    places: &[usize],
+    indices: &[usize],
 ) -> Result<AnyArray, Error>
-    requires { AreBelow places.now (len array.now) }
-    ensures ok { IfOk result (λ a. IsTaken array.now places.now (layout_of a)) }
-    ensures err { IfErr result (λ e. RefusesTake e array.now places.now) }
+    requires { AreBelow indices.now (len array.now) }
+    ensures ok { IfOk result (λ a. IsTaken array.now indices.now (layout_of a)) }
+    ensures err { IfErr result (λ e. RefusesTake e array.now indices.now) }
 {
     array.known();
     array.offsets().known();
-    let rows = spans::take_rows(alloc, array.offsets(), array.validity(), places)?;
+    let rows = spans::take_rows(alloc, array.offsets(), array.validity(), indices)?;
     rows.offsets.known();
     match take(alloc, array.field(), &rows.items) {
         Ok(values) => maps_of(
@@ -42,7 +42,7 @@ pub(crate) fn take_maps(
     }
 }
 
-/// The array of these parts.
+/// Returns the array with these parts.
 fn maps_of(
     alloc: Global,
     data_type: &DataType,

@@ -1,10 +1,11 @@
-//! Rows between offsets: what bytes, texts, lists and maps share.
+//! Rows between offsets, shared by binary, UTF-8, list and map arrays.
 ghost use Rattle.std.specs.Prelude.{◌≡◌, ◌+◌, ◌<◌, ◌≤◌, ◌^◌, ◌⊎◌, ◌∷◌, [], IfOk, IfErr, IsOkUnless, MatchResult, alloc_error, length, map, option_map};
 ghost use Rattle.std.specs.List.{sum_by};
 ghost use Rattle.nest_flat.specs.FlatParts.{ValidityCovers};
-ghost use Rattle.nest_take.specs.Words.{AreBelow, Memory, Overflow, PassesOffsets, ReachesBits, begin, count_at, ends_from, item_places, items_at, last_of, count_rows, taken_validity};
+ghost use Rattle.nest_take.specs.Words.{AreBelow, Memory, Overflow, PassesOffsets, ReachesBits, begin, count_at, ends_from, item_indices, items_at, last_of, count_rows, taken_validity};
+ghost use Rattle.nest_take.specs.Indices.{IsItemCount};
 
-use crate::places;
+use crate::indices;
 use nest_memory::bitmap::immutable::Bitmap;
 use nest_memory::buffer::Buffer;
 use nest_memory::error::Error;
@@ -12,7 +13,7 @@ use nest_memory::offset::Offset;
 use nest_memory::offsets::{Offsets, OffsetsBuffer};
 use std::alloc::Global;
 
-/// Where the items of row i begin, and how many it has; a null row has none.
+/// Returns the index of the first item of row `i`, and the number of its items, 0 for a null.
 fn range<O: Offset>(
     offsets: &OffsetsBuffer<O>,
     validity: Option<&Bitmap>,
@@ -27,27 +28,30 @@ fn range<O: Offset>(
 {
     offsets.known();
     let (start, end) = offsets.start_end(i);
-    if places::is_valid(validity, i) {
+    if indices::is_valid(validity, i) {
         (start, end - start)
     } else {
         (start, 0)
     }
 }
 
-/// How many items the rows at some places have. `Overflow` where no offset can name as many.
+/// Returns the number of items of the rows at `indices`.
+///
+/// # Errors
+/// `Overflow` where it is more than the largest offset.
 pub(crate) fn count<O: Offset>(
     offsets: &OffsetsBuffer<O>,
     validity: Option<&Bitmap>,
-    places: &[usize],
+    indices: &[usize],
 ) -> Result<usize, Error>
-    requires within { AreBelow places.now (count_rows offsets.now) }
-    requires bits { ReachesBits (option_map (λ b. b.now) validity) places.now }
-    ensures { MatchResult result
-        (λ n. (n ≡ sum_by (count_at offsets.now (option_map (λ b. b.now) validity.entry)) places.now) × (n ≤ O.largest))
-        (λ e. (e ≡ Overflow) × PassesOffsets O.IS_LARGE offsets.now (option_map (λ b. b.now) validity.entry) places.now) }
+    requires within { AreBelow indices.now (count_rows offsets.now) }
+    requires bits { ReachesBits (option_map (λ b. b.now) validity) indices.now }
+    ensures { let va = option_map (λ b. b.now) validity.entry in MatchResult result
+        (IsItemCount O.largest offsets.now va indices.now)
+        (λ e. (e ≡ Overflow) × PassesOffsets O.IS_LARGE offsets.now va indices.now) }
 {
     let mut count: usize = 0;
-    for place in places {
+    for place in indices {
         let Some(sum) = count.checked_add(range(offsets, validity, *place).1) else {
             return Err(Error::Overflow);
         };
@@ -59,7 +63,7 @@ pub(crate) fn count<O: Offset>(
     Ok(count)
 }
 
-/// The one offset 0, with room for so many slots.
+/// Returns the single offset 0, with capacity for `slots` rows.
 fn room_for<O: Offset>(alloc: Global, slots: usize) -> Result<Offsets<O>, Error>
     ensures ok { IfOk result (λ b. b ≡ 0 ∷ []) }
     ensures err { IsOkUnless result (Memory alloc_error) }
@@ -69,67 +73,67 @@ fn room_for<O: Offset>(alloc: Global, slots: usize) -> Result<Offsets<O>, Error>
     Ok(ends)
 }
 
-/// The offsets of the rows at some places, from 0 on.
+/// Returns the offsets of the rows at `indices`, from 0.
 fn offsets_at<O: Offset>(
     alloc: Global,
     offsets: &OffsetsBuffer<O>,
     validity: Option<&Bitmap>,
-    places: &[usize],
+    indices: &[usize],
 ) -> Result<OffsetsBuffer<O>, Error>
-    requires within { AreBelow places.now (count_rows offsets.now) }
-    requires bits { ReachesBits (option_map (λ b. b.now) validity) places.now }
-    requires room { sum_by (count_at offsets.now (option_map (λ b. b.now) validity)) places.now ≤ O.largest }
-    ensures ok { IfOk result (λ b. b ≡ 0 ∷ ends_from 0 (map (count_at offsets.now (option_map (λ b. b.now) validity.entry)) places.now)) }
+    requires within { AreBelow indices.now (count_rows offsets.now) }
+    requires bits { ReachesBits (option_map (λ b. b.now) validity) indices.now }
+    requires room { sum_by (count_at offsets.now (option_map (λ b. b.now) validity)) indices.now ≤ O.largest }
+    ensures ok { IfOk result (λ b. b ≡ 0 ∷ ends_from 0 (map (count_at offsets.now (option_map (λ b. b.now) validity.entry)) indices.now)) }
     ensures err { IsOkUnless result (Memory alloc_error) }
 {
-    let mut ends = room_for(alloc, places.len())?;
-    for place in places {
+    let mut ends = room_for(alloc, indices.len())?;
+    for place in indices {
         ends.try_push_usize(range(offsets, validity, *place).1)?;
     }
     ends.freeze()
 }
 
-/// The places of the items of the rows at some places, `count` in all.
+/// Returns the indices of the items of the rows at `indices`, `count` in all.
 pub(crate) fn items<O: Offset>(
     alloc: Global,
     offsets: &OffsetsBuffer<O>,
     validity: Option<&Bitmap>,
-    places: &[usize],
+    indices: &[usize],
     count: usize,
 ) -> Result<Vec<usize>, Error>
-    requires within { AreBelow places.now (count_rows offsets.now) }
-    requires bits { ReachesBits (option_map (λ b. b.now) validity) places.now }
-    ensures ok { IfOk result (λ v. v.items ≡ item_places offsets.now (option_map (λ b. b.now) validity.entry) places.now) }
+    requires within { AreBelow indices.now (count_rows offsets.now) }
+    requires bits { ReachesBits (option_map (λ b. b.now) validity) indices.now }
+    ensures ok { IfOk result (λ v. v.items ≡ item_indices offsets.now (option_map (λ b. b.now) validity.entry) indices.now) }
     ensures err { IsOkUnless result (Memory alloc_error) }
 {
     let mut items = Vec::with_capacity(alloc, count)?;
-    for place in places {
+    for place in indices {
         let (start, n) = range(offsets, validity, *place);
-        places::push_range(&mut items, start, n)?;
+        indices::push_range(&mut items, start, n)?;
     }
     Ok(items)
 }
 
-/// The offsets of the rows at some places, from 0 on, and their bytes, `count` in all.
+/// Returns the offsets of the rows at `indices`, from 0, and their bytes, `count` in all.
 fn bytes_at<O: Offset>(
     alloc: Global,
     offsets: &OffsetsBuffer<O>,
     validity: Option<&Bitmap>,
     bytes: &[u8],
-    places: &[usize],
+    indices: &[usize],
     count: usize,
 ) -> Result<(OffsetsBuffer<O>, Buffer<u8>), Error>
-    requires within { AreBelow places.now (count_rows offsets.now) }
-    requires bits { ReachesBits (option_map (λ b. b.now) validity) places.now }
+    requires within { AreBelow indices.now (count_rows offsets.now) }
+    requires bits { ReachesBits (option_map (λ b. b.now) validity) indices.now }
     requires fits { last_of offsets.now ≤ length bytes.now }
-    requires room { sum_by (count_at offsets.now (option_map (λ b. b.now) validity)) places.now ≤ O.largest }
-    ensures offsets { IfOk result (λ p. p.0 ≡ 0 ∷ ends_from 0 (map (count_at offsets.now (option_map (λ b. b.now) validity.entry)) places.now)) }
-    ensures bytes { IfOk result (λ p. p.1 ≡ items_at bytes.now offsets.now (option_map (λ b. b.now) validity.entry) places.now) }
+    requires room { sum_by (count_at offsets.now (option_map (λ b. b.now) validity)) indices.now ≤ O.largest }
+    ensures offsets { IfOk result (λ p. p.0 ≡ 0 ∷ ends_from 0 (map (count_at offsets.now (option_map (λ b. b.now) validity.entry)) indices.now)) }
+    ensures bytes { IfOk result (λ p. p.1 ≡ items_at bytes.now offsets.now (option_map (λ b. b.now) validity.entry) indices.now) }
     ensures err { IsOkUnless result (Memory alloc_error) }
 {
-    let mut ends = room_for(alloc, places.len())?;
+    let mut ends = room_for(alloc, indices.len())?;
     let mut taken = Vec::with_capacity(alloc, count)?;
-    for place in places {
+    for place in indices {
         let (start, n) = range(offsets, validity, *place);
         ends.try_push_usize(n)?;
         taken.extend_from_slice(&bytes[start..start + n])?;
@@ -137,7 +141,7 @@ fn bytes_at<O: Offset>(
     Ok((ends.freeze()?, Buffer::from_vec(alloc, taken)?))
 }
 
-/// Offsets, the bytes between them, and a validity.
+/// Offsets, the bytes between them, and a validity bitmap.
 #[derive(Drop)]
 pub(crate) struct Spans<O: Offset> {
     pub(crate) offsets: OffsetsBuffer<O>,
@@ -145,32 +149,32 @@ pub(crate) struct Spans<O: Offset> {
     pub(crate) validity: Option<Bitmap>,
 }
 
-/// The rows of bytes at some places.
+/// Takes the rows of bytes at `indices`.
 pub(crate) fn take<O: Offset>(
     alloc: Global,
     offsets: &OffsetsBuffer<O>,
     validity: Option<&Bitmap>,
     bytes: &[u8],
-    places: &[usize],
+    indices: &[usize],
 ) -> Result<Spans<O>, Error>
-    requires within { AreBelow places.now (count_rows offsets.now) }
-    requires bits { ReachesBits (option_map (λ b. b.now) validity) places.now }
+    requires within { AreBelow indices.now (count_rows offsets.now) }
+    requires bits { ReachesBits (option_map (λ b. b.now) validity) indices.now }
     requires fits { last_of offsets.now ≤ length bytes.now }
-    ensures offsets { IfOk result (λ s. s.offsets ≡ 0 ∷ ends_from 0 (map (count_at offsets.now (option_map (λ b. b.now) validity.entry)) places.now)) }
-    ensures bytes { IfOk result (λ s. s.bytes ≡ items_at bytes.now offsets.now (option_map (λ b. b.now) validity.entry) places.now) }
-    ensures validity { IfOk result (λ s. s.validity ≡ taken_validity (option_map (λ b. b.now) validity.entry) places.now) }
-    ensures err { IfErr result (λ e. (e ≡ Memory alloc_error) ⊎ ((e ≡ Overflow) × PassesOffsets O.IS_LARGE offsets.now (option_map (λ b. b.now) validity.entry) places.now)) }
+    ensures offsets { IfOk result (λ s. s.offsets ≡ 0 ∷ ends_from 0 (map (count_at offsets.now (option_map (λ b. b.now) validity.entry)) indices.now)) }
+    ensures bytes { IfOk result (λ s. s.bytes ≡ items_at bytes.now offsets.now (option_map (λ b. b.now) validity.entry) indices.now) }
+    ensures validity { IfOk result (λ s. s.validity ≡ taken_validity (option_map (λ b. b.now) validity.entry) indices.now) }
+    ensures err { IfErr result (λ e. (e ≡ Memory alloc_error) ⊎ ((e ≡ Overflow) × PassesOffsets O.IS_LARGE offsets.now (option_map (λ b. b.now) validity.entry) indices.now)) }
 {
-    let count = count(offsets, validity, places)?;
-    let (offsets, bytes) = bytes_at(alloc, offsets, validity, bytes, places, count)?;
+    let count = count(offsets, validity, indices)?;
+    let (offsets, bytes) = bytes_at(alloc, offsets, validity, bytes, indices, count)?;
     Ok(Spans {
         offsets,
         bytes,
-        validity: places::validity_at(alloc, validity, places)?,
+        validity: indices::validity_at(alloc, validity, indices)?,
     })
 }
 
-/// Offsets, the places of the items between them, and a validity.
+/// Offsets, the indices of the items between them, and a validity bitmap.
 #[derive(Drop)]
 pub(crate) struct Rows<O: Offset> {
     pub(crate) offsets: OffsetsBuffer<O>,
@@ -178,24 +182,24 @@ pub(crate) struct Rows<O: Offset> {
     pub(crate) validity: Option<Bitmap>,
 }
 
-/// The rows at some places, of items that lie in another array.
+/// Takes the rows at `indices`, whose items are in another array.
 pub(crate) fn take_rows<O: Offset>(
     alloc: Global,
     offsets: &OffsetsBuffer<O>,
     validity: Option<&Bitmap>,
-    places: &[usize],
+    indices: &[usize],
 ) -> Result<Rows<O>, Error>
-    requires within { AreBelow places.now (count_rows offsets.now) }
-    requires bits { ReachesBits (option_map (λ b. b.now) validity) places.now }
-    ensures offsets { IfOk result (λ s. s.offsets ≡ 0 ∷ ends_from 0 (map (count_at offsets.now (option_map (λ b. b.now) validity.entry)) places.now)) }
-    ensures items { IfOk result (λ s. s.items.items ≡ item_places offsets.now (option_map (λ b. b.now) validity.entry) places.now) }
-    ensures validity { IfOk result (λ s. s.validity ≡ taken_validity (option_map (λ b. b.now) validity.entry) places.now) }
-    ensures err { IfErr result (λ e. (e ≡ Memory alloc_error) ⊎ ((e ≡ Overflow) × PassesOffsets O.IS_LARGE offsets.now (option_map (λ b. b.now) validity.entry) places.now)) }
+    requires within { AreBelow indices.now (count_rows offsets.now) }
+    requires bits { ReachesBits (option_map (λ b. b.now) validity) indices.now }
+    ensures offsets { IfOk result (λ s. s.offsets ≡ 0 ∷ ends_from 0 (map (count_at offsets.now (option_map (λ b. b.now) validity.entry)) indices.now)) }
+    ensures items { IfOk result (λ s. s.items.items ≡ item_indices offsets.now (option_map (λ b. b.now) validity.entry) indices.now) }
+    ensures validity { IfOk result (λ s. s.validity ≡ taken_validity (option_map (λ b. b.now) validity.entry) indices.now) }
+    ensures err { IfErr result (λ e. (e ≡ Memory alloc_error) ⊎ ((e ≡ Overflow) × PassesOffsets O.IS_LARGE offsets.now (option_map (λ b. b.now) validity.entry) indices.now)) }
 {
-    let count = count(offsets, validity, places)?;
+    let count = count(offsets, validity, indices)?;
     Ok(Rows {
-        offsets: offsets_at(alloc, offsets, validity, places)?,
-        items: items(alloc, offsets, validity, places, count)?,
-        validity: places::validity_at(alloc, validity, places)?,
+        offsets: offsets_at(alloc, offsets, validity, indices)?,
+        items: items(alloc, offsets, validity, indices, count)?,
+        validity: indices::validity_at(alloc, validity, indices)?,
     })
 }

@@ -1,4 +1,4 @@
-//! Records.
+//! `take` for struct arrays.
 ghost use Rattle.std.specs.Prelude.{◌≡◌, ◌⊎◌, IfErr, IfOk, IsOkUnless, alloc_error};
 ghost use Rattle.nest_model.specs.Fits.{Fits};
 ghost use Rattle.nest_model.specs.Layout as layouts;
@@ -6,47 +6,47 @@ ghost use Rattle.nest_array.specs.Seen.{layout_of, layouts_of};
 ghost use Rattle.nest_take.specs.Words.{AreBelow, EachReaches, EachTaken, IsTaken, Memory, Overflow, RefusesTake, SomePasses, len, type_of};
 
 use crate::any::take;
-use crate::places;
+use crate::indices;
 use nest_array::{AnyArray, StructArray};
 use nest_memory::bitmap::immutable::Bitmap;
 use nest_memory::datatypes::DataType;
 use nest_memory::error::Error;
 use std::alloc::Global;
 
-/// The slots at some places. A null row takes what lies under it.
+/// Takes the slots at `indices`. The child slots under a null are taken too.
 #[cycle(take)]
 #[inline(never)]
 pub(crate) fn take_records(
     alloc: Global,
     array: &StructArray,
-    places: &[usize],
+    indices: &[usize],
 ) -> Result<AnyArray, Error>
-    requires { AreBelow places.now (len array.now) }
-    ensures ok { IfOk result (λ a. IsTaken array.now places.now (layout_of a)) }
-    ensures err { IfErr result (λ e. RefusesTake e array.now places.now) }
+    requires { AreBelow indices.now (len array.now) }
+    ensures ok { IfOk result (λ a. IsTaken array.now indices.now (layout_of a)) }
+    ensures err { IfErr result (λ e. RefusesTake e array.now indices.now) }
 {
     array.known();
-    let validity = places::validity_at(alloc, array.validity(), places)?;
-    match take_all(alloc, array.values(), places) {
+    let validity = indices::validity_at(alloc, array.validity(), indices)?;
+    match take_all(alloc, array.values(), indices) {
         Ok(values) => array_of(alloc, array.data_type(), values, validity),
         Err(error) => Err(error),
     }
 }
 
-/// The slots of each child at some places.
+/// Takes the slots at `indices` of each child.
 #[cycle(take)]
 pub(crate) fn take_all(
     alloc: Global,
     children: &[AnyArray],
-    places: &[usize],
+    indices: &[usize],
 ) -> Result<Vec<AnyArray>, Error>
-    requires { EachReaches (layouts_of children.now) places.now }
-    ensures ok { IfOk result (λ v. EachTaken (layouts_of children.now) places.now (layouts_of v.items)) }
-    ensures err { IfErr result (λ e. (e ≡ Memory alloc_error) ⊎ ((e ≡ Overflow) × SomePasses (layouts_of children.now) places.now)) }
+    requires { EachReaches (layouts_of children.now) indices.now }
+    ensures ok { IfOk result (λ v. EachTaken (layouts_of children.now) indices.now (layouts_of v.items)) }
+    ensures err { IfErr result (λ e. (e ≡ Memory alloc_error) ⊎ ((e ≡ Overflow) × SomePasses (layouts_of children.now) indices.now)) }
 {
     let mut taken = Vec::with_capacity(alloc, children.len())?;
     for i in 0..children.len() {
-        match take(alloc, &children[i], places) {
+        match take(alloc, &children[i], indices) {
             Ok(child) => taken.push_reserved(child),
             Err(error) => return Err(error),
         }
@@ -54,7 +54,7 @@ pub(crate) fn take_all(
     Ok(taken)
 }
 
-/// The array of these parts.
+/// Returns the array with these parts.
 fn array_of(
     alloc: Global,
     data_type: &DataType,

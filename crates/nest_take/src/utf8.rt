@@ -1,4 +1,4 @@
-//! Texts.
+//! `take` for UTF-8 arrays.
 ghost use Rattle.std.specs.Prelude.{IfErr, IfOk};
 ghost use Rattle.nest_take.specs.Words.{AreBelow, IsTaken, RefusesTake, len};
 
@@ -8,20 +8,20 @@ use nest_memory::error::Error;
 use nest_memory::offset::Offset;
 use std::alloc::Global;
 
-/// The slots at some places.
+/// Takes the slots at `indices`.
 pub(crate) fn take<O: Offset>(
     alloc: Global,
     array: &Utf8Array<O>,
-    places: &[usize],
+    indices: &[usize],
 ) -> Result<Utf8Array<O>, Error>
-    requires { AreBelow places.now (len array.now) }
-    ensures ok { IfOk result (λ b. IsTaken array.now places.now b) }
-    ensures err { IfErr result (λ e. RefusesTake e array.now places.now) }
+    requires { AreBelow indices.now (len array.now) }
+    ensures ok { IfOk result (λ b. IsTaken array.now indices.now b) }
+    ensures err { IfErr result (λ e. RefusesTake e array.now indices.now) }
 {
     array.known();
     array.offsets().known();
     let bytes = array.values().as_slice();
-    match spans::take(alloc, array.offsets(), array.validity(), bytes, places) {
+    match spans::take(alloc, array.offsets(), array.validity(), bytes, indices) {
         Ok(spans) => {
             let data_type = array.data_type().clone(alloc)?;
             Ok(Utf8Array::new(data_type, spans.offsets, spans.bytes, spans.validity))

@@ -4,16 +4,17 @@
 //! [`crate::constructors`], the values of each nested kind in [`crate::values`].
 ghost use Rattle.std.specs.Prelude.{◌≡◌, ◌+◌, ◌≤◌, ◌<◌, ◌↔◌, false, IsTrue, IfOk, IsOkUnless, MatchOption, not, alloc_error};
 ghost use Rattle.nest_array.specs.Seen.{layout_of};
-ghost use Rattle.nest_memory.specs.Cut.{cut};
+ghost use Rattle.nest_memory.specs.Sublist.{sublist};
 ghost use Rattle.nest_memory.specs.TypeOf.{type_of};
 ghost use Rattle.nest_memory.specs.declared.datatypes.physical_type.PhysicalType.TheVariants as physical;
 ghost use Rattle.nest_memory.specs.declared.error.Error.TheVariants.{Memory};
 ghost use Rattle.nest_model.specs.Array.{TopFits};
-ghost use Rattle.nest_model.specs.Cut.{cut_layout};
+ghost use Rattle.nest_model.specs.Slice.{slice_layout};
 ghost use Rattle.nest_model.specs.Layout.{layout_type};
 ghost use Rattle.nest_model.specs.Meaning.{len, slot, slots_of};
 ghost use Rattle.nest_model.specs.Nullness.{has_keys, is_null_at, null_count};
 ghost use Rattle.nest_model.specs.Slot as slots;
+ghost use Rattle.nest_array.specs.Downcasts.{IsDowncast};
 ghost use Rattle.promises_arrays.specs.Conversions.{kind_of};
 ghost use Rattle.promises_arrays.specs.Validities.{IsUnderValidity, SetsValidity};
 
@@ -66,8 +67,8 @@ pub fn null_count_of<A: Array>(array: &A) -> usize
 /// Slices the array in place: its list becomes the slice of the list, and its data type is kept.
 pub fn slice_in_place<A: Array>(array: &mut A, o: usize, n: usize)
     requires { o + n ≤ len (A.layout array.old) }
-    ensures parts { A.layout array.new ≡ cut_layout (A.layout array.old) o n }
-    ensures slots { slots_of (A.layout array.new) ≡ cut (slots_of (A.layout array.old)) o n }
+    ensures parts { A.layout array.new ≡ slice_layout (A.layout array.old) o n }
+    ensures slots { slots_of (A.layout array.new) ≡ sublist (slots_of (A.layout array.old)) o n }
     ensures data_type { layout_type (A.layout array.new) ≡ layout_type (A.layout array.old) }
 {
     array.slice(o, n);
@@ -81,7 +82,7 @@ pub fn slice_shared<A: Array>(
     n: usize,
 ) -> Result<AnyArray, Error>
     requires { o + n ≤ len (A.layout array.now) }
-    ensures slots { IfOk result (λ a. slots_of (layout_of a) ≡ cut (slots_of (A.layout array.now)) o n) }
+    ensures slots { IfOk result (λ a. slots_of (layout_of a) ≡ sublist (slots_of (A.layout array.now)) o n) }
     ensures data_type { IfOk result (λ a. layout_type (layout_of a) ≡ layout_type (A.layout array.now)) }
     ensures err { IsOkUnless result (Memory alloc_error) }
 {
@@ -118,8 +119,8 @@ pub fn set_new_validity(array: &mut AnyArray, validity: Option<Bitmap>) -> Resul
 /// Returns a slice of an array that is passed by value.
 pub fn slice_any(array: AnyArray, o: usize, n: usize) -> AnyArray
     requires { o + n ≤ len (layout_of array) }
-    ensures parts { layout_of result ≡ cut_layout (layout_of array) o n }
-    ensures slots { slots_of (layout_of result) ≡ cut (slots_of (layout_of array)) o n }
+    ensures parts { layout_of result ≡ slice_layout (layout_of array) o n }
+    ensures slots { slots_of (layout_of result) ≡ sublist (slots_of (layout_of array)) o n }
     ensures data_type { layout_type (layout_of result) ≡ layout_type (layout_of array) }
 {
     array.sliced(o, n)
@@ -137,7 +138,7 @@ pub fn clone_any(array: &AnyArray, alloc: Global) -> Result<AnyArray, Error>
 pub fn as_primitive<T: NativeArray>(array: &AnyArray) -> Option<&T::Array>
     ensures { MatchOption result
         (kind_of (layout_of array.now) ≡ physical.Primitive T.PRIMITIVE → ⊥)
-        (λ a. (kind_of (layout_of array.now) ≡ physical.Primitive T.PRIMITIVE) × (T.layout_of_array a.now ≡ layout_of array.now)) }
+        (λ a. IsDowncast (physical.Primitive T.PRIMITIVE) (layout_of array.now) (T.layout_of_array a.now)) }
 {
     array.as_primitive::<T>()
 }

@@ -1,12 +1,12 @@
 //! `concatenate` and `interleave`: the slots of several arrays, one array after another or by array and index.
 ghost use Rattle.std.specs.Prelude.{◌≡◌, ◌∷◌, ◌++◌, ◌<◌, ◌≤◌, ◌-◌, ◌↔◌, ℕ, List, [], IfErr, IfOk, IsErrOf, false, length, map, true};
 ghost use Rattle.nest_array.specs.Seen.{layout_of};
-ghost use Rattle.nest_concat.specs.Interleaved.{ArePlacesOf, IsInterleaved, RefusesInterleave};
+ghost use Rattle.nest_concat.specs.Interleaved.{AreIndicesOf, IsInterleaved, RefusesInterleave};
 ghost use Rattle.nest_concat.specs.Joined.{AreOfOneType, IsConcatenated, RefusesConcatenate};
 ghost use Rattle.nest_concat.specs.Laid.{joined_layout, joins_past};
-ghost use Rattle.nest_memory.specs.declared.error.Argument.TheVariants.{ItemType};
+ghost use Rattle.nest_memory.specs.declared.error.ArgumentError.TheVariants.{ItemType};
 ghost use Rattle.nest_memory.specs.declared.error.Error.TheVariants.{InvalidArgumentError, Overflow};
-ghost use Rattle.nest_model.specs.Cut.{cut_layout};
+ghost use Rattle.nest_model.specs.Slice.{slice_layout};
 ghost use Rattle.nest_model.specs.Layout.{Layout};
 ghost use Rattle.nest_model.specs.Meaning.{len};
 ghost use Rattle.nest_model.specs.SameArray.{IsSameArray};
@@ -41,7 +41,7 @@ pub fn interleave_slots(
     arrays: &[AnyArray],
     indices: &[(usize, usize)],
 ) -> Result<AnyArray, Error>
-    requires { ArePlacesOf (map layout_of arrays.now) indices.now }
+    requires { AreIndicesOf (map layout_of arrays.now) indices.now }
     ensures ok { IfOk result (λ a. IsInterleaved (map layout_of arrays.now) indices.now (layout_of a)) }
     ensures types { IsErrOf result (InvalidArgumentError ItemType) ↔ (AreOfOneType (map layout_of arrays.now) → ⊥) }
     ensures err { IfErr result (λ e. RefusesInterleave e (map layout_of arrays.now) indices.now) }
@@ -58,9 +58,9 @@ pub fn one_array()
 
 /// Concatenating the two slices of an array at an index returns an equal array.
 pub fn slices_of_an_array()
-    ensures { (a b : Layout) (k : ℕ) → k ≤ len a → IsConcatenated (cut_layout a 0 k ∷ cut_layout a k (len a - k) ∷ []) b → IsSameArray b a }
+    ensures { (a b : Layout) (k : ℕ) → k ≤ len a → IsConcatenated (slice_layout a 0 k ∷ slice_layout a k (len a - k) ∷ []) b → IsSameArray b a }
 {
-    nest_concat::laws::cuts_of_an_array();
+    nest_concat::laws::slices_of_one_array();
 }
 
 /// A concatenated array may itself be concatenated, before or after other arrays.

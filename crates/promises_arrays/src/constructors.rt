@@ -7,7 +7,7 @@ ghost use Rattle.nest_array.specs.Refusals.{RefusesOrMemory};
 ghost use Rattle.nest_array.specs.Seen.{layout_of, layouts_of};
 ghost use Rattle.nest_array.specs.SeenKeys.{keys_layout};
 ghost use Rattle.nest_memory.specs.TypeOf.{type_of};
-ghost use Rattle.nest_model.specs.Fits.{FirstFault, Fits};
+ghost use Rattle.nest_model.specs.Fits.{FirstError, Fits};
 ghost use Rattle.nest_model.specs.Layout as layouts;
 ghost use Rattle.promises_arrays.specs.Dictionaries.{default_dictionary};
 
@@ -25,7 +25,7 @@ use std::alloc::Global;
 /// Returns `count` nulls of a data type.
 pub fn new_null(data_type: DataType, count: usize) -> Result<NullArray, Error>
     ensures { let parts = layouts.null (type_of data_type) count in
-        MatchResult result (λ a. Fits parts × (a ≡ parts)) (λ e. FirstFault e parts) }
+        MatchResult result (λ a. Fits parts × (a ≡ parts)) (λ e. FirstError e parts) }
 {
     NullArray::try_new(data_type, count)
 }
@@ -37,7 +37,7 @@ pub fn new_fixed_size_binary(
     validity: Option<Bitmap>,
 ) -> Result<FixedSizeBinaryArray, Error>
     ensures { let parts = layouts.fixed_size_binary (type_of data_type) values validity in
-        MatchResult result (λ a. Fits parts × (a ≡ parts)) (λ e. FirstFault e parts) }
+        MatchResult result (λ a. Fits parts × (a ≡ parts)) (λ e. FirstError e parts) }
 {
     FixedSizeBinaryArray::try_new(data_type, values, validity)
 }
@@ -90,7 +90,7 @@ pub fn new_struct(
     validity: Option<Bitmap>,
 ) -> Result<StructArray, Error>
     ensures { let parts = layouts.struct (type_of data_type) (layouts_of children.items) validity in
-        MatchResult result (λ a. Fits parts × (a ≡ parts)) (λ e. FirstFault e parts) }
+        MatchResult result (λ a. Fits parts × (a ≡ parts)) (λ e. FirstError e parts) }
 {
     StructArray::try_new(data_type, children, validity)
 }
@@ -117,7 +117,7 @@ pub fn new_union(
     offsets: Option<Buffer<i32>>,
 ) -> Result<UnionArray, Error>
     ensures { let parts = layouts.union (type_of data_type) types (layouts_of fields.items) offsets 0 in
-        MatchResult result (λ a. Fits parts × (a ≡ parts)) (λ e. FirstFault e parts) }
+        MatchResult result (λ a. Fits parts × (a ≡ parts)) (λ e. FirstError e parts) }
 {
     UnionArray::try_new(data_type, types, fields, offsets)
 }

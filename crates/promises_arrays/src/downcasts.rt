@@ -8,7 +8,7 @@ ghost use Rattle.nest_memory.specs.declared.datatypes.physical_type.PhysicalType
 ghost use Rattle.nest_memory.specs.declared.error.Error.TheVariants.{Memory};
 ghost use Rattle.promises_arrays.specs.Conversions.{kind_of};
 
-use nest_array::array::Variant;
+use nest_array::array::ArrayVariant;
 use nest_array::{AnyArray, Boxed, DictionaryArray, ListArray};
 use nest_flat::any_primitive::AnyPrimitive;
 use nest_memory::error::Error;
@@ -52,14 +52,14 @@ pub fn into_dictionary(array: AnyArray) -> Result<DictionaryArray, AnyArray>
 }
 
 /// Returns an array of one kind as `AnyArray`.
-pub fn to_any<A: Variant>(array: A) -> AnyArray
+pub fn to_any<A: ArrayVariant>(array: A) -> AnyArray
     ensures { layout_of result ≡ A.parts array }
 {
     Boxed::boxed(array)
 }
 
 /// Returns an array of one kind as `AnyArray` in an `Rc`.
-pub fn to_shared_any<A: Variant>(alloc: Global, array: A) -> Result<Rc<AnyArray>, Error>
+pub fn to_shared_any<A: ArrayVariant>(alloc: Global, array: A) -> Result<Rc<AnyArray>, Error>
     ensures ok { IfOk result (λ r. layout_of r.value ≡ A.parts array) }
     ensures err { IsOkUnless result (Memory alloc_error) }
 {

@@ -44,7 +44,7 @@ pub fn counted_steps(n: u64) -> u64
     ensures { result ≡ n }
 {
     let mut steps = Steps::new();
-    steps.tell(n);
+    steps.add(n);
     steps.count()
 }
 

@@ -8,7 +8,7 @@ ghost use Rattle.nest_flat.specs.AnyPrimitive.{primitive_layout};
 ghost use Rattle.nest_flat.specs.FlatParts.{optional};
 ghost use Rattle.nest_memory.specs.TypeOf.{type_of};
 ghost use Rattle.nest_model.specs.Accessors.{natives_of, validity_of};
-ghost use Rattle.nest_model.specs.Fits.{FirstFault, Fits};
+ghost use Rattle.nest_model.specs.Fits.{FirstError, Fits};
 ghost use Rattle.nest_model.specs.Layout as layouts;
 ghost use Rattle.nest_model.specs.Meaning.{len, slot, slots_of, where_valid};
 ghost use Rattle.nest_model.specs.Slot as slots;
@@ -34,7 +34,7 @@ pub fn new_primitive<T: NativeType>(
     validity: Option<Bitmap>,
 ) -> Result<PrimitiveArray<T>, Error>
     ensures { let parts = layouts.primitive T.PRIMITIVE (type_of data_type) (map T.numbers values) validity in
-        MatchResult result (λ a. Fits parts × (a ≡ parts)) (λ e. FirstFault e parts) }
+        MatchResult result (λ a. Fits parts × (a ≡ parts)) (λ e. FirstError e parts) }
 {
     PrimitiveArray::try_new(data_type, values, validity)
 }
@@ -46,7 +46,7 @@ pub fn new_boolean(
     validity: Option<Bitmap>,
 ) -> Result<BooleanArray, Error>
     ensures { let parts = layouts.boolean (type_of data_type) values validity in
-        MatchResult result (λ a. Fits parts × (a ≡ parts)) (λ e. FirstFault e parts) }
+        MatchResult result (λ a. Fits parts × (a ≡ parts)) (λ e. FirstError e parts) }
 {
     BooleanArray::try_new(data_type, values, validity)
 }
@@ -59,7 +59,7 @@ pub fn new_binary<O: Offset>(
     validity: Option<Bitmap>,
 ) -> Result<BinaryArray<O>, Error>
     ensures { let parts = layouts.binary O.IS_LARGE (type_of data_type) offsets values validity in
-        MatchResult result (λ a. Fits parts × (a ≡ parts)) (λ e. FirstFault e parts) }
+        MatchResult result (λ a. Fits parts × (a ≡ parts)) (λ e. FirstError e parts) }
 {
     BinaryArray::try_new(data_type, offsets, values, validity)
 }
@@ -71,8 +71,8 @@ pub fn new_utf8<O: Offset>(
     values: Buffer<u8>,
     validity: Option<Bitmap>,
 ) -> Result<Utf8Array<O>, Error>
-    ensures { let parts = layouts.text O.IS_LARGE (type_of data_type) offsets values validity in
-        MatchResult result (λ a. Fits parts × (a ≡ parts)) (λ e. FirstFault e parts) }
+    ensures { let parts = layouts.utf8 O.IS_LARGE (type_of data_type) offsets values validity in
+        MatchResult result (λ a. Fits parts × (a ≡ parts)) (λ e. FirstError e parts) }
 {
     Utf8Array::try_new(data_type, offsets, values, validity)
 }
@@ -88,7 +88,7 @@ pub fn primitive_at<T: NativeType>(values: &PrimitiveArray<T>, i: usize) -> Opti
 /// Returns the boolean of a slot, or `None` where the slot is null.
 pub fn boolean_at(array: &BooleanArray, i: usize) -> Option<bool>
     requires { i < len array.now }
-    ensures { optional (λ x. slots.truth x) result ≡ slot array.now i }
+    ensures { optional (λ x. slots.boolean x) result ≡ slot array.now i }
 {
     array.get(i)
 }
@@ -104,7 +104,7 @@ pub fn binary_at<O: Offset>(array: &BinaryArray<O>, i: usize) -> Option<&[u8]>
 /// Returns the string of a slot, or `None` where the slot is null.
 pub fn utf8_at<O: Offset>(array: &Utf8Array<O>, i: usize) -> Option<&str>
     requires { i < len array.now }
-    ensures { optional (λ x. slots.text x.now) result ≡ slot array.now i }
+    ensures { optional (λ x. slots.utf8 x.now) result ≡ slot array.now i }
 {
     array.get(i)
 }

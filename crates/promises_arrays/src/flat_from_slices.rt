@@ -55,7 +55,7 @@ pub fn primitive_from_options<T: NativeType>(
 /// Returns a boolean array of values without nulls.
 pub fn boolean_from_slice(alloc: Global, values: &[bool]) -> Result<BooleanArray, Error>
     ensures parts { IfOk result (λ a. a ≡ layouts.boolean types.boolean values.now None) }
-    ensures slots { IfOk result (λ a. slots_of a ≡ map slots.truth values.now) }
+    ensures slots { IfOk result (λ a. slots_of a ≡ map slots.boolean values.now) }
     ensures memory { IsOkUnless result (Memory alloc_error) }
 {
     BooleanArray::from_slice(alloc, values)
@@ -64,7 +64,7 @@ pub fn boolean_from_slice(alloc: Global, values: &[bool]) -> Result<BooleanArray
 /// Returns a boolean array of values and nulls; the bit under a null is unset.
 pub fn boolean_from_options(alloc: Global, items: &[Option<bool>]) -> Result<BooleanArray, Error>
     ensures parts { IfOk result (λ a. a ≡ layouts.boolean types.boolean (map (λ x. unwrap_or x false) items.now) (option_bits items.now)) }
-    ensures slots { IfOk result (λ a. slots_of a ≡ map (optional slots.truth) items.now) }
+    ensures slots { IfOk result (λ a. slots_of a ≡ map (optional slots.boolean) items.now) }
     ensures memory { IsOkUnless result (Memory alloc_error) }
 {
     BooleanArray::from_options(alloc, items)
@@ -72,11 +72,11 @@ pub fn boolean_from_options(alloc: Global, items: &[Option<bool>]) -> Result<Boo
 
 /// Returns a UTF-8 array of strings without nulls. Fails with `Overflow` exactly where an offset would exceed its type.
 pub fn utf8_from_slice<O: Offset>(alloc: Global, strings: &[&str]) -> Result<Utf8Array<O>, Error>
-    ensures slots { IfOk result (λ a. slots_of a ≡ map (λ x. slots.text x.now) strings.now) }
+    ensures slots { IfOk result (λ a. slots_of a ≡ map (λ x. slots.utf8 x.now) strings.now) }
     ensures data_type { IfOk result (λ a. layout_type a ≡ text_tree O.IS_LARGE) }
     ensures valid { IfOk result (λ a. validity_of a ≡ None) }
-    ensures limit { OnOk result (bytes_held (map (λ x. slots.text x.now) strings.now) ≤ O.largest) }
-    ensures errors { IfErr result (λ e. ((e ≡ Overflow) × (O.largest < bytes_held (map (λ x. slots.text x.now) strings.now))) ⊎ (e ≡ Memory alloc_error)) }
+    ensures limit { OnOk result (bytes_held (map (λ x. slots.utf8 x.now) strings.now) ≤ O.largest) }
+    ensures errors { IfErr result (λ e. ((e ≡ Overflow) × (O.largest < bytes_held (map (λ x. slots.utf8 x.now) strings.now))) ⊎ (e ≡ Memory alloc_error)) }
 {
     Utf8Array::from_slice(alloc, strings)
 }
@@ -86,11 +86,11 @@ pub fn utf8_from_options<O: Offset>(
     alloc: Global,
     items: &[Option<&str>],
 ) -> Result<Utf8Array<O>, Error>
-    ensures slots { IfOk result (λ a. slots_of a ≡ map (λ x. optional slots.text (option_copied x)) items.now) }
+    ensures slots { IfOk result (λ a. slots_of a ≡ map (λ x. optional slots.utf8 (option_copied x)) items.now) }
     ensures data_type { IfOk result (λ a. layout_type a ≡ text_tree O.IS_LARGE) }
     ensures valid { IfOk result (λ a. validity_of a ≡ option_bits items.now) }
-    ensures limit { OnOk result (bytes_held (map (λ x. optional slots.text (option_copied x)) items.now) ≤ O.largest) }
-    ensures errors { IfErr result (λ e. ((e ≡ Overflow) × (O.largest < bytes_held (map (λ x. optional slots.text (option_copied x)) items.now))) ⊎ (e ≡ Memory alloc_error)) }
+    ensures limit { OnOk result (bytes_held (map (λ x. optional slots.utf8 (option_copied x)) items.now) ≤ O.largest) }
+    ensures errors { IfErr result (λ e. ((e ≡ Overflow) × (O.largest < bytes_held (map (λ x. optional slots.utf8 (option_copied x)) items.now))) ⊎ (e ≡ Memory alloc_error)) }
 {
     Utf8Array::from_options(alloc, items)
 }

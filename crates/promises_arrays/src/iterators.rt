@@ -5,22 +5,21 @@
 ghost use Rattle.std.specs.Prelude.{◌≡◌, ◌+◌, ◌-◌, ◌*◌, ◌<◌, pos, Some, MatchOption, MatchResult};
 ghost use Rattle.nest_array.specs.ScalarParts.{IsPickOf, child_types, scalar_parts, slots_in, types_in};
 ghost use Rattle.nest_array.specs.Seen.{layout_of};
-ghost use Rattle.nest_memory.specs.Cut.{cut};
-ghost use Rattle.nest_memory.specs.Physical.{text_of_width};
+ghost use Rattle.nest_memory.specs.Sublist.{sublist};
 ghost use Rattle.nest_memory.specs.TypeTree.{size_of};
-ghost use Rattle.nest_memory.specs.declared.error.Argument.TheVariants.{ValuesType};
+ghost use Rattle.nest_memory.specs.declared.error.ArgumentError.TheVariants.{ValuesType};
 ghost use Rattle.nest_memory.specs.declared.error.Error.TheVariants.{InvalidArgumentError};
 ghost use Rattle.nest_model.specs.Accessors.{bytes_of, child_of, children_of, key_at, keys_of, offsets_of, raw_keys, validity_of};
-ghost use Rattle.nest_model.specs.Cut.{cut_layout};
+ghost use Rattle.nest_model.specs.Slice.{slice_layout};
 ghost use Rattle.nest_model.specs.Fits.{EachNames};
 ghost use Rattle.nest_model.specs.Layout.{layout_type};
 ghost use Rattle.nest_model.specs.Meaning.{each, len, slot, slots_of, where_valid};
 ghost use Rattle.nest_model.specs.Nullness.{null_count};
-ghost use Rattle.nest_model.specs.Part.{begin, extent, place};
+ghost use Rattle.nest_model.specs.Part.{begin, extent, to_index};
 ghost use Rattle.nest_model.specs.Slot as slots;
 ghost use Rattle.nest_model.specs.Slot.{seal};
-ghost use Rattle.nest_scan.specs.Places.{GivesFirst, GivesLast, all_places, places};
-ghost use Rattle.promises_arrays.specs.Conversions.{kind_of};
+ghost use Rattle.nest_scan.specs.Items.{AreTexts};
+ghost use Rattle.nest_scan.specs.Elements.{ReturnsFirst, ReturnsLast, all_elements, elements};
 ghost use Rattle.promises_arrays.specs.Items.{IsItemOrError, IsNoneOrValue};
 
 use nest_array::{
@@ -29,63 +28,66 @@ use nest_array::{
 };
 use nest_memory::error::Error;
 use nest_scan::{
-    BothEnds, DictionaryIter, DictionaryIterTyped, DictionaryValuesIter, DictionaryValuesIterTyped,
-    FixedSizeBinaryIter, FixedSizeBinaryValuesIter, FixedSizeListValuesIter, KeysIter,
-    KeysValuesIter, ListIter, ListValuesIter, MapValuesIter, NullPlaces, OrNull, Places,
-    PlacesIter, Scan, ScanKeys, ScanValues, StructIter, StructValueIter, TextOffset, Tried,
-    TryPlaces, UnionIter,
+    DictionaryIter, DictionaryIterTyped, DictionaryValuesIter, DictionaryValuesIterTyped,
+    DoubleEnded, Elements, ElementsIter, FixedSizeBinaryIter, FixedSizeBinaryValuesIter,
+    FixedSizeListValuesIter, KeysIter, KeysValuesIter, ListIter, ListValuesIter, MapValuesIter,
+    NullableElements, OptionalItems, Scan, ScanKeys, ScanValues, StructIter, StructValueIter,
+    TextOffset, Tried, TryElements, UnionIter,
 };
 use std::alloc::Global;
 
 /// Returns the item of the first remaining slot and advances. Where none remains, returns `None` and stays as it is.
-pub fn next_item<S: Places>(items: &mut PlacesIter<S>) -> Option<S::Item>
-    ensures { GivesFirst S.IsItem items.old result items.new }
+pub fn next_item<S: Elements>(items: &mut ElementsIter<S>) -> Option<S::Item>
+    ensures { ReturnsFirst S.IsItem items.old result items.new }
 {
     items.next()
 }
 
 /// Returns the item of the last remaining slot and drops it.
-pub fn next_item_back<S: Places + BothEnds>(items: &mut PlacesIter<S>) -> Option<S::Item>
-    ensures { GivesLast S.IsItem items.old result items.new }
+pub fn next_item_back<S: Elements + DoubleEnded>(items: &mut ElementsIter<S>) -> Option<S::Item>
+    ensures { ReturnsLast S.IsItem items.old result items.new }
 {
     items.next_back()
 }
 
 /// Returns the number of remaining items.
-pub fn remaining_items<S: Places>(items: &PlacesIter<S>) -> usize
+pub fn remaining_items<S: Elements>(items: &ElementsIter<S>) -> usize
     ensures { result ≡ items.now.count }
 {
     items.len()
 }
 
 /// Returns the number of remaining items as size hint.
-pub fn size_hint<S: Places>(items: &PlacesIter<S>) -> (usize, Option<usize>)
+pub fn size_hint<S: Elements>(items: &ElementsIter<S>) -> (usize, Option<usize>)
     ensures { result ≡ (items.now.count, Some items.now.count) }
 {
     items.size_hint()
 }
 
 /// Advances by one slot also when an allocation fails for its item, which is one `Err`.
-pub fn next_item_or_error<A: TryPlaces>(
-    items: &mut PlacesIter<Tried<A>>,
+pub fn next_item_or_error<A: TryElements>(
+    items: &mut ElementsIter<Tried<A>>,
 ) -> Option<Result<A::Item, Error>>
     requires { 0 < items.old.count }
-    ensures advanced { items.new ≡ places items.old.array (items.old.front + 1) (items.old.count - 1) }
+    ensures advanced { items.new ≡ elements items.old.array (items.old.front + 1) (items.old.count - 1) }
     ensures item { IsItemOrError result (A.IsItem items.old.array items.old.front) }
 {
     items.next()
 }
 
 /// Returns an iterator over slots: `None` exactly where a slot is null, else its item.
-pub fn iterate<A: NullPlaces>(array: A, alloc: Global) -> PlacesIter<Tried<OrNull<A>>>
-    ensures { result ≡ all_places (A.array array) }
+pub fn iterate<A: NullableElements>(
+    array: A,
+    alloc: Global,
+) -> ElementsIter<Tried<OptionalItems<A>>>
+    ensures { result ≡ all_elements (A.array array) }
 {
     array.iter(alloc)
 }
 
 /// Returns the next slot of such an iterator.
-pub fn next_or_null<A: NullPlaces>(
-    items: &mut PlacesIter<Tried<OrNull<A>>>,
+pub fn next_or_null<A: NullableElements>(
+    items: &mut ElementsIter<Tried<OptionalItems<A>>>,
 ) -> Option<Result<Option<A::Item>, Error>>
     requires { 0 < items.old.count }
     ensures null { let a = items.old.array in
@@ -96,22 +98,22 @@ pub fn next_or_null<A: NullPlaces>(
 }
 
 /// Returns an iterator over all values, also of null slots.
-pub fn iterate_values<A: NullPlaces>(array: A, alloc: Global) -> PlacesIter<Tried<A>>
-    ensures { result ≡ all_places (A.array array) }
+pub fn iterate_values<A: NullableElements>(array: A, alloc: Global) -> ElementsIter<Tried<A>>
+    ensures { result ≡ all_elements (A.array array) }
 {
     array.values_iter(alloc)
 }
 
 /// Returns an iterator over the lists of an array, also of null slots.
 pub fn iterate_list_values(lists: &ListArray, alloc: Global) -> ListValuesIter<'_, i32>
-    ensures { result ≡ all_places lists.now }
+    ensures { result ≡ all_elements lists.now }
 {
     lists.values_iter(alloc)
 }
 
 /// Returns an iterator over the slots of a list array.
 pub fn iterate_lists(lists: &ListArray, alloc: Global) -> ListIter<'_, i32>
-    ensures { result ≡ all_places lists.now }
+    ensures { result ≡ all_elements lists.now }
 {
     lists.iter(alloc)
 }
@@ -121,7 +123,7 @@ pub fn next_list_value(lists: &mut ListValuesIter<'_, i32>) -> Option<Result<Any
     requires { 0 < lists.old.count }
     ensures parts { let array = lists.old.array in
         let i = lists.old.front in
-        IsItemOrError result (λ a. layout_of a ≡ cut_layout (child_of array) (begin (offsets_of array) i) (extent (offsets_of array) i)) }
+        IsItemOrError result (λ a. layout_of a ≡ slice_layout (child_of array) (begin (offsets_of array) i) (extent (offsets_of array) i)) }
     ensures slot { let array = lists.old.array in
         let i = lists.old.front in
         IsItemOrError result (λ a. slot array i ≡ where_valid (validity_of array) i (slots.list (seal (slots_of (layout_of a))))) }
@@ -131,7 +133,7 @@ pub fn next_list_value(lists: &mut ListValuesIter<'_, i32>) -> Option<Result<Any
 
 /// Returns an iterator over the lists of an array with 64-bit offsets, by the iterator's constructor.
 pub fn iterate_large_list_values(lists: &LargeListArray, alloc: Global) -> ListValuesIter<'_, i64>
-    ensures { result ≡ all_places lists.now }
+    ensures { result ≡ all_elements lists.now }
 {
     ListValuesIter::<'_, i64>::new(alloc, lists)
 }
@@ -141,7 +143,7 @@ pub fn iterate_fixed_size_list_values(
     lists: &FixedSizeListArray,
     alloc: Global,
 ) -> FixedSizeListValuesIter<'_>
-    ensures { result ≡ all_places lists.now }
+    ensures { result ≡ all_elements lists.now }
 {
     FixedSizeListValuesIter::new(alloc, lists)
 }
@@ -151,27 +153,27 @@ pub fn last_fixed_size_list_value(
     lists: &mut FixedSizeListValuesIter<'_>,
 ) -> Option<Result<AnyArray, Error>>
     requires { 0 < lists.old.count }
-    ensures parts { let array = lists.old.array in
+    ensures parts { let l = lists.old in
+        let i = l.front + (l.count - 1) in
+        let size = size_of (layout_type l.array) in
+        IsItemOrError result (λ a. layout_of a ≡ slice_layout (child_of l.array) (i * size) size) }
+    ensures slot { let l = lists.old.array in
         let i = lists.old.front + (lists.old.count - 1) in
-        let size = size_of (layout_type array) in
-        IsItemOrError result (λ a. layout_of a ≡ cut_layout (child_of array) (i * size) size) }
-    ensures slot { let array = lists.old.array in
-        let i = lists.old.front + (lists.old.count - 1) in
-        IsItemOrError result (λ a. slot array i ≡ where_valid (validity_of array) i (slots.list (seal (slots_of (layout_of a))))) }
+        IsItemOrError result (λ a. slot l i ≡ where_valid (validity_of l) i (slots.list (seal (slots_of (layout_of a))))) }
 {
     lists.next_back()
 }
 
 /// Returns an iterator over the maps of an array.
 pub fn iterate_map_values(maps: &MapArray, alloc: Global) -> MapValuesIter<'_>
-    ensures { result ≡ all_places maps.now }
+    ensures { result ≡ all_elements maps.now }
 {
     MapValuesIter::new(alloc, maps)
 }
 
 /// Returns an iterator over the structs of an array, also of null slots.
 pub fn iterate_struct_values(structs: &StructArray, alloc: Global) -> StructValueIter<'_>
-    ensures { result ≡ all_places structs.now }
+    ensures { result ≡ all_elements structs.now }
 {
     StructValueIter::new(alloc, structs)
 }
@@ -191,14 +193,14 @@ pub fn next_struct_value(structs: &mut StructValueIter<'_>) -> Option<Result<Vec
 
 /// Returns an iterator over structs, `None` where a slot is null.
 pub fn iterate_structs(structs: &StructArray, alloc: Global) -> StructIter<'_>
-    ensures { result ≡ all_places structs.now }
+    ensures { result ≡ all_elements structs.now }
 {
     structs.iter(alloc)
 }
 
 /// Returns an iterator over the slots of a union array.
 pub fn iterate_unions(unions: &UnionArray, alloc: Global) -> UnionIter<'_>
-    ensures { result ≡ all_places unions.now }
+    ensures { result ≡ all_elements unions.now }
 {
     unions.iter(alloc)
 }
@@ -216,7 +218,7 @@ pub fn iterate_fixed_size_binary_values(
     array: &FixedSizeBinaryArray,
     alloc: Global,
 ) -> FixedSizeBinaryValuesIter<'_>
-    ensures { result ≡ all_places array.now }
+    ensures { result ≡ all_elements array.now }
 {
     array.values_iter(alloc)
 }
@@ -228,7 +230,7 @@ pub fn next_fixed_size_binary_value<'a>(
     requires { 0 < items.old.count }
     ensures value { let a = items.old.array in
         let i = items.old.front in
-        MatchOption result ⊥ (λ x. x.now ≡ cut (bytes_of a) (i * size_of (layout_type a)) (size_of (layout_type a))) }
+        MatchOption result ⊥ (λ x. x.now ≡ sublist (bytes_of a) (i * size_of (layout_type a)) (size_of (layout_type a))) }
     ensures slot { let a = items.old.array in
         let i = items.old.front in
         MatchOption result ⊥ (λ x. slot a i ≡ where_valid (validity_of a) i (slots.bytes x.now)) }
@@ -241,7 +243,7 @@ pub fn iterate_fixed_size_binary(
     array: &FixedSizeBinaryArray,
     alloc: Global,
 ) -> FixedSizeBinaryIter<'_>
-    ensures { result ≡ all_places array.now }
+    ensures { result ≡ all_elements array.now }
 {
     array.iter(alloc)
 }
@@ -262,7 +264,7 @@ pub fn iterate_dictionary_values(
     alloc: Global,
 ) -> DictionaryValuesIter<'_>
     requires { EachNames (raw_keys (keys_of dictionary.now)) (len (child_of dictionary.now)) }
-    ensures { result ≡ all_places dictionary.now }
+    ensures { result ≡ all_elements dictionary.now }
 {
     dictionary.values_iter(alloc)
 }
@@ -274,14 +276,14 @@ pub fn next_dictionary_value(
     requires { 0 < values.old.count }
     ensures { let a = values.old.array in
         let i = values.old.front in
-        IsItemOrError result (λ s. s ≡ scalar_parts (layout_type (child_of a)) (slot (child_of a) (place (key_at (keys_of a) i)))) }
+        IsItemOrError result (λ s. s ≡ scalar_parts (layout_type (child_of a)) (slot (child_of a) (to_index (key_at (keys_of a) i)))) }
 {
     values.next()
 }
 
 /// Returns an iterator over the slots of a dictionary array. It reads no key under a null.
 pub fn iterate_dictionary(dictionary: &DictionaryArray, alloc: Global) -> DictionaryIter<'_>
-    ensures { result ≡ all_places dictionary.now }
+    ensures { result ≡ all_elements dictionary.now }
 {
     dictionary.iter(alloc)
 }
@@ -300,7 +302,7 @@ pub fn next_dictionary_slot(
 
 /// Returns an iterator over the keys of a dictionary array, as indices of values.
 pub fn iterate_keys(dictionary: &DictionaryArray) -> KeysIter<'_>
-    ensures { result ≡ all_places dictionary.now }
+    ensures { result ≡ all_elements dictionary.now }
 {
     dictionary.keys_iter()
 }
@@ -318,7 +320,7 @@ pub fn next_key(keys: &mut KeysIter<'_>) -> Option<Option<usize>>
 /// Returns an iterator over the raw keys of a dictionary array, also under nulls.
 pub fn iterate_raw_keys(dictionary: &DictionaryArray) -> KeysValuesIter<'_>
     requires { EachNames (raw_keys (keys_of dictionary.now)) (len (child_of dictionary.now)) }
-    ensures { result ≡ all_places dictionary.now }
+    ensures { result ≡ all_elements dictionary.now }
 {
     dictionary.keys_values_iter()
 }
@@ -328,9 +330,9 @@ pub fn iterate_strings<O: TextOffset>(
     dictionary: &DictionaryArray,
 ) -> Result<DictionaryIterTyped<'_, O>, Error>
     requires { null_count (child_of dictionary.now) ≡ 0 }
-    ensures { let values = child_of dictionary.now in MatchResult result
-        (λ it. (kind_of values ≡ text_of_width O.IS_LARGE) × (it ≡ all_places dictionary.now))
-        (λ e. (kind_of values ≡ text_of_width O.IS_LARGE → ⊥) × (e ≡ InvalidArgumentError ValuesType)) }
+    ensures { let d = dictionary.now in MatchResult result
+        (λ it. AreTexts O.IS_LARGE (child_of d) × (it ≡ all_elements d))
+        (λ e. (AreTexts O.IS_LARGE (child_of d) → ⊥) × (e ≡ InvalidArgumentError ValuesType)) }
 {
     dictionary.iter_typed::<O>()
 }
@@ -342,7 +344,7 @@ pub fn next_string<'a, O: TextOffset>(
     requires { 0 < strings.old.count }
     ensures { let a = strings.old.array in
         let i = strings.old.front in
-        MatchOption result ⊥ (λ item. IsNoneOrValue a i item (λ x. slot a i ≡ slots.text x.now)) }
+        MatchOption result ⊥ (λ item. IsNoneOrValue a i item (λ x. slot a i ≡ slots.utf8 x.now)) }
 {
     strings.next()
 }
@@ -353,9 +355,9 @@ pub fn iterate_string_values<O: TextOffset>(
 ) -> Result<DictionaryValuesIterTyped<'_, O>, Error>
     requires keys { null_count dictionary.now ≡ 0 }
     requires values { null_count (child_of dictionary.now) ≡ 0 }
-    ensures { let values = child_of dictionary.now in MatchResult result
-        (λ it. (kind_of values ≡ text_of_width O.IS_LARGE) × (it ≡ all_places dictionary.now))
-        (λ e. (kind_of values ≡ text_of_width O.IS_LARGE → ⊥) × (e ≡ InvalidArgumentError ValuesType)) }
+    ensures { let d = dictionary.now in MatchResult result
+        (λ it. AreTexts O.IS_LARGE (child_of d) × (it ≡ all_elements d))
+        (λ e. (AreTexts O.IS_LARGE (child_of d) → ⊥) × (e ≡ InvalidArgumentError ValuesType)) }
 {
     dictionary.values_iter_typed::<O>()
 }

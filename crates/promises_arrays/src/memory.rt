@@ -4,12 +4,12 @@
 //! the slice of the list. A call that fails changes nothing.
 ghost use Rattle.std.specs.Prelude.{◌≡◌, ◌+◌, ◌*◌, ◌<◌, ◌≤◌, ◌^◌, ◌↔◌, ◌⊎◌, [], ◌∷◌, ◌++◌, false, IfOk, IfErr, OnOk, OnErr, IsErrOf, IsOkUnless, IsTrue, length, slice_get, Some, count_by, not, vec_len, take, map, string_bytes, sum, alloc_error};
 ghost use Rattle.nest_memory.specs.Bits.{bits_from};
-ghost use Rattle.nest_memory.specs.Cut.{cut};
+ghost use Rattle.nest_memory.specs.Sublist.{sublist};
 ghost use Rattle.nest_memory.specs.Rising.{are_offsets, ends_from, last_of, numbers};
 ghost use Rattle.nest_memory.specs.TypeOf.{field_of, type_of};
 ghost use Rattle.nest_memory.specs.TypeText.{text_of_type};
 ghost use Rattle.nest_memory.specs.declared.error.Error.TheVariants.{Memory, OutOfSpec, Overflow};
-ghost use Rattle.nest_memory.specs.declared.error.Spec.TheVariants.{Offsets as WrongOffsets, ValidityLength};
+ghost use Rattle.nest_memory.specs.declared.error.SpecError.TheVariants.{Offsets as WrongOffsets, ValidityLength};
 
 use nest_memory::bitmap::immutable::Bitmap;
 use nest_memory::bitmap::mutable::MutableBitmap;
@@ -31,7 +31,7 @@ pub fn buffer_from_vec<T: Copy>(alloc: Global, items: Vec<T>) -> Result<Buffer<T
 /// Returns `n` values from offset `o`: the slice of the list.
 pub fn slice_of_buffer<T: Copy>(buffer: Buffer<T>, o: usize, n: usize) -> Buffer<T>
     requires { o + n ≤ length buffer }
-    ensures { result ≡ cut buffer o n }
+    ensures { result ≡ sublist buffer o n }
 {
     buffer.sliced(o, n)
 }
@@ -64,7 +64,7 @@ pub fn count_unset_bits(bits: &Bitmap) -> usize
 /// Slices the bitmap in place, also one that is a slice.
 pub fn slice_bitmap(bits: &mut Bitmap, o: usize, n: usize)
     requires { o + n ≤ length bits.old }
-    ensures { bits.new ≡ cut bits.old o n }
+    ensures { bits.new ≡ sublist bits.old o n }
 {
     bits.slice(o, n);
 }
@@ -127,7 +127,7 @@ pub fn slice_of_offsets<O: Offset>(
 ) -> OffsetsBuffer<O>
     requires within { o + n ≤ length offsets }
     requires some { 1 ≤ n }
-    ensures { result ≡ cut offsets o n }
+    ensures { result ≡ sublist offsets o n }
 {
     offsets.sliced(o, n)
 }

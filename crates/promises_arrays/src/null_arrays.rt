@@ -6,13 +6,13 @@
 ghost use Rattle.std.specs.Prelude.{◌≡◌, ◌+◌, ◌<◌, ◌^◌, None, IfOk, IsOkUnless, MatchResult, alloc_error, false, replicate, true};
 ghost use Rattle.nest_array.specs.Keys.{RefusesDictionary};
 ghost use Rattle.nest_array.specs.Seen.{layout_of};
-ghost use Rattle.nest_memory.specs.Physical.{binary_of_width, text_of_width};
+ghost use Rattle.nest_memory.specs.Physical.{binary_of_width, utf8_of_width};
 ghost use Rattle.nest_memory.specs.TypeOf.{type_of};
 ghost use Rattle.nest_memory.specs.declared.datatypes.physical_type.PhysicalType.TheVariants as physical;
 ghost use Rattle.nest_memory.specs.declared.error.Error.TheVariants.{Memory};
 ghost use Rattle.nest_model.specs.Fits.{is_dictionary};
 ghost use Rattle.nest_model.specs.MadeNulls.{HasNone, HasNulls, RefusesType};
-ghost use Rattle.nest_model.specs.Nulls.{empty_fault, type_fault};
+ghost use Rattle.nest_model.specs.Nulls.{empty_error, type_error};
 ghost use Rattle.promises_arrays.specs.NullArrays.{IsEmptyArray, IsNullArray};
 
 use nest_array::{
@@ -36,8 +36,8 @@ use std::alloc::Global;
 /// fails.
 pub fn nulls_of_type(alloc: Global, data_type: DataType, length: usize) -> Result<AnyArray, Error>
     ensures { let t = type_of data_type in MatchResult result
-        (λ a. (type_fault t length ≡ None) × HasNulls t length (layout_of a))
-        (λ e. RefusesType e (type_fault t length)) }
+        (λ a. (type_error t length ≡ None) × HasNulls t length (layout_of a))
+        (λ e. RefusesType e (type_error t length)) }
 {
     new_null_array(alloc, data_type, length)
 }
@@ -45,8 +45,8 @@ pub fn nulls_of_type(alloc: Global, data_type: DataType, length: usize) -> Resul
 /// Returns an array without slots of a data type. Fails exactly where the type has an error, or when an allocation fails.
 pub fn empty_of_type(alloc: Global, data_type: DataType) -> Result<AnyArray, Error>
     ensures { let t = type_of data_type in MatchResult result
-        (λ a. (empty_fault t ≡ None) × HasNone t (layout_of a))
-        (λ e. RefusesType e (empty_fault t)) }
+        (λ a. (empty_error t ≡ None) × HasNone t (layout_of a))
+        (λ e. RefusesType e (empty_error t)) }
 {
     new_empty_array(alloc, data_type)
 }
@@ -121,14 +121,14 @@ pub fn null_binary<O: Offset>(
     data_type: DataType,
     length: usize,
 ) -> Result<BinaryArray<O>, Error>
-    ensures { IsNullArray (binary_of_width O.IS_LARGE) (type_of data_type) length (type_fault (type_of data_type) length) result }
+    ensures { IsNullArray (binary_of_width O.IS_LARGE) (type_of data_type) length (type_error (type_of data_type) length) result }
 {
     BinaryArray::<O>::new_null(alloc, data_type, length)
 }
 
 /// Returns an empty binary array.
 pub fn empty_binary<O: Offset>(alloc: Global, data_type: DataType) -> Result<BinaryArray<O>, Error>
-    ensures { IsEmptyArray (binary_of_width O.IS_LARGE) (type_of data_type) (empty_fault (type_of data_type)) result }
+    ensures { IsEmptyArray (binary_of_width O.IS_LARGE) (type_of data_type) (empty_error (type_of data_type)) result }
 {
     BinaryArray::<O>::new_empty(alloc, data_type)
 }
@@ -139,28 +139,28 @@ pub fn null_utf8<O: Offset>(
     data_type: DataType,
     length: usize,
 ) -> Result<Utf8Array<O>, Error>
-    ensures { IsNullArray (text_of_width O.IS_LARGE) (type_of data_type) length (type_fault (type_of data_type) length) result }
+    ensures { IsNullArray (utf8_of_width O.IS_LARGE) (type_of data_type) length (type_error (type_of data_type) length) result }
 {
     Utf8Array::<O>::new_null(alloc, data_type, length)
 }
 
 /// Returns an empty UTF-8 array.
 pub fn empty_utf8<O: Offset>(alloc: Global, data_type: DataType) -> Result<Utf8Array<O>, Error>
-    ensures { IsEmptyArray (text_of_width O.IS_LARGE) (type_of data_type) (empty_fault (type_of data_type)) result }
+    ensures { IsEmptyArray (utf8_of_width O.IS_LARGE) (type_of data_type) (empty_error (type_of data_type)) result }
 {
     Utf8Array::<O>::new_empty(alloc, data_type)
 }
 
 /// Returns nulls of a null type.
 pub fn null_nulls(alloc: Global, data_type: DataType, length: usize) -> Result<NullArray, Error>
-    ensures { IsNullArray physical.Null (type_of data_type) length (type_fault (type_of data_type) length) result }
+    ensures { IsNullArray physical.Null (type_of data_type) length (type_error (type_of data_type) length) result }
 {
     NullArray::new_null(alloc, data_type, length)
 }
 
 /// Returns an empty null array.
 pub fn empty_nulls(alloc: Global, data_type: DataType) -> Result<NullArray, Error>
-    ensures { IsEmptyArray physical.Null (type_of data_type) (empty_fault (type_of data_type)) result }
+    ensures { IsEmptyArray physical.Null (type_of data_type) (empty_error (type_of data_type)) result }
 {
     NullArray::new_empty(alloc, data_type)
 }
@@ -171,7 +171,7 @@ pub fn null_fixed_size_binary(
     data_type: DataType,
     length: usize,
 ) -> Result<FixedSizeBinaryArray, Error>
-    ensures { IsNullArray physical.FixedSizeBinary (type_of data_type) length (type_fault (type_of data_type) length) result }
+    ensures { IsNullArray physical.FixedSizeBinary (type_of data_type) length (type_error (type_of data_type) length) result }
 {
     FixedSizeBinaryArray::new_null(alloc, data_type, length)
 }
@@ -181,7 +181,7 @@ pub fn empty_fixed_size_binary(
     alloc: Global,
     data_type: DataType,
 ) -> Result<FixedSizeBinaryArray, Error>
-    ensures { IsEmptyArray physical.FixedSizeBinary (type_of data_type) (empty_fault (type_of data_type)) result }
+    ensures { IsEmptyArray physical.FixedSizeBinary (type_of data_type) (empty_error (type_of data_type)) result }
 {
     FixedSizeBinaryArray::new_empty(alloc, data_type)
 }
@@ -192,7 +192,7 @@ pub fn null_fixed_size_list(
     data_type: DataType,
     length: usize,
 ) -> Result<FixedSizeListArray, Error>
-    ensures { IsNullArray physical.FixedSizeList (type_of data_type) length (type_fault (type_of data_type) length) result }
+    ensures { IsNullArray physical.FixedSizeList (type_of data_type) length (type_error (type_of data_type) length) result }
 {
     FixedSizeListArray::new_null(alloc, data_type, length)
 }
@@ -202,21 +202,21 @@ pub fn empty_fixed_size_list(
     alloc: Global,
     data_type: DataType,
 ) -> Result<FixedSizeListArray, Error>
-    ensures { IsEmptyArray physical.FixedSizeList (type_of data_type) (empty_fault (type_of data_type)) result }
+    ensures { IsEmptyArray physical.FixedSizeList (type_of data_type) (empty_error (type_of data_type)) result }
 {
     FixedSizeListArray::new_empty(alloc, data_type)
 }
 
 /// Returns nulls of a list type.
 pub fn null_list(alloc: Global, data_type: DataType, length: usize) -> Result<ListArray, Error>
-    ensures { IsNullArray physical.List (type_of data_type) length (type_fault (type_of data_type) length) result }
+    ensures { IsNullArray physical.List (type_of data_type) length (type_error (type_of data_type) length) result }
 {
     ListArray::new_null(alloc, data_type, length)
 }
 
 /// Returns an empty list array.
 pub fn empty_list(alloc: Global, data_type: DataType) -> Result<ListArray, Error>
-    ensures { IsEmptyArray physical.List (type_of data_type) (empty_fault (type_of data_type)) result }
+    ensures { IsEmptyArray physical.List (type_of data_type) (empty_error (type_of data_type)) result }
 {
     ListArray::new_empty(alloc, data_type)
 }
@@ -227,56 +227,56 @@ pub fn null_large_list(
     data_type: DataType,
     length: usize,
 ) -> Result<LargeListArray, Error>
-    ensures { IsNullArray physical.LargeList (type_of data_type) length (type_fault (type_of data_type) length) result }
+    ensures { IsNullArray physical.LargeList (type_of data_type) length (type_error (type_of data_type) length) result }
 {
     LargeListArray::new_null(alloc, data_type, length)
 }
 
 /// Returns an empty large list array.
 pub fn empty_large_list(alloc: Global, data_type: DataType) -> Result<LargeListArray, Error>
-    ensures { IsEmptyArray physical.LargeList (type_of data_type) (empty_fault (type_of data_type)) result }
+    ensures { IsEmptyArray physical.LargeList (type_of data_type) (empty_error (type_of data_type)) result }
 {
     LargeListArray::new_empty(alloc, data_type)
 }
 
 /// Returns nulls of a struct type.
 pub fn null_struct(alloc: Global, data_type: DataType, length: usize) -> Result<StructArray, Error>
-    ensures { IsNullArray physical.Struct (type_of data_type) length (type_fault (type_of data_type) length) result }
+    ensures { IsNullArray physical.Struct (type_of data_type) length (type_error (type_of data_type) length) result }
 {
     StructArray::new_null(alloc, data_type, length)
 }
 
 /// Returns an empty struct array.
 pub fn empty_struct(alloc: Global, data_type: DataType) -> Result<StructArray, Error>
-    ensures { IsEmptyArray physical.Struct (type_of data_type) (empty_fault (type_of data_type)) result }
+    ensures { IsEmptyArray physical.Struct (type_of data_type) (empty_error (type_of data_type)) result }
 {
     StructArray::new_empty(alloc, data_type)
 }
 
 /// Returns nulls of a map type.
 pub fn null_map(alloc: Global, data_type: DataType, length: usize) -> Result<MapArray, Error>
-    ensures { IsNullArray physical.Map (type_of data_type) length (type_fault (type_of data_type) length) result }
+    ensures { IsNullArray physical.Map (type_of data_type) length (type_error (type_of data_type) length) result }
 {
     MapArray::new_null(alloc, data_type, length)
 }
 
 /// Returns an empty map array.
 pub fn empty_map(alloc: Global, data_type: DataType) -> Result<MapArray, Error>
-    ensures { IsEmptyArray physical.Map (type_of data_type) (empty_fault (type_of data_type)) result }
+    ensures { IsEmptyArray physical.Map (type_of data_type) (empty_error (type_of data_type)) result }
 {
     MapArray::new_empty(alloc, data_type)
 }
 
 /// Returns nulls of a union type.
 pub fn null_union(alloc: Global, data_type: DataType, length: usize) -> Result<UnionArray, Error>
-    ensures { IsNullArray physical.Union (type_of data_type) length (type_fault (type_of data_type) length) result }
+    ensures { IsNullArray physical.Union (type_of data_type) length (type_error (type_of data_type) length) result }
 {
     UnionArray::new_null(alloc, data_type, length)
 }
 
 /// Returns an empty union array.
 pub fn empty_union(alloc: Global, data_type: DataType) -> Result<UnionArray, Error>
-    ensures { IsEmptyArray physical.Union (type_of data_type) (empty_fault (type_of data_type)) result }
+    ensures { IsEmptyArray physical.Union (type_of data_type) (empty_error (type_of data_type)) result }
 {
     UnionArray::new_empty(alloc, data_type)
 }
@@ -288,8 +288,8 @@ pub fn null_dictionary(
     length: usize,
 ) -> Result<DictionaryArray, Error>
     ensures { let t = type_of data_type in MatchResult result
-        (λ a. (is_dictionary t ≡ true) × (type_fault t length ≡ None) × HasNulls t length a)
-        (λ e. RefusesDictionary e t (type_fault t length)) }
+        (λ a. (is_dictionary t ≡ true) × (type_error t length ≡ None) × HasNulls t length a)
+        (λ e. RefusesDictionary e t (type_error t length)) }
 {
     DictionaryArray::new_null(alloc, data_type, length)
 }
@@ -297,8 +297,8 @@ pub fn null_dictionary(
 /// Returns an empty dictionary array with keys of any width.
 pub fn empty_dictionary(alloc: Global, data_type: DataType) -> Result<DictionaryArray, Error>
     ensures { let t = type_of data_type in MatchResult result
-        (λ a. (is_dictionary t ≡ true) × (empty_fault t ≡ None) × HasNone t a)
-        (λ e. RefusesDictionary e t (empty_fault t)) }
+        (λ a. (is_dictionary t ≡ true) × (empty_error t ≡ None) × HasNone t a)
+        (λ e. RefusesDictionary e t (empty_error t)) }
 {
     DictionaryArray::new_empty(alloc, data_type)
 }

@@ -5,17 +5,17 @@ ghost use Rattle.nest_array.specs.Seen.{layout_of, layouts_of};
 ghost use Rattle.nest_array.specs.SeenScalar.{slot_of_value};
 ghost use Rattle.nest_array.specs.WindowParts.{window_parts, window_slots};
 ghost use Rattle.nest_flat.specs.FlatParts.{optional};
-ghost use Rattle.nest_memory.specs.Cut.{cut};
+ghost use Rattle.nest_memory.specs.Sublist.{sublist};
 ghost use Rattle.nest_memory.specs.Rising.{below_zero};
 ghost use Rattle.nest_memory.specs.TypeOf.{field_list_of};
 ghost use Rattle.nest_memory.specs.TypeTree.{fields_of, ids_of};
 ghost use Rattle.nest_memory.specs.declared.error.Error.TheVariants.{Memory, Overflow};
 ghost use Rattle.nest_model.specs.Accessors.{child_at, child_of, children_of, key_at, keys_of, offsets_of, start_of, types_of, union_offsets_of, validity_of};
-ghost use Rattle.nest_model.specs.Cut.{cut_layout};
+ghost use Rattle.nest_model.specs.Slice.{slice_layout};
 ghost use Rattle.nest_model.specs.Fits.{Names};
 ghost use Rattle.nest_model.specs.Layout.{layout_type};
-ghost use Rattle.nest_model.specs.Meaning.{len, slot, slots_of, union_place, where_valid};
-ghost use Rattle.nest_model.specs.Part.{begin, extent, field_named, place};
+ghost use Rattle.nest_model.specs.Meaning.{len, slot, slots_of, union_index, where_valid};
+ghost use Rattle.nest_model.specs.Part.{begin, extent, field_named, to_index};
 ghost use Rattle.nest_model.specs.Slot as slots;
 ghost use Rattle.nest_model.specs.Slot.{seal};
 ghost use Rattle.promises_arrays.specs.Validities.{SetsValidity};
@@ -53,7 +53,7 @@ pub fn fixed_size_binary_from_slice<const N: usize>(
 /// Returns the items of a list, a slice of the child. The slot is the list of these items, or null.
 pub fn list_at(lists: &ListArray, alloc: Global, i: usize) -> Result<AnyArray, Error>
     requires { i < len lists.now }
-    ensures parts { IfOk result (λ a. layout_of a ≡ cut_layout (child_of lists.now) (begin (offsets_of lists.now) i) (extent (offsets_of lists.now) i)) }
+    ensures parts { IfOk result (λ a. layout_of a ≡ slice_layout (child_of lists.now) (begin (offsets_of lists.now) i) (extent (offsets_of lists.now) i)) }
     ensures items { IfOk result (λ a. slot lists.now i ≡ where_valid (validity_of lists.now) i (slots.list (seal (slots_of (layout_of a))))) }
     ensures err { IsOkUnless result (Memory alloc_error) }
 {
@@ -98,7 +98,7 @@ pub fn fixed_size_list_at(
 /// Returns the entries of a map, a slice of all entries. The slot is the list of these entries, or null.
 pub fn map_at(maps: &MapArray, alloc: Global, i: usize) -> Result<AnyArray, Error>
     requires { i < len maps.now }
-    ensures parts { IfOk result (λ a. layout_of a ≡ cut_layout (child_of maps.now) (begin (offsets_of maps.now) i) (extent (offsets_of maps.now) i)) }
+    ensures parts { IfOk result (λ a. layout_of a ≡ slice_layout (child_of maps.now) (begin (offsets_of maps.now) i) (extent (offsets_of maps.now) i)) }
     ensures entries { IfOk result (λ a. slot maps.now i ≡ where_valid (validity_of maps.now) i (slots.list (seal (slots_of (layout_of a))))) }
     ensures err { IsOkUnless result (Memory alloc_error) }
 {
@@ -124,7 +124,7 @@ pub fn struct_children(array: &StructArray) -> &[AnyArray]
 pub fn union_index_at(unions: &UnionArray, i: usize) -> (usize, usize)
     requires { i < len unions.now }
     ensures field { field_named (ids_of (layout_type unions.now)) (get_or (types_of unions.now) i (pos 0)) ≡ Some result.0 }
-    ensures index { result.1 ≡ union_place (union_offsets_of unions.now) (start_of unions.now) i }
+    ensures index { result.1 ≡ union_index (union_offsets_of unions.now) (start_of unions.now) i }
     ensures slot { slot unions.now i ≡ slots.pick result.0 (layout_type (child_at (children_of unions.now) result.0)) (slot (child_at (children_of unions.now) result.0) result.1) }
 {
     unions.index(i)
@@ -181,7 +181,7 @@ pub fn dictionary_scalar_at(
 ) -> Result<AnyScalar, Error>
     requires within { i < len dictionary.now }
     requires in_range { Names (key_at (keys_of dictionary.now) i) (len (child_of dictionary.now)) }
-    ensures ok { IfOk result (λ s. s ≡ scalar_parts (layout_type (child_of dictionary.now)) (slot (child_of dictionary.now) (place (key_at (keys_of dictionary.now) i)))) }
+    ensures ok { IfOk result (λ s. s ≡ scalar_parts (layout_type (child_of dictionary.now)) (slot (child_of dictionary.now) (to_index (key_at (keys_of dictionary.now) i)))) }
     ensures slot { IfOk result (λ s. slot dictionary.now i ≡ where_valid (validity_of dictionary.now) i s.slot) }
     ensures err { IsOkUnless result (Memory alloc_error) }
 {
@@ -202,7 +202,7 @@ pub fn set_dictionary_validity(
 pub fn window_over(array: &AnyArray, o: usize, n: usize) -> Window<'_>
     requires { o + n ≤ len (layout_of array.now) }
     ensures parts { result ≡ window_parts (layout_of array.now) o n }
-    ensures slots { window_slots result ≡ cut (slots_of (layout_of array.now)) o n }
+    ensures slots { window_slots result ≡ sublist (slots_of (layout_of array.now)) o n }
 {
     Window::new(array, o, n)
 }
@@ -210,7 +210,7 @@ pub fn window_over(array: &AnyArray, o: usize, n: usize) -> Window<'_>
 /// Returns a slice of a window.
 pub fn slice_of_window<'a>(window: &Window<'a>, o: usize, n: usize) -> Window<'a>
     requires { o + n ≤ window.now.count }
-    ensures { window_slots result ≡ cut (window_slots window.now) o n }
+    ensures { window_slots result ≡ sublist (window_slots window.now) o n }
 {
     window.cut(o, n)
 }

@@ -3,7 +3,7 @@ ghost use Rattle.std.specs.Borrow.{LendsIf, sem};
 ghost use Rattle.std.specs.Prelude.{◌≡◌, ◌↔◌, ◌⊎◌, ℕ, OnOk, OnErr, IfErr, IfOk, IsErrOf, IsTrue, MatchResult, None, Some, option_map, alloc_error};
 ghost use Rattle.nest_any.specs.Dictionaries.{dictionary_tree};
 ghost use Rattle.nest_any.specs.Lent.{as_list, as_struct, child_builder};
-ghost use Rattle.nest_any.specs.Refusals.{first_rows, nested_checks, nested_over, struct_checks};
+ghost use Rattle.nest_any.specs.Refusals.{nested_checks, nested_over, struct_checks, struct_over};
 ghost use Rattle.nest_any.specs.Trees.{tree_of, trees_of};
 ghost use Rattle.nest_any.specs.contracts.any.AnyMutableArray.{the_row as any_row};
 ghost use Rattle.nest_any.specs.contracts.lists.ListBuilder.{the_row as list_row};
@@ -12,19 +12,17 @@ ghost use Rattle.nest_any.specs.declared.any.AnyMutableArray.TheVariants.{List, 
 ghost use Rattle.nest_array.specs.Seen.{layout_of};
 ghost use Rattle.nest_build.specs.Children.{list_child};
 ghost use Rattle.nest_build.specs.Keys.{dictionary_child};
-ghost use Rattle.nest_build.specs.Rows.{bits_told};
 ghost use Rattle.nest_memory.specs.TypeOf.{type_of};
-ghost use Rattle.nest_memory.specs.declared.error.Argument.TheVariants.{Unfinished};
+ghost use Rattle.nest_memory.specs.declared.error.ArgumentError.TheVariants.{Incomplete};
 ghost use Rattle.nest_memory.specs.declared.error.Error.TheVariants.{InvalidArgumentError, Memory};
 ghost use Rattle.nest_model.specs.Accessors.{validity_of};
 ghost use Rattle.nest_model.specs.BuilderAppend.{Accepted};
-ghost use Rattle.nest_model.specs.BuilderItem.{null as null_item, Stands};
+ghost use Rattle.nest_model.specs.BuilderItem.{null as null_item, IsValueAt};
 ghost use Rattle.nest_model.specs.BuilderLevels.{own_slots};
 ghost use Rattle.nest_model.specs.BuilderRefusals.{item_refusal};
-ghost use Rattle.nest_model.specs.BuilderTold.{AreEachWhole, HasWholeChildren, Told, row_checks};
-ghost use Rattle.nest_model.specs.BuilderTree as builders;
+ghost use Rattle.nest_model.specs.BuilderAddRow.{AreEachComplete, HasCompleteChildren, RowAdded, row_checks};
 ghost use Rattle.nest_model.specs.BuilderTree.{builder_type};
-ghost use Rattle.nest_model.specs.BuilderWhole.{IsWhole, emptied};
+ghost use Rattle.nest_model.specs.BuilderComplete.{IsComplete, emptied};
 ghost use Rattle.nest_model.specs.Checks.{FailFirst, Pass};
 ghost use Rattle.nest_model.specs.Layout.{layout_type};
 ghost use Rattle.nest_model.specs.Meaning.{slots_of};
@@ -46,7 +44,7 @@ pub fn new_nested_builder(
     data_type: DataType,
     child: AnyMutableArray,
 ) -> Result<AnyMutableArray, Error>
-    requires { IsWhole (tree_of child) }
+    requires { IsComplete (tree_of child) }
     ensures ok { IfOk result (λ b. tree_of b ≡ nested_over (type_of data_type) (tree_of child)) }
     ensures checks { IfOk result (λ b. Pass (nested_checks (type_of data_type) (tree_of child))) }
     ensures refused { IfErr result (λ e. (e ≡ Memory alloc_error) ⊎ FailFirst e (nested_checks (type_of data_type) (tree_of child))) }
@@ -61,17 +59,17 @@ pub fn new_struct_builder(
     values: Vec<AnyMutableArray>,
     validity: Option<MutableBitmap>,
 ) -> Result<MutableStructArray, Error>
-    requires { AreEachWhole (trees_of values.items) }
-    ensures { let cs = trees_of values.items in
-        let checks = struct_checks (type_of data_type) cs validity in
-        MatchResult result (λ b. Pass checks × (b ≡ builders.struct (type_of data_type) (bits_told (first_rows cs) validity) cs)) (λ e. FailFirst e checks) }
+    requires { AreEachComplete (trees_of values.items) }
+    ensures { let t = type_of data_type in let cs = trees_of values.items in
+        let all = struct_checks t cs validity in
+        MatchResult result (λ b. Pass all × (b ≡ struct_over t cs validity)) (λ e. FailFirst e all) }
 {
     MutableStructArray::try_new(alloc, data_type, values, validity)
 }
 
 /// Appends a null to a builder of any kind, as to every builder.
 pub fn push_null_to_any(builder: &mut AnyMutableArray) -> Result<(), Error>
-    requires { IsWhole (tree_of builder.old) }
+    requires { IsComplete (tree_of builder.old) }
     ensures accepted { OnOk result (Accepted null_item (tree_of builder.old) (tree_of builder.new)) }
     ensures err { OnErr result (tree_of builder.new ≡ tree_of builder.old) }
     ensures refused { IfErr result (λ e. (e ≡ Memory alloc_error) ⊎ (item_refusal null_item (tree_of builder.old) ≡ Some e)) }
@@ -104,7 +102,7 @@ pub fn struct_builder_of_any(builder: &mut AnyMutableArray) -> Option<&mut Mutab
 
 /// Returns the index of a value among those of a builder of dictionaries.
 pub fn index_of_value<T: AsPlain>(builder: &AnyMutableDictionary, value: &T) -> Option<usize>
-    ensures { (k : ℕ) → (result ≡ Some k) ↔ Stands (dictionary_child (dictionary_tree builder.now)) (T.value value.now) k }
+    ensures { (k : ℕ) → (result ≡ Some k) ↔ IsValueAt (dictionary_child (dictionary_tree builder.now)) (T.value value.now) k }
 {
     builder.key_of(value)
 }
@@ -112,33 +110,33 @@ pub fn index_of_value<T: AsPlain>(builder: &AnyMutableDictionary, value: &T) -> 
 /// Appends a row of the children's items that are in no row yet, or returns the error of the first check that fails; then no
 /// level changes.
 pub fn push_row_to_any(builder: &mut AnyMutableArray, valid: bool) -> Result<(), Error>
-    requires { HasWholeChildren (tree_of builder.old) }
-    ensures row { OnOk result (Told valid (tree_of builder.old) (tree_of builder.new)) }
+    requires { HasCompleteChildren (tree_of builder.old) }
+    ensures row { OnOk result (RowAdded valid (tree_of builder.old) (tree_of builder.new)) }
     ensures checks { OnOk result (Pass (row_checks (tree_of builder.old))) }
     ensures err { OnErr result (tree_of builder.new ≡ tree_of builder.old) }
     ensures refused { IfErr result (λ e. (e ≡ Memory alloc_error) ⊎ FailFirst e (row_checks (tree_of builder.old))) }
 {
-    builder.tell(valid)
+    builder.push_row(valid)
 }
 
 /// A builder of lists over a complete child has complete children, so a row may be appended.
 pub fn list_child_is_complete(lists: &ListBuilder)
-    ensures { IsWhole (list_child lists.now) → HasWholeChildren lists.now }
+    ensures { IsComplete (list_child lists.now) → HasCompleteChildren lists.now }
 {
     lists.known()
 }
 
 /// Returns whether the children are complete, so a row may be appended.
 pub fn has_complete_children(builder: &AnyMutableArray) -> bool
-    ensures { IsTrue result ↔ HasWholeChildren (tree_of builder.now) }
+    ensures { IsTrue result ↔ HasCompleteChildren (tree_of builder.now) }
 {
-    builder.has_whole_children()
+    builder.has_complete_children()
 }
 
 /// Appends a row to a builder of structs.
 pub fn push_struct_row(builder: &mut MutableStructArray, valid: bool) -> Result<(), Error>
-    requires { HasWholeChildren builder.old }
-    ensures row { OnOk result (Told valid builder.old builder.new) }
+    requires { HasCompleteChildren builder.old }
+    ensures row { OnOk result (RowAdded valid builder.old builder.new) }
     ensures checks { OnOk result (Pass (row_checks builder.old)) }
     ensures err { OnErr result (builder.new ≡ builder.old) }
     ensures refused { IfErr result (λ e. (e ≡ Memory alloc_error) ⊎ FailFirst e (row_checks builder.old)) }
@@ -152,10 +150,10 @@ pub fn freeze_structs(builder: &mut MutableStructArray) -> Result<StructArray, E
     ensures slots { IfOk result (λ a. slots_of a ≡ own_slots builder.old) }
     ensures data_type { IfOk result (λ a. layout_type a ≡ builder_type builder.old) }
     ensures no_validity { IfOk result (λ a. null_count a ≡ 0 → validity_of a ≡ None) }
-    ensures unfinished { IsErrOf result (InvalidArgumentError Unfinished) ↔ ¬ IsWhole builder.old }
-    ensures unchanged { ¬ IsWhole builder.old → builder.new ≡ builder.old }
-    ensures emptied { IsWhole builder.old → builder.new ≡ emptied builder.old }
-    ensures errors { IfErr result (λ e. (e ≡ InvalidArgumentError Unfinished) ⊎ (e ≡ Memory alloc_error)) }
+    ensures incomplete { IsErrOf result (InvalidArgumentError Incomplete) ↔ ¬ IsComplete builder.old }
+    ensures unchanged { ¬ IsComplete builder.old → builder.new ≡ builder.old }
+    ensures emptied { IsComplete builder.old → builder.new ≡ emptied builder.old }
+    ensures errors { IfErr result (λ e. (e ≡ InvalidArgumentError Incomplete) ⊎ (e ≡ Memory alloc_error)) }
 {
     builder.freeze()
 }
@@ -168,8 +166,8 @@ pub fn structs_into_shared(
     ensures slots { IfOk result (λ r. slots_of (layout_of r.value) ≡ own_slots builder) }
     ensures data_type { IfOk result (λ r. layout_type (layout_of r.value) ≡ builder_type builder) }
     ensures no_validity { IfOk result (λ r. null_count (layout_of r.value) ≡ 0 → validity_of (layout_of r.value) ≡ None) }
-    ensures unfinished { IsErrOf result (InvalidArgumentError Unfinished) ↔ ¬ IsWhole builder }
-    ensures errors { IfErr result (λ e. (e ≡ InvalidArgumentError Unfinished) ⊎ (e ≡ Memory alloc_error)) }
+    ensures incomplete { IsErrOf result (InvalidArgumentError Incomplete) ↔ ¬ IsComplete builder }
+    ensures errors { IfErr result (λ e. (e ≡ InvalidArgumentError Incomplete) ⊎ (e ≡ Memory alloc_error)) }
 {
     builder.into_arc(alloc)
 }

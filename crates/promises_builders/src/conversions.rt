@@ -2,11 +2,11 @@
 //! the builder is incomplete, or when an allocation fails.
 ghost use Rattle.std.specs.Prelude.{◌≡◌, ◌⊎◌, ◌↔◌, IfErr, IfOk, IsErrOf, alloc_error};
 ghost use Rattle.nest_array.specs.Seen.{layout_of};
-ghost use Rattle.nest_memory.specs.declared.error.Argument.TheVariants.{Unfinished};
+ghost use Rattle.nest_memory.specs.declared.error.ArgumentError.TheVariants.{Incomplete};
 ghost use Rattle.nest_memory.specs.declared.error.Error.TheVariants.{InvalidArgumentError, Memory};
 ghost use Rattle.nest_model.specs.BuilderLevels.{own_slots};
 ghost use Rattle.nest_model.specs.BuilderTree.{builder_type};
-ghost use Rattle.nest_model.specs.BuilderWhole.{IsWhole};
+ghost use Rattle.nest_model.specs.BuilderComplete.{IsComplete};
 ghost use Rattle.nest_model.specs.Layout.{layout_type};
 ghost use Rattle.nest_model.specs.Meaning.{slots_of};
 
@@ -27,9 +27,9 @@ pub fn list_builder_into_array<O: ListWidth, M: MutableArray>(
         IfOk result (λ a. slots_of (layout_of a) ≡ own_slots (tree builder)) }
     ensures data_type { let tree = ⟦<MutableListArray<O, M> as MutableArray>⟧.model in
         IfOk result (λ a. layout_type (layout_of a) ≡ builder_type (tree builder)) }
-    ensures unfinished { let tree = ⟦<MutableListArray<O, M> as MutableArray>⟧.model in
-        IsErrOf result (InvalidArgumentError Unfinished) ↔ ¬ IsWhole (tree builder) }
-    ensures errors { IfErr result (λ e. (e ≡ InvalidArgumentError Unfinished) ⊎ (e ≡ Memory alloc_error)) }
+    ensures incomplete { let tree = ⟦<MutableListArray<O, M> as MutableArray>⟧.model in
+        IsErrOf result (InvalidArgumentError Incomplete) ↔ ¬ IsComplete (tree builder) }
+    ensures errors { IfErr result (λ e. (e ≡ InvalidArgumentError Incomplete) ⊎ (e ≡ Memory alloc_error)) }
 {
     builder.into_box()
 }
@@ -43,9 +43,9 @@ pub fn list_builder_into_shared<O: ListWidth, M: MutableArray>(
         IfOk result (λ r. slots_of (layout_of r.value) ≡ own_slots (tree builder)) }
     ensures data_type { let tree = ⟦<MutableListArray<O, M> as MutableArray>⟧.model in
         IfOk result (λ r. layout_type (layout_of r.value) ≡ builder_type (tree builder)) }
-    ensures unfinished { let tree = ⟦<MutableListArray<O, M> as MutableArray>⟧.model in
-        IsErrOf result (InvalidArgumentError Unfinished) ↔ ¬ IsWhole (tree builder) }
-    ensures errors { IfErr result (λ e. (e ≡ InvalidArgumentError Unfinished) ⊎ (e ≡ Memory alloc_error)) }
+    ensures incomplete { let tree = ⟦<MutableListArray<O, M> as MutableArray>⟧.model in
+        IsErrOf result (InvalidArgumentError Incomplete) ↔ ¬ IsComplete (tree builder) }
+    ensures errors { IfErr result (λ e. (e ≡ InvalidArgumentError Incomplete) ⊎ (e ≡ Memory alloc_error)) }
 {
     builder.into_arc(alloc)
 }
@@ -58,9 +58,9 @@ pub fn dictionary_builder_into_array<K: BuilderKey, M: MutableArray>(
         IfOk result (λ a. slots_of (layout_of a) ≡ own_slots (tree builder)) }
     ensures data_type { let tree = ⟦<MutableDictionaryArray<K, M> as MutableArray>⟧.model in
         IfOk result (λ a. layout_type (layout_of a) ≡ builder_type (tree builder)) }
-    ensures unfinished { let tree = ⟦<MutableDictionaryArray<K, M> as MutableArray>⟧.model in
-        IsErrOf result (InvalidArgumentError Unfinished) ↔ ¬ IsWhole (tree builder) }
-    ensures errors { IfErr result (λ e. (e ≡ InvalidArgumentError Unfinished) ⊎ (e ≡ Memory alloc_error)) }
+    ensures incomplete { let tree = ⟦<MutableDictionaryArray<K, M> as MutableArray>⟧.model in
+        IsErrOf result (InvalidArgumentError Incomplete) ↔ ¬ IsComplete (tree builder) }
+    ensures errors { IfErr result (λ e. (e ≡ InvalidArgumentError Incomplete) ⊎ (e ≡ Memory alloc_error)) }
 {
     builder.into_box()
 }
@@ -74,9 +74,9 @@ pub fn dictionary_builder_into_shared<K: BuilderKey, M: MutableArray>(
         IfOk result (λ r. slots_of (layout_of r.value) ≡ own_slots (tree builder)) }
     ensures data_type { let tree = ⟦<MutableDictionaryArray<K, M> as MutableArray>⟧.model in
         IfOk result (λ r. layout_type (layout_of r.value) ≡ builder_type (tree builder)) }
-    ensures unfinished { let tree = ⟦<MutableDictionaryArray<K, M> as MutableArray>⟧.model in
-        IsErrOf result (InvalidArgumentError Unfinished) ↔ ¬ IsWhole (tree builder) }
-    ensures errors { IfErr result (λ e. (e ≡ InvalidArgumentError Unfinished) ⊎ (e ≡ Memory alloc_error)) }
+    ensures incomplete { let tree = ⟦<MutableDictionaryArray<K, M> as MutableArray>⟧.model in
+        IsErrOf result (InvalidArgumentError Incomplete) ↔ ¬ IsComplete (tree builder) }
+    ensures errors { IfErr result (λ e. (e ≡ InvalidArgumentError Incomplete) ⊎ (e ≡ Memory alloc_error)) }
 {
     builder.into_arc(alloc)
 }

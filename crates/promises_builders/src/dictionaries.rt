@@ -1,17 +1,16 @@
 //! Builders of dictionaries, and the hash table by which they find the key of a value.
-ghost use Rattle.std.specs.Prelude.{◌≡◌, ◌≢◌, ◌⊎◌, [], IfErr, IfOk, IsOkUnless, Some, alloc_error, ◌≤◌, ◌<◌, ◌↔◌, ◌++◌, ◌∷◌, true, false, ℕ, length, option_map, pos, slice_get, take, OnOk, OnErr, IfSome, IfNone, IsNone};
+ghost use Rattle.std.specs.Prelude.{◌≡◌, ◌≢◌, ◌⊎◌, [], IfErr, IfOk, IsOkUnless, Some, alloc_error, ◌≤◌, ◌<◌, ◌↔◌, ◌++◌, ◌∷◌, true, false, ℕ, length, slice_get, take, OnOk, OnErr, IfSome, IfNone, IsNone};
 ghost use Rattle.nest_build.specs.Keys.{dictionary_child};
 ghost use Rattle.nest_memory.specs.TypeOf.{type_of};
 ghost use Rattle.nest_memory.specs.TypeTree.{key_type};
-ghost use Rattle.nest_memory.specs.declared.error.Argument.TheVariants.{ChildNotEmpty};
+ghost use Rattle.nest_memory.specs.declared.error.ArgumentError.TheVariants.{ChildNotEmpty};
 ghost use Rattle.nest_memory.specs.declared.error.Error.TheVariants.{InvalidArgumentError, Memory};
-ghost use Rattle.nest_model.specs.Accessors.{whole};
-ghost use Rattle.nest_model.specs.BuilderItem.{Lacks, Stands};
+ghost use Rattle.nest_model.specs.BuilderItem.{Lacks, IsValueAt};
 ghost use Rattle.nest_model.specs.BuilderLevels.{own_slots};
 ghost use Rattle.nest_model.specs.BuilderTree as builders;
 ghost use Rattle.nest_model.specs.BuilderTree.{builder_len};
-ghost use Rattle.nest_model.specs.BuilderWhole.{IsWhole, AreDifferent};
-ghost use Rattle.promises_builders.specs.Dictionaries.{empty_dictionary};
+ghost use Rattle.nest_model.specs.BuilderComplete.{IsComplete, AreDifferent};
+ghost use Rattle.promises_builders.specs.Dictionaries.{empty_dictionary, IsKey};
 
 use nest_build::array::MutableArray;
 use nest_build::dictionary::{BuilderKey, KeyTable, MutableDictionaryArray};
@@ -25,7 +24,7 @@ pub fn new_dictionary_builder<K: BuilderKey, M: MutableArray>(
     alloc: Global,
     values: M,
 ) -> Result<MutableDictionaryArray<K, M>, Error>
-    requires whole { IsWhole (M.model values) }
+    requires complete { IsComplete (M.model values) }
     requires empty { builder_len (M.model values) ≡ 0 }
     ensures ok { let tree = ⟦<MutableDictionaryArray<K, M> as MutableArray>⟧.model in
         IfOk result (λ b. tree b ≡ empty_dictionary K.KEY_TYPE (M.model values)) }
@@ -39,7 +38,7 @@ pub fn try_new_dictionary_builder<K: BuilderKey, M: MutableArray>(
     alloc: Global,
     values: M,
 ) -> Result<MutableDictionaryArray<K, M>, Error>
-    requires { IsWhole (M.model values) }
+    requires { IsComplete (M.model values) }
     ensures ok { let tree = ⟦<MutableDictionaryArray<K, M> as MutableArray>⟧.model in
         IfOk result (λ b. tree b ≡ empty_dictionary K.KEY_TYPE (M.model values)) }
     ensures empty { IfOk result (λ b. builder_len (M.model values) ≡ 0) }
@@ -101,8 +100,8 @@ pub fn key_of_value<K: BuilderKey, M: MutableArray, T: AsPlain>(
     builder: &MutableDictionaryArray<K, M>,
     value: &T,
 ) -> Option<K>
-    ensures index { let tree = ⟦<MutableDictionaryArray<K, M> as MutableArray>⟧.model in
-        (k : ℕ) → (option_map (λ key. whole (K.numbers key)) result ≡ Some (pos k)) ↔ Stands (dictionary_child (tree builder.now)) (T.value value.now) k }
+    ensures index { let c = dictionary_child (⟦<MutableDictionaryArray<K, M> as MutableArray>⟧.model builder.now) in
+        (k : ℕ) → IsKey K.numbers result k ↔ IsValueAt c (T.value value.now) k }
     ensures absent { let tree = ⟦<MutableDictionaryArray<K, M> as MutableArray>⟧.model in
         IsNone result ↔ Lacks (dictionary_child (tree builder.now)) (T.value value.now) }
 {

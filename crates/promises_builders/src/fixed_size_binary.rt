@@ -8,11 +8,11 @@ ghost use Rattle.nest_flat.specs.FlatParts.{optional};
 ghost use Rattle.nest_memory.specs.TypeOf.{type_of};
 ghost use Rattle.nest_memory.specs.TypeTree as types;
 ghost use Rattle.nest_memory.specs.TypeTree.{size_of};
-ghost use Rattle.nest_memory.specs.declared.error.Argument.TheVariants.{ItemSize};
+ghost use Rattle.nest_memory.specs.declared.error.ArgumentError.TheVariants.{ItemSize};
 ghost use Rattle.nest_memory.specs.declared.error.Error.TheVariants.{InvalidArgumentError, Memory};
 ghost use Rattle.nest_model.specs.Accessors.{bytes_of};
-ghost use Rattle.nest_model.specs.Cut.{cut_layout};
-ghost use Rattle.nest_model.specs.Fits.{FirstFault, Fits};
+ghost use Rattle.nest_model.specs.Slice.{slice_layout};
+ghost use Rattle.nest_model.specs.Fits.{FirstError, Fits};
 ghost use Rattle.nest_model.specs.Layout as layouts;
 ghost use Rattle.nest_model.specs.Layout.{layout_type};
 ghost use Rattle.nest_model.specs.Meaning.{len, slots_of};
@@ -40,7 +40,7 @@ pub fn fixed_size_binary_builder_of(
     validity: Option<MutableBitmap>,
 ) -> Result<MutableFixedSizeBinaryArray, Error>
     ensures { let parts = layouts.fixed_size_binary (type_of data_type) values.items validity in
-        MatchResult result (λ b. Fits parts × (b ≡ parts)) (λ e. FirstFault e parts) }
+        MatchResult result (λ b. Fits parts × (b ≡ parts)) (λ e. FirstError e parts) }
 {
     MutableFixedSizeBinaryArray::try_new(data_type, values, validity)
 }
@@ -64,7 +64,7 @@ pub fn pop_fixed_size_binary(
     builder: &mut MutableFixedSizeBinaryArray,
 ) -> Result<Option<Vec<u8>>, Error>
     ensures value { IfOk result (λ item. optional (λ bytes. slots.bytes bytes.items) item ≡ get_or (slots_of builder.old) (len builder.old - 1) slots.null) }
-    ensures rest { OnOk result (builder.new ≡ cut_layout builder.old 0 (len builder.old - 1)) }
+    ensures rest { OnOk result (builder.new ≡ slice_layout builder.old 0 (len builder.old - 1)) }
     ensures slots { OnOk result (slots_of builder.new ≡ take (len builder.old - 1) (slots_of builder.old)) }
     ensures err { OnErr result (builder.new ≡ builder.old) }
     ensures memory { IsOkUnless result (Memory alloc_error) }

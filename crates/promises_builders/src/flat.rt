@@ -4,21 +4,22 @@
 //! the layout of the array built so far, so "unchanged" is one equation over every part.
 ghost use Rattle.std.specs.Borrow.{Bor};
 ghost use Rattle.std.specs.Option.{option_copied};
-ghost use Rattle.std.specs.Prelude.{◌≡◌, ◌≢◌, ◌+◌, ◌≤◌, ◌<◌, ◌⊎◌, ◌↔◌, ◌++◌, ◌∷◌, [], ℕ, List, Option, None, OnOk, OnErr, IfOk, IfErr, IsErrOf, IsOkUnless, length, option_map, alloc_error};
+ghost use Rattle.std.specs.Prelude.{◌≡◌, ◌≢◌, ◌+◌, ◌≤◌, ◌<◌, ◌⊎◌, ◌↔◌, ◌++◌, ◌∷◌, [], ℕ, List, Option, None, OnOk, OnErr, IfOk, IfErr, IsErrOf, IsOkUnless, length, alloc_error};
 ghost use Rattle.nest_flat.specs.BytesGrowth.{item_refusal, item_bytes, pushed_item};
 ghost use Rattle.nest_flat.specs.FlatParts.{optional};
-ghost use Rattle.nest_flat.specs.Growth.{CanDrain, Extended, RefusesBeginning, first_slots, native_refusal, pushed_native, pushed_truth};
-ghost use Rattle.nest_memory.specs.Cut.{cut};
+ghost use Rattle.nest_flat.specs.Growth.{CanDrain, RefusesBeginning, first_slots, pushed_boolean};
+ghost use Rattle.nest_memory.specs.Sublist.{sublist};
 ghost use Rattle.nest_memory.specs.Rising.{last_of};
-ghost use Rattle.nest_memory.specs.declared.error.Argument.TheVariants.{ItemType};
+ghost use Rattle.nest_memory.specs.declared.error.ArgumentError.TheVariants.{ItemType};
 ghost use Rattle.nest_memory.specs.declared.error.Error.TheVariants.{InvalidArgumentError, Memory, Overflow};
 ghost use Rattle.nest_model.specs.Accessors.{offsets_of};
-ghost use Rattle.nest_model.specs.BuilderSpells.{Gives};
+ghost use Rattle.nest_model.specs.BuilderInput.{YieldsAll};
 ghost use Rattle.nest_model.specs.BuilderTree.{IsPast};
 ghost use Rattle.nest_model.specs.Layout as layouts;
 ghost use Rattle.nest_model.specs.Layout.{layout_type};
 ghost use Rattle.nest_model.specs.Meaning.{len, slots_of};
 ghost use Rattle.nest_model.specs.Slot as slots;
+ghost use Rattle.nest_flat.specs.Extensions.{BytesExtended, NativesExtended};
 
 use nest_flat::binary::mutable::MutableBinaryArray;
 use nest_flat::boolean::BooleanArray;
@@ -50,8 +51,8 @@ pub fn extend_primitive<T: NativeType, I: IntoIterator<Item = Option<T>>>(
     items: I,
 ) -> Result<(), Error>
     requires { CanDrain I.into_iter_gives I.IntoIter.can_next I.IntoIter.remaining items }
-    ensures ok { OnOk result ((xs : List (Option T)) × Gives I.into_iter_gives I.IntoIter.next_gives items xs
-        × Extended (λ a x. pushed_native a (option_map T.numbers x)) native_refusal (optional (λ x. slots.number (T.numbers x))) xs builder.old builder.new) }
+    ensures ok { OnOk result ((xs : List (Option T)) × YieldsAll I.into_iter_gives I.IntoIter.next_gives items xs
+        × NativesExtended T.numbers xs builder.old builder.new) }
     ensures err { OnErr result (builder.new ≡ builder.old) }
     ensures memory { IsOkUnless result (Memory alloc_error) }
 {
@@ -74,7 +75,7 @@ pub fn extend_primitive_from_builder<T: NativeType>(
 /// Keeps the first `n` slots.
 pub fn truncate_primitive<T: NativeType>(builder: &mut MutablePrimitiveArray<T>, n: usize)
     requires { n ≤ len builder.old }
-    ensures { slots_of builder.new ≡ cut (slots_of builder.old) 0 n }
+    ensures { slots_of builder.new ≡ sublist (slots_of builder.old) 0 n }
 {
     builder.truncate(n);
 }
@@ -92,8 +93,8 @@ pub fn freeze_primitive<T: NativeType>(
 
 /// Appends a boolean or a null. Fails exactly where the length would exceed `usize`, or when an allocation fails.
 pub fn push_boolean(builder: &mut MutableBooleanArray, item: Option<bool>) -> Result<(), Error>
-    ensures parts { OnOk result (builder.new ≡ pushed_truth builder.old item) }
-    ensures slots { OnOk result (slots_of builder.new ≡ slots_of builder.old ++ optional slots.truth item ∷ []) }
+    ensures parts { OnOk result (builder.new ≡ pushed_boolean builder.old item) }
+    ensures slots { OnOk result (slots_of builder.new ≡ slots_of builder.old ++ optional slots.boolean item ∷ []) }
     ensures err { OnErr result (builder.new ≡ builder.old) }
     ensures overflow { IsErrOf result Overflow ↔ IsPast (len builder.old + 1) }
     ensures errors { IfErr result (λ e. (e ≡ Overflow) ⊎ (e ≡ Memory alloc_error)) }
@@ -128,7 +129,7 @@ pub fn push_utf8<O: Offset>(
     builder: &mut MutableUtf8Array<O>,
     item: Option<&str>,
 ) -> Result<(), Error>
-    ensures slots { OnOk result (slots_of builder.new ≡ slots_of builder.old ++ optional slots.text (option_copied item.entry) ∷ []) }
+    ensures slots { OnOk result (slots_of builder.new ≡ slots_of builder.old ++ optional slots.utf8 (option_copied item.entry) ∷ []) }
     ensures err { OnErr result (builder.new ≡ builder.old) }
     ensures overflow { IsErrOf result Overflow ↔ (O.largest < last_of (offsets_of builder.old) + length (item_bytes (option_copied item.entry))) }
     ensures errors { IfErr result (λ e. (e ≡ Overflow) ⊎ (e ≡ Memory alloc_error)) }
@@ -142,8 +143,8 @@ pub fn extend_utf8<'a, O: Offset, I: IntoIterator<Item = Option<&'a str>>>(
     items: I,
 ) -> Result<(), Error>
     requires { CanDrain I.into_iter_gives I.IntoIter.can_next I.IntoIter.remaining items }
-    ensures ok { OnOk result ((xs : List (Option (Bor (List ℕ)))) × Gives I.into_iter_gives I.IntoIter.next_gives items xs
-        × Extended (λ a x. pushed_item a (option_copied x)) (λ a x. item_refusal O.largest a (option_copied x)) (λ x. optional slots.text (option_copied x)) xs builder.old builder.new) }
+    ensures ok { OnOk result ((xs : List (Option (Bor (List ℕ)))) × YieldsAll I.into_iter_gives I.IntoIter.next_gives items xs
+        × BytesExtended O.largest slots.utf8 xs builder.old builder.new) }
     ensures err { OnErr result (builder.new ≡ builder.old) }
     ensures cause { IfErr result (λ e. RefusesBeginning I.into_iter_gives I.IntoIter.next_gives
         (λ a x. pushed_item a (option_copied x)) (λ a x. item_refusal O.largest a (option_copied x)) items builder.old e) }
@@ -155,7 +156,7 @@ pub fn extend_utf8<'a, O: Offset, I: IntoIterator<Item = Option<&'a str>>>(
 pub fn truncate_utf8<O: Offset>(builder: &mut MutableUtf8Array<O>, n: usize)
     requires { n ≤ len builder.old }
     ensures parts { builder.new ≡ first_slots builder.old n }
-    ensures slots { slots_of builder.new ≡ cut (slots_of builder.old) 0 n }
+    ensures slots { slots_of builder.new ≡ sublist (slots_of builder.old) 0 n }
 {
     builder.truncate(n);
 }
@@ -163,7 +164,7 @@ pub fn truncate_utf8<O: Offset>(builder: &mut MutableUtf8Array<O>, n: usize)
 /// Returns the array of the strings and leaves none.
 pub fn freeze_utf8<O: Offset>(builder: &mut MutableUtf8Array<O>) -> Result<Utf8Array<O>, Error>
     ensures ok { IfOk result (λ a. a ≡ builder.old) }
-    ensures emptied { builder.new ≡ layouts.text O.IS_LARGE (layout_type builder.old) (0 ∷ []) [] None }
+    ensures emptied { builder.new ≡ layouts.utf8 O.IS_LARGE (layout_type builder.old) (0 ∷ []) [] None }
     ensures memory { IsOkUnless result (Memory alloc_error) }
 {
     builder.freeze()

@@ -9,9 +9,9 @@ ghost use Rattle.nest_memory.specs.declared.error.Error.TheVariants.{Memory};
 ghost use Rattle.nest_model.specs.BuilderAppend.{Accepted};
 ghost use Rattle.nest_model.specs.BuilderItem.{null as null_item};
 ghost use Rattle.nest_model.specs.BuilderRefusals.{item_refusal};
-ghost use Rattle.nest_model.specs.BuilderTold.{HasWholeChildren, Told, ToldLengths, lengths_checks, row_checks};
+ghost use Rattle.nest_model.specs.BuilderAddRow.{HasCompleteChildren, RowAdded, RowsAdded, lengths_checks, row_checks};
 ghost use Rattle.nest_model.specs.BuilderTree as builders;
-ghost use Rattle.nest_model.specs.BuilderWhole.{IsWhole};
+ghost use Rattle.nest_model.specs.BuilderComplete.{IsComplete};
 ghost use Rattle.nest_model.specs.Checks.{FailFirst, Pass};
 
 use nest_build::array::MutableArray;
@@ -31,7 +31,7 @@ pub fn new_list_builder<O: ListWidth, M: MutableArray>(
     data_type: DataType,
     capacity: usize,
 ) -> Result<MutableListArray<O, M>, Error>
-    requires { IsWhole (M.model values) }
+    requires { IsComplete (M.model values) }
     ensures ok { let tree = ⟦<MutableListArray<O, M> as MutableArray>⟧.model in
         IfOk result (λ b. tree b ≡ builders.list O.IS_LARGE (type_of data_type) [] (M.model values)) }
     ensures checks { IfOk result (λ b. Pass (new_list_checks O.IS_LARGE (type_of data_type) (M.model values))) }
@@ -47,7 +47,7 @@ pub fn new_fixed_size_list_builder<M: MutableArray>(
     data_type: DataType,
     size: usize,
 ) -> Result<MutableFixedSizeListArray<M>, Error>
-    requires { IsWhole (M.model values) }
+    requires { IsComplete (M.model values) }
     ensures ok { let tree = ⟦<MutableFixedSizeListArray<M> as MutableArray>⟧.model in
         IfOk result (λ b. tree b ≡ builders.fixed_size_list (type_of data_type) [] (M.model values)) }
     ensures checks { IfOk result (λ b. Pass (new_fixed_checks size (type_of data_type) (M.model values))) }
@@ -60,7 +60,7 @@ pub fn new_fixed_size_list_builder<M: MutableArray>(
 pub fn push_into_list_child<O: ListWidth, M: MutableArray>(
     lists: &mut MutableListArray<O, M>,
 ) -> Result<(), Error>
-    requires { IsWhole (list_child (⟦<MutableListArray<O, M> as MutableArray>⟧.model lists.old)) }
+    requires { IsComplete (list_child (⟦<MutableListArray<O, M> as MutableArray>⟧.model lists.old)) }
     ensures rows { let tree = ⟦<MutableListArray<O, M> as MutableArray>⟧.model in
         tree lists.new ≡ with_items (tree lists.old) (list_child (tree lists.new)) }
     ensures accepted { let tree = ⟦<MutableListArray<O, M> as MutableArray>⟧.model in
@@ -75,7 +75,7 @@ pub fn push_into_list_child<O: ListWidth, M: MutableArray>(
 pub fn push_into_fixed_size_list_child<M: MutableArray>(
     lists: &mut MutableFixedSizeListArray<M>,
 ) -> Result<(), Error>
-    requires { IsWhole (list_child (⟦<MutableFixedSizeListArray<M> as MutableArray>⟧.model lists.old)) }
+    requires { IsComplete (list_child (⟦<MutableFixedSizeListArray<M> as MutableArray>⟧.model lists.old)) }
     ensures rows { let tree = ⟦<MutableFixedSizeListArray<M> as MutableArray>⟧.model in
         tree lists.new ≡ with_items (tree lists.old) (list_child (tree lists.new)) }
     ensures accepted { let tree = ⟦<MutableFixedSizeListArray<M> as MutableArray>⟧.model in
@@ -90,9 +90,9 @@ pub fn push_into_fixed_size_list_child<M: MutableArray>(
 pub fn push_list_row<O: ListWidth, M: MutableArray>(
     lists: &mut MutableListArray<O, M>,
 ) -> Result<(), Error>
-    requires { HasWholeChildren (⟦<MutableListArray<O, M> as MutableArray>⟧.model lists.old) }
+    requires { HasCompleteChildren (⟦<MutableListArray<O, M> as MutableArray>⟧.model lists.old) }
     ensures ok { let tree = ⟦<MutableListArray<O, M> as MutableArray>⟧.model in
-        OnOk result (Told true (tree lists.old) (tree lists.new)) }
+        OnOk result (RowAdded true (tree lists.old) (tree lists.new)) }
     ensures checks { OnOk result (Pass (row_checks (⟦<MutableListArray<O, M> as MutableArray>⟧.model lists.old))) }
     ensures err { let tree = ⟦<MutableListArray<O, M> as MutableArray>⟧.model in
         OnErr result (tree lists.new ≡ tree lists.old) }
@@ -107,9 +107,9 @@ pub fn push_list_rows<O: ListWidth, M: MutableArray>(
     lists: &mut MutableListArray<O, M>,
     lengths: &[Option<usize>],
 ) -> Result<(), Error>
-    requires { HasWholeChildren (⟦<MutableListArray<O, M> as MutableArray>⟧.model lists.old) }
+    requires { HasCompleteChildren (⟦<MutableListArray<O, M> as MutableArray>⟧.model lists.old) }
     ensures ok { let tree = ⟦<MutableListArray<O, M> as MutableArray>⟧.model in
-        OnOk result (ToldLengths lengths.now (tree lists.old) (tree lists.new)) }
+        OnOk result (RowsAdded lengths.now (tree lists.old) (tree lists.new)) }
     ensures checks { let tree = ⟦<MutableListArray<O, M> as MutableArray>⟧.model in
         OnOk result (Pass (lengths_checks lengths.now (tree lists.old))) }
     ensures err { let tree = ⟦<MutableListArray<O, M> as MutableArray>⟧.model in
@@ -124,9 +124,9 @@ pub fn push_list_rows<O: ListWidth, M: MutableArray>(
 pub fn push_fixed_size_list_row<M: MutableArray>(
     lists: &mut MutableFixedSizeListArray<M>,
 ) -> Result<(), Error>
-    requires { HasWholeChildren (⟦<MutableFixedSizeListArray<M> as MutableArray>⟧.model lists.old) }
+    requires { HasCompleteChildren (⟦<MutableFixedSizeListArray<M> as MutableArray>⟧.model lists.old) }
     ensures ok { let tree = ⟦<MutableFixedSizeListArray<M> as MutableArray>⟧.model in
-        OnOk result (Told true (tree lists.old) (tree lists.new)) }
+        OnOk result (RowAdded true (tree lists.old) (tree lists.new)) }
     ensures checks { OnOk result (Pass (row_checks (⟦<MutableFixedSizeListArray<M> as MutableArray>⟧.model lists.old))) }
     ensures err { let tree = ⟦<MutableFixedSizeListArray<M> as MutableArray>⟧.model in
         OnErr result (tree lists.new ≡ tree lists.old) }
@@ -141,7 +141,7 @@ pub fn push_list_of_values<O: ListWidth, A: AsPlain + Copy + Drop, M: FlatBuilde
     lists: &mut MutableListArray<O, M>,
     row: Option<&[Option<A>]>,
 ) -> Result<(), Error>
-    requires { IsWhole (⟦<MutableListArray<O, M> as MutableArray>⟧.model lists.old) }
+    requires { IsComplete (⟦<MutableListArray<O, M> as MutableArray>⟧.model lists.old) }
     ensures accepted { let tree = ⟦<MutableListArray<O, M> as MutableArray>⟧.model in
         OnOk result (Accepted (row_item A.value (option_copied row.entry)) (tree lists.old) (tree lists.new)) }
     ensures no_error { let tree = ⟦<MutableListArray<O, M> as MutableArray>⟧.model in
@@ -159,15 +159,15 @@ pub fn push_fixed_size_list_of_values<A: AsPlain + Copy + Drop, M: FlatBuilder +
     lists: &mut MutableFixedSizeListArray<M>,
     row: Option<&[Option<A>]>,
 ) -> Result<(), Error>
-    requires { IsWhole (⟦<MutableFixedSizeListArray<M> as MutableArray>⟧.model lists.old) }
+    requires { IsComplete (⟦<MutableFixedSizeListArray<M> as MutableArray>⟧.model lists.old) }
     ensures accepted { let tree = ⟦<MutableFixedSizeListArray<M> as MutableArray>⟧.model in
         OnOk result (Accepted (row_item A.value (option_copied row.entry)) (tree lists.old) (tree lists.new)) }
     ensures no_error { let tree = ⟦<MutableFixedSizeListArray<M> as MutableArray>⟧.model in
         OnOk result (item_refusal (row_item A.value (option_copied row.entry)) (tree lists.old) ≡ None) }
     ensures err { let tree = ⟦<MutableFixedSizeListArray<M> as MutableArray>⟧.model in
         OnErr result (tree lists.new ≡ tree lists.old) }
-    ensures refused { let tree = ⟦<MutableFixedSizeListArray<M> as MutableArray>⟧.model in
-        IfErr result (λ e. (e ≡ Memory alloc_error) ⊎ (item_refusal (row_item A.value (option_copied row.entry)) (tree lists.old) ≡ Some e)) }
+    ensures refused { let b = ⟦<MutableFixedSizeListArray<M> as MutableArray>⟧.model lists.old in
+        IfErr result (λ e. (e ≡ Memory alloc_error) ⊎ (item_refusal (row_item A.value (option_copied row.entry)) b ≡ Some e)) }
 {
     lists.try_push_slice(row)
 }

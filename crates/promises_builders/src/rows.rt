@@ -6,20 +6,20 @@
 ghost use Rattle.std.specs.List.{All, items_where_true};
 ghost use Rattle.std.specs.Prelude.{◌≡◌, ◌≢◌, ◌≤◌, ◌<◌, ◌⊎◌, ◌↔◌, ◌++◌, ◌∷◌, [], true, false, length, option_map, IsTrue, OnOk, OnErr, IfOk, IfErr, IsErrOf, IsNone, IsOkUnless, None, Some, alloc_error};
 ghost use Rattle.nest_array.specs.Seen.{layout_of};
-ghost use Rattle.nest_build.specs.Told.{IsOfOtherKind, TellsNulls, own_slot, reserve_passes};
+ghost use Rattle.nest_build.specs.Shown.{IsOfOtherKind, ShowsNulls, own_slot, reserve_passes};
 ghost use Rattle.nest_flat.specs.Plain.{plain_value, plain_values};
 ghost use Rattle.nest_memory.specs.TypeOf.{type_of};
-ghost use Rattle.nest_memory.specs.declared.error.Argument.TheVariants.{ItemType, Unfinished};
+ghost use Rattle.nest_memory.specs.declared.error.ArgumentError.TheVariants.{ItemType, Incomplete};
 ghost use Rattle.nest_memory.specs.declared.error.Error.TheVariants.{InvalidArgumentError, Memory, Overflow};
 ghost use Rattle.nest_model.specs.BuilderAppend.{Accepted};
 ghost use Rattle.nest_model.specs.BuilderItem.{null as null_item, Holds, slot_of_item};
 ghost use Rattle.nest_model.specs.BuilderJoin.{Joined, join_checks};
 ghost use Rattle.nest_model.specs.BuilderLevels.{own_slots};
-ghost use Rattle.nest_model.specs.BuilderReading.{Refused, RefusedSome, Took, TookAll, TookEach};
-ghost use Rattle.nest_model.specs.BuilderRefusals.{asked_item, asked_refusal, item_refusal};
-ghost use Rattle.nest_model.specs.BuilderSpells.{CanRead};
+ghost use Rattle.nest_model.specs.BuilderReading.{Refused, RefusedSome, Consumed, ConsumedAll, ConsumedEach};
+ghost use Rattle.nest_model.specs.BuilderRefusals.{required_item, requirement_refusal, item_refusal};
+ghost use Rattle.nest_model.specs.BuilderInput.{CanRead};
 ghost use Rattle.nest_model.specs.BuilderTree.{builder_len, builder_type};
-ghost use Rattle.nest_model.specs.BuilderWhole.{IsWhole, cut_builder, emptied};
+ghost use Rattle.nest_model.specs.BuilderComplete.{IsComplete, truncate_builder, emptied};
 ghost use Rattle.nest_model.specs.Checks.{FailFirst, Pass};
 ghost use Rattle.nest_model.specs.Layout.{layout_type};
 ghost use Rattle.nest_model.specs.Meaning.{slots_of};
@@ -60,7 +60,7 @@ pub fn is_valid_row<B: MutableArray>(builder: &B, i: usize) -> bool
 
 /// Returns the validity, a bit per row; `None` where no row is null, except in a builder of nulls.
 pub fn row_validity<B: MutableArray>(builder: &B) -> Option<&MutableBitmap>
-    ensures bits { TellsNulls (option_map (λ b. b.now) result) (B.model builder.now) }
+    ensures bits { ShowsNulls (option_map (λ b. b.now) result) (B.model builder.now) }
     ensures none { B.bare builder.now → IsNone result }
 {
     builder.validity()
@@ -76,14 +76,14 @@ pub fn row_holds<B: MutableArray>(builder: &B, i: usize, value: &Plain<'_>) -> b
 
 /// Returns whether a builder is complete: no level has items outside of a row.
 pub fn is_complete<B: MutableArray>(builder: &B) -> bool
-    ensures { IsTrue result ↔ IsWhole (B.model builder.now) }
+    ensures { IsTrue result ↔ IsComplete (B.model builder.now) }
 {
-    builder.is_whole()
+    builder.is_complete()
 }
 
 /// Appends a null: each level gains what a null needs there. On an error no level changes.
 pub fn push_null<B: MutableArray>(builder: &mut B) -> Result<(), Error>
-    requires { IsWhole (B.model builder.old) }
+    requires { IsComplete (B.model builder.old) }
     ensures accepted { OnOk result (Accepted null_item (B.model builder.old) (B.model builder.new)) }
     ensures no_error { OnOk result (item_refusal null_item (B.model builder.old) ≡ None) }
     ensures err { OnErr result (B.model builder.new ≡ B.model builder.old) }
@@ -94,12 +94,12 @@ pub fn push_null<B: MutableArray>(builder: &mut B) -> Result<(), Error>
 
 /// Appends a plain value or a null. Fails with `ItemType` exactly where the builder takes no value of that kind.
 pub fn push_value<B: MutableArray>(builder: &mut B, value: Option<Plain<'_>>) -> Result<(), Error>
-    requires { IsWhole (B.model builder.old) }
-    ensures accepted { OnOk result (Accepted (asked_item (plain_values value.entry)) (B.model builder.old) (B.model builder.new)) }
-    ensures no_error { OnOk result (asked_refusal (plain_values value.entry) (B.model builder.old) ≡ None) }
+    requires { IsComplete (B.model builder.old) }
+    ensures accepted { OnOk result (Accepted (required_item (plain_values value.entry)) (B.model builder.old) (B.model builder.new)) }
+    ensures no_error { OnOk result (requirement_refusal (plain_values value.entry) (B.model builder.old) ≡ None) }
     ensures err { OnErr result (B.model builder.new ≡ B.model builder.old) }
     ensures kind { IsErrOf result (InvalidArgumentError ItemType) ↔ IsOfOtherKind (plain_values value.entry) (B.model builder.old) }
-    ensures refused { IfErr result (λ e. (e ≡ Memory alloc_error) ⊎ (asked_refusal (plain_values value.entry) (B.model builder.old) ≡ Some e)) }
+    ensures refused { IfErr result (λ e. (e ≡ Memory alloc_error) ⊎ (requirement_refusal (plain_values value.entry) (B.model builder.old) ≡ Some e)) }
 {
     builder.try_push_plain(value)
 }
@@ -107,9 +107,9 @@ pub fn push_value<B: MutableArray>(builder: &mut B, value: Option<Plain<'_>>) ->
 /// Appends an item of any type that the builder takes. On an error no level changes, and the error is that of the check that
 /// fails, here or at a level below.
 pub fn push_item<A, B: TryPush<A>>(builder: &mut B, item: A) -> Result<(), Error>
-    requires whole { IsWhole (B.model builder.old) }
+    requires complete { IsComplete (B.model builder.old) }
     requires can_read { B.can_push item }
-    ensures pushed { OnOk result (Took B.reads item (B.model builder.old) (B.model builder.new)) }
+    ensures pushed { OnOk result (Consumed B.reads item (B.model builder.old) (B.model builder.new)) }
     ensures err { OnErr result (B.model builder.new ≡ B.model builder.old) }
     ensures refused { IfErr result (λ e. Refused B.reads item (B.model builder.old) e) }
 {
@@ -121,9 +121,9 @@ pub fn push_items<A, B: TryExtend<A>, I: IntoIterator<Item = A>>(
     builder: &mut B,
     items: I,
 ) -> Result<(), Error>
-    requires whole { IsWhole (B.model builder.old) }
+    requires complete { IsComplete (B.model builder.old) }
     requires can_read { CanRead (record { becomes = I.into_iter_gives; can = I.IntoIter.can_next; left = I.IntoIter.remaining; steps = I.IntoIter.next_gives }) B.can_extend items }
-    ensures pushed { OnOk result (TookAll
+    ensures pushed { OnOk result (ConsumedAll
         (record { becomes = I.into_iter_gives; steps = I.IntoIter.next_gives; reads = B.reads_each }) items
         (B.model builder.old) (B.model builder.new)) }
     ensures err { OnErr result (B.model builder.new ≡ B.model builder.old) }
@@ -136,8 +136,8 @@ pub fn push_items<A, B: TryExtend<A>, I: IntoIterator<Item = A>>(
 
 /// Appends all rows of another builder at every level, or none.
 pub fn extend_from_builder<B: TryExtendFromSelf>(builder: &mut B, other: &B) -> Result<(), Error>
-    requires whole { IsWhole (B.model builder.old) }
-    requires other_whole { IsWhole (B.model other.now) }
+    requires complete { IsComplete (B.model builder.old) }
+    requires other_whole { IsComplete (B.model other.now) }
     ensures joined { OnOk result (Joined (B.model other.now) (B.model builder.old) (B.model builder.new)) }
     ensures checks { OnOk result (Pass (join_checks (B.model builder.old) (B.model other.now))) }
     ensures err { OnErr result (B.model builder.new ≡ B.model builder.old) }
@@ -148,9 +148,9 @@ pub fn extend_from_builder<B: TryExtendFromSelf>(builder: &mut B, other: &B) -> 
 
 /// Keeps the first `n` rows at each level.
 pub fn truncate_rows<B: MutableArray>(builder: &mut B, n: usize)
-    requires whole { IsWhole (B.model builder.old) }
+    requires complete { IsComplete (B.model builder.old) }
     requires within { n ≤ builder_len (B.model builder.old) }
-    ensures { B.model builder.new ≡ cut_builder (B.model builder.old) n }
+    ensures { B.model builder.new ≡ truncate_builder (B.model builder.old) n }
 {
     builder.truncate(n)
 }
@@ -169,11 +169,11 @@ pub fn reserve_rows<B: MutableArray>(builder: &mut B, additional: usize) -> Resu
 pub fn freeze<B: MutableArray>(builder: &mut B) -> Result<AnyArray, Error>
     ensures slots { IfOk result (λ a. slots_of (layout_of a) ≡ own_slots (B.model builder.old)) }
     ensures data_type { IfOk result (λ a. layout_type (layout_of a) ≡ builder_type (B.model builder.old)) }
-    ensures unfinished { IsErrOf result (InvalidArgumentError Unfinished) ↔ ¬ IsWhole (B.model builder.old) }
-    ensures unchanged { ¬ IsWhole (B.model builder.old) → B.model builder.new ≡ B.model builder.old }
-    ensures emptied { IsWhole (B.model builder.old) → B.model builder.new ≡ emptied (B.model builder.old) }
-    ensures validity { IsWhole (B.model builder.old) → B.bare builder.new }
-    ensures errors { IfErr result (λ e. (e ≡ InvalidArgumentError Unfinished) ⊎ (e ≡ Memory alloc_error)) }
+    ensures incomplete { IsErrOf result (InvalidArgumentError Incomplete) ↔ ¬ IsComplete (B.model builder.old) }
+    ensures unchanged { ¬ IsComplete (B.model builder.old) → B.model builder.new ≡ B.model builder.old }
+    ensures emptied { IsComplete (B.model builder.old) → B.model builder.new ≡ emptied (B.model builder.old) }
+    ensures validity { IsComplete (B.model builder.old) → B.bare builder.new }
+    ensures errors { IfErr result (λ e. (e ≡ InvalidArgumentError Incomplete) ⊎ (e ≡ Memory alloc_error)) }
 {
     builder.as_box()
 }
@@ -182,18 +182,18 @@ pub fn freeze<B: MutableArray>(builder: &mut B) -> Result<AnyArray, Error>
 pub fn freeze_shared<B: MutableArray>(builder: &mut B, alloc: Global) -> Result<Rc<AnyArray>, Error>
     ensures slots { IfOk result (λ r. slots_of (layout_of r.value) ≡ own_slots (B.model builder.old)) }
     ensures data_type { IfOk result (λ r. layout_type (layout_of r.value) ≡ builder_type (B.model builder.old)) }
-    ensures unfinished { IsErrOf result (InvalidArgumentError Unfinished) ↔ ¬ IsWhole (B.model builder.old) }
-    ensures unchanged { ¬ IsWhole (B.model builder.old) → B.model builder.new ≡ B.model builder.old }
-    ensures emptied { IsWhole (B.model builder.old) → B.model builder.new ≡ emptied (B.model builder.old) }
-    ensures validity { IsWhole (B.model builder.old) → B.bare builder.new }
-    ensures errors { IfErr result (λ e. (e ≡ InvalidArgumentError Unfinished) ⊎ (e ≡ Memory alloc_error)) }
+    ensures incomplete { IsErrOf result (InvalidArgumentError Incomplete) ↔ ¬ IsComplete (B.model builder.old) }
+    ensures unchanged { ¬ IsComplete (B.model builder.old) → B.model builder.new ≡ B.model builder.old }
+    ensures emptied { IsComplete (B.model builder.old) → B.model builder.new ≡ emptied (B.model builder.old) }
+    ensures validity { IsComplete (B.model builder.old) → B.bare builder.new }
+    ensures errors { IfErr result (λ e. (e ≡ InvalidArgumentError Incomplete) ⊎ (e ≡ Memory alloc_error)) }
 {
     builder.as_arc(alloc)
 }
 
 /// Returns whether a builder has a validity after a freeze, which it has not.
 pub fn has_validity_after_freeze<B: MutableArray>(builder: &mut B) -> bool
-    requires { IsWhole (B.model builder.old) }
+    requires { IsComplete (B.model builder.old) }
     ensures { result ≡ false }
 {
     drop(builder.as_box());
@@ -206,10 +206,10 @@ pub fn push_each<A: Drop, B: TryPush<A>>(
     builder: &mut B,
     items: Vec<A>,
 ) -> Result<Vec<bool>, Error>
-    requires whole { IsWhole (B.model builder.old) }
+    requires complete { IsComplete (B.model builder.old) }
     requires can_read { All B.can_push items.items }
     ensures count { IfOk result (λ marks. length marks.items ≡ length items.items) }
-    ensures pushed { IfOk result (λ marks. TookEach B.reads (items_where_true marks.items items.items) (B.model builder.old) (B.model builder.new)) }
+    ensures pushed { IfOk result (λ marks. ConsumedEach B.reads (items_where_true marks.items items.items) (B.model builder.old) (B.model builder.new)) }
     ensures err { OnErr result (B.model builder.new ≡ B.model builder.old) }
     ensures memory { IsOkUnless result (Memory alloc_error) }
 {
@@ -221,8 +221,8 @@ pub fn push_and_freeze<B: MutableArray>(
     builder: &mut B,
     value: Option<Plain<'_>>,
 ) -> Result<AnyArray, Error>
-    requires { IsWhole (B.model builder.old) }
-    ensures { IfOk result (λ a. slots_of (layout_of a) ≡ own_slots (B.model builder.old) ++ slot_of_item (asked_item (plain_values value.entry)) ∷ []) }
+    requires { IsComplete (B.model builder.old) }
+    ensures { IfOk result (λ a. slots_of (layout_of a) ≡ own_slots (B.model builder.old) ++ slot_of_item (required_item (plain_values value.entry)) ∷ []) }
 {
     match builder.try_push_plain(value) {
         Ok(()) => builder.as_box(),

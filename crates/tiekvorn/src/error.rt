@@ -1,2 +1,2 @@
 //! The error of calls on arrays and builders.
-pub use nest_memory::error::{Argument, Error, Spec};
+pub use nest_memory::error::{ArgumentError, Error, SpecError};

@@ -8,7 +8,7 @@ use crate::take::arrays::{
 };
 use nest_array::AnyArray;
 use nest_concat::{concatenate, interleave};
-use nest_memory::error::{Argument, Error};
+use nest_memory::error::{ArgumentError, Error};
 use std::alloc::{AllocError, Global};
 
 /// The slots of both, one after the other.
@@ -281,7 +281,7 @@ fn a_validity_of_one(rt: HostRuntime) {
     assert!(rt; are_same(found, numbers(alloc, &[1, 2, 3, 0, 5], Some(&bits))));
 }
 
-const TYPES: Option<Error> = Some(Error::InvalidArgumentError(Argument::ItemType));
+const TYPES: Option<Error> = Some(Error::InvalidArgumentError(ArgumentError::ItemType));
 
 /// No array, and one of another data type, unions of both modes.
 #[test]

@@ -5,6 +5,7 @@
 mod any;
 mod array;
 mod build;
+mod columns;
 mod concat;
 mod flat;
 mod hostile;

@@ -6,10 +6,13 @@ use crate::projections::{LAST_COLUMN_FILE, PROJECTIONS, ProjectedSample, STREAMS
 use crate::samples::{READ, READ_FILES, READ_NESTED, Sample};
 use crate::samples_read::{bytes_of, copied};
 use crate::stream_text::{put_parts, text_of_stream};
+use crate::streams::WORKED;
 use ipc::{
     SliceFileReader, SliceStreamReader, read_file_projected, read_stream, read_stream_projected,
 };
 use ipc_flatbuf::IpcReadError;
+use ipc_flatbuf::batch::read_variadic_buffer_counts;
+use ipc_flatbuf::message::{Message, next_message};
 use ipc_schema::{ColumnSet, Projection};
 use std::alloc::Global;
 
@@ -51,7 +54,7 @@ fn by_name_and_by_position(rt: HostRuntime) {
 }
 
 /// Whether all columns of a stream are what the stream is.
-fn is_whole(alloc: Global, sample: &Sample) -> Result<bool, IpcReadError> {
+fn is_complete(alloc: Global, sample: &Sample) -> Result<bool, IpcReadError> {
     let bytes = bytes_of(alloc, sample)?;
     let text = projected_result(alloc, &bytes, Projection::All)?;
     Ok(text.as_str() == sample.text)
@@ -60,10 +63,18 @@ fn is_whole(alloc: Global, sample: &Sample) -> Result<bool, IpcReadError> {
 #[test]
 fn all_columns(rt: HostRuntime) {
     for sample in &READ {
-        assert!(rt; is_whole(rt.alloc(), sample) == Ok(true), "{}", sample.name);
+        assert!(rt;
+            is_complete(rt.alloc(), sample) == Ok(true),
+            "{}",
+            sample.name
+        );
     }
     for sample in &READ_NESTED {
-        assert!(rt; is_whole(rt.alloc(), sample) == Ok(true), "{}", sample.name);
+        assert!(rt;
+            is_complete(rt.alloc(), sample) == Ok(true),
+            "{}",
+            sample.name
+        );
     }
 }
 
@@ -206,6 +217,50 @@ fn each_byte_changed(rt: HostRuntime) {
             bytes[i] = byte;
         }
     }
+}
+
+// The first record batch of a stream without dictionaries.
+fn first_batch(bytes: &[u8]) -> Result<Option<Message<'_>>, IpcReadError> {
+    let (_, rest) = next_message(bytes)?;
+    let (message, _) = next_message(rest)?;
+    Ok(message)
+}
+
+/// Two view columns, one with two variadic buffers and one with none; then no view column.
+#[test]
+fn variadic_buffers_are_counted(rt: HostRuntime) {
+    let alloc = rt.alloc();
+    let bytes = copied(alloc, STREAMS[1].bytes).expect(&rt, "no bytes");
+    let message = first_batch(&bytes).expect(&rt, "no message");
+    let message = message.expect(&rt, "the end");
+    let (metadata, root) = (message.metadata, message.root);
+    // A table of 8 bytes, the length of the vector, and two counts.
+    for left in [root.left, 8 + 4 + 16] {
+        let counts = read_variadic_buffer_counts(alloc, metadata, root.header, left).expect(
+            &rt,
+            "no counts",
+        );
+        assert!(rt; counts.as_slice() == [2i64, 0].as_slice(), "{left}");
+    }
+    let end = metadata.len() - 1;
+    for (end, left, want) in [
+        (end + 1, 8 + 4 + 15, IpcReadError::ApparentSize),
+        (end + 1, 7, IpcReadError::ApparentSize),
+        (end, root.left, IpcReadError::Flatbuffer),
+    ] {
+        let error = read_variadic_buffer_counts(alloc, &metadata[..end], root.header, left).err();
+        assert!(rt; error == Some(want), "{end} {left}: {error:?}");
+    }
+    let message = first_batch(&WORKED).expect(&rt, "no message");
+    let message = message.expect(&rt, "the end");
+    let root = message.root;
+    let counts = read_variadic_buffer_counts(
+        alloc,
+        message.metadata,
+        root.header,
+        root.left,
+    ).expect(&rt, "no counts");
+    assert!(rt; counts.is_empty());
 }
 
 #[test]

@@ -9,14 +9,16 @@ use crate::samples::{
     Sample,
 };
 use crate::samples_read::bytes_of;
-use crate::stream_text::{append_batch, is_file_read, is_read, text_of_file, text_of_stream};
+use crate::stream_text::{
+    append_batch, is_file_read, is_read, put_rows, text_of_file, text_of_stream,
+};
 use ipc::{
-    DictionaryState, SliceFileReader, SliceStreamReader, next_batch, read_file_projected,
-    read_message, read_stream, read_stream_projected,
+    DictionaryState, SliceFileReader, SliceStreamReader, next_batch, read_batch_block,
+    read_dictionary_block, read_file_projected, read_message, read_stream, read_stream_projected,
 };
 use ipc_flatbuf::IpcReadError;
 use ipc_flatbuf::message::{MessageKind, next_message};
-use ipc_schema::footer::Block;
+use ipc_schema::footer::{Block, block_bytes, read_footer};
 use ipc_schema::{Projection, read_projected_schema, read_schema};
 use std::alloc::Global;
 
@@ -345,6 +347,92 @@ fn batches_of_a_file_in_any_order(rt: HostRuntime) {
             count += 1;
         }
         assert!(rt; count == reader.len() + 1, "{}", sample.name);
+    }
+}
+
+// The values that are known after each dictionary block of a file, and the batch of each other block.
+fn read_by_blocks(alloc: Global, bytes: &[u8]) -> Result<String, IpcReadError> {
+    let mut text = String::new(alloc);
+    let footer = read_footer(alloc, Projection::All, bytes)?;
+    let mut state = DictionaryState::new(alloc, footer.picked);
+    for block in &footer.dictionaries {
+        read_dictionary_block(alloc, &mut state, block_bytes(bytes, *block), *block)?;
+        for (id, values) in state.known.iter() {
+            write!(text, "id {id} ")?;
+            put_rows(&mut text, values.len(), std::slice::from_ref(values))?;
+        }
+    }
+    for block in &footer.batches {
+        let batch = read_batch_block(alloc, &state, block_bytes(bytes, *block), *block)?;
+        append_batch(&mut text, &batch)?;
+    }
+    Ok(text)
+}
+
+#[test]
+fn blocks_of_a_file_one_by_one(rt: HostRuntime) {
+    let alloc = rt.alloc();
+    for (name, want) in [
+        (
+            "delta",
+            "id 0 batch 2\nrow s61\nrow s62\nid 0 batch 3\nrow s61\nrow s62\nrow s63\n\
+             batch 3\nrow s61\nrow s62\nrow s62\nbatch 2\nrow s63\nrow s61\nbatch 1\nrow s63\n",
+        ),
+        (
+            "dictionary",
+            "id 0 batch 2\nrow s78\nrow s7979\n\
+             batch 5\nrow s78\nrow N\nrow s7979\nrow s78\nrow s78\n",
+        ),
+    ] {
+        let bytes = file_named(alloc, name).expect(&rt, "no bytes");
+        let text = read_by_blocks(alloc, &bytes).expect(&rt, "no text");
+        assert!(rt; text.as_str() == want, "{name}: {text}");
+    }
+}
+
+// A block whose body is longer.
+fn longer(block: Block) -> Block {
+    Block {
+        offset: block.offset,
+        metadata_length: block.metadata_length,
+        body_length: block.body_length + 8,
+    }
+}
+
+// The blocks of values, of their delta, of rows of the values, and of rows of the delta.
+#[test]
+fn blocks_of_other_messages_are_rejected(rt: HostRuntime) {
+    let alloc = rt.alloc();
+    let bytes = file_named(alloc, "delta").expect(&rt, "no bytes");
+    let footer = read_footer(alloc, Projection::All, &bytes).expect(&rt, "no footer");
+    let (values, delta) = (footer.dictionaries[0], footer.dictionaries[1]);
+    let (rows, others) = (footer.batches[0], footer.batches[1]);
+    let mut state = DictionaryState::new(alloc, footer.picked);
+    for (own, block, want) in [
+        (values, longer(values), IpcReadError::Block),
+        (values, delta, IpcReadError::Block),
+        (rows, rows, IpcReadError::HeaderType),
+        (delta, delta, IpcReadError::MissingDictionary),
+    ] {
+        let own = block_bytes(&bytes, own);
+        let error = read_dictionary_block(alloc, &mut state, own, block).err();
+        assert!(rt; error == Some(want), "{block:?}: {error:?}");
+    }
+    let own = block_bytes(&bytes, rows);
+    let early = read_batch_block(alloc, &state, own, rows).err();
+    assert!(rt; early == Some(IpcReadError::MissingDictionary));
+    let own = block_bytes(&bytes, values);
+    assert!(rt; read_dictionary_block(alloc, &mut state, own, values) == Ok(()));
+    let twice = read_dictionary_block(alloc, &mut state, own, values);
+    assert!(rt; twice == Err(IpcReadError::DuplicateDictionary));
+    for (own, block, want) in [
+        (rows, rows, None),
+        (rows, longer(rows), Some(IpcReadError::Block)),
+        (values, values, Some(IpcReadError::HeaderType)),
+        (others, others, Some(IpcReadError::KeyRange)),
+    ] {
+        let error = read_batch_block(alloc, &state, block_bytes(&bytes, own), block).err();
+        assert!(rt; error == want, "{block:?}: {error:?}");
     }
 }
 

@@ -31,6 +31,7 @@ mod random_dictionaries;
 mod replacement_dictionaries;
 mod samples;
 mod samples_read;
+mod schema_equality;
 mod schema_text;
 mod schemas;
 mod states;

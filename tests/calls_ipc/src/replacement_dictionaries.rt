@@ -6,7 +6,7 @@ use crate::dictionary_columns::{
     batch, by, dictionary_of_strings, keyed, record, schema_of, single, words,
 };
 use crate::dictionary_model::{are_written, messages_of, unread, unwritten};
-use ipc::dictionaries::record_emitted;
+use ipc::dictionaries::{DictionaryBatch, any_replaced, dictionary_batches, record_emitted};
 use ipc::{
     Batch, DictionaryState, FileBlocks, append_stream_batch, encode_file_batch,
     encode_stream_batch, write_file, write_stream,
@@ -310,6 +310,68 @@ fn the_first_reason_in_the_order_of_writing(rt: HostRuntime) {
     assert!(rt; delta == Ok((columns, columns)));
     let none = reason(alloc, &[("0", "a"), ("0", "b")]);
     assert!(rt; none == Ok((None, anew)));
+}
+
+// The words emitted for the ids 0 and 1.
+fn emitted_words(alloc: Global) -> Result<BTreeMap<i64, AnyArray>, Error> {
+    let mut emitted = BTreeMap::new(alloc);
+    emitted.insert(0i64, words(alloc, "ab")?)?;
+    emitted.insert(1i64, words(alloc, "c")?)?;
+    Ok(emitted)
+}
+
+fn is_replaced(alloc: Global, values: &AnyArray) -> Result<bool, Error> {
+    let emitted = emitted_words(alloc)?;
+    let same = words(alloc, "c")?;
+    Ok(any_replaced(alloc, &emitted, &[(1i64, &same), (0i64, values)])?)
+}
+
+#[test]
+fn values_that_begin_with_the_emitted_ones_replace_none(rt: HostRuntime) {
+    let alloc = rt.alloc();
+    for (letters, want) in [
+        ("ab", false),
+        ("abc", false),
+        ("ab-a", false),
+        ("", true),
+        ("a", true),
+        ("ba", true),
+        ("a-", true),
+        ("xab", true),
+    ] {
+        let values = words(alloc, letters).expect(&rt, "no words");
+        assert!(rt; is_replaced(alloc, &values) == Ok(want), "{letters}");
+    }
+    let other = dictionary_of_strings(alloc, "01", "ab").expect(&rt, "no words");
+    assert!(rt; is_replaced(alloc, &other) == Ok(true));
+}
+
+fn is_dictionary_batch(found: &DictionaryBatch, delta: bool, id: i64, values: &AnyArray) -> bool {
+    found.delta == delta && found.id == id && found.values == *values
+}
+
+// Whether a new id gets a batch of all its values, a longer one a delta of the words after those emitted, and an unchanged one none.
+fn are_dictionary_batches(alloc: Global) -> Result<bool, Error> {
+    let mut emitted = emitted_words(alloc)?;
+    let (new, longer, same) = (
+        words(alloc, "x-")?,
+        words(alloc, "abba")?,
+        words(alloc, "c")?,
+    );
+    let pending = [(2i64, &new), (0i64, &longer), (1i64, &same)];
+    let found = dictionary_batches(alloc, &emitted, &pending)?;
+    record_emitted(alloc, &mut emitted, &pending)?;
+    Ok(
+        found.len() == 2
+            && is_dictionary_batch(&found[0], false, 2, &new)
+            && is_dictionary_batch(&found[1], true, 0, &words(alloc, "ba")?)
+            && dictionary_batches(alloc, &emitted, &pending)?.is_empty(),
+    )
+}
+
+#[test]
+fn dictionary_batches_of_new_and_longer_values(rt: HostRuntime) {
+    assert!(rt; are_dictionary_batches(rt.alloc()) == Ok(true));
 }
 
 // A stream that is put together a batch at a time.

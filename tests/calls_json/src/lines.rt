@@ -391,7 +391,7 @@ fn builders_are_made(rt: HostRuntime) -> Result<(), Fail> {
         match new_builder(alloc, &data_type) {
             Ok(mut builder) => {
                 assert!(&rt;
-                    builder.is_empty() && builder.is_whole() && *builder.data_type() == data_type
+                    builder.is_empty() && builder.is_complete() && *builder.data_type() == data_type
                 );
                 builder.push_null()?;
                 assert!(&rt; builder.len() == 1);

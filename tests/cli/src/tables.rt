@@ -3,8 +3,8 @@ use crate::oracle::{arrays_of, read_table, request, text_of};
 use crate::samples::{BOOLEANS, COLUMNLESS, COMPRESSED, EMPTY, FILE, STREAM, bytes_of};
 use cli_args::{Request, Selection};
 use cli_rows::{
-    CliError, Difference, Table, difference_text, read_input, record_arrays, row_type, same_schema,
-    table_text, window_difference, write_output,
+    CliError, Difference, Table, difference_text, read_input, record_arrays, request_text,
+    row_type, table_text, window_difference, write_output,
 };
 use ipc::Batch;
 use ipc_flatbuf::{IpcReadError, IpcWriteError};
@@ -216,6 +216,66 @@ fn mismatched_columns_are_errors(rt: HostRuntime) {
     assert!(rt; printed(alloc, &["take"], types).err() == Some(CliError::MismatchedColumns));
 }
 
+/// Returns the text that a command prints of the record batches of a table.
+fn requested(alloc: Global, arguments: &[&str], table: Table) -> Result<String, CliError> {
+    let Table { schema, batches } = table;
+    let row_type = row_type(alloc, &schema.fields)?;
+    match request(alloc, arguments)? {
+        Some(request) => request_text(alloc, &schema, &row_type, &request, batches),
+        None => {
+            drop(batches);
+            Err(CliError::Input)
+        }
+    }
+}
+
+#[test]
+fn requests_of_record_batches_are_printed(rt: HostRuntime) -> Result<(), Fail> {
+    let alloc = rt.alloc();
+    for (arguments, want) in [
+        (["schema"].as_slice(), "id: int64 not null\nname: string\n"),
+        (
+            ["rows"].as_slice(),
+            "{\"id\":1,\"name\":\"a\"}\n{\"id\":2,\"name\":null}\n{\"id\":-3,\"name\":\"\\\"c\\\"\"}\n",
+        ),
+        (
+            ["rows", "1", "2"].as_slice(),
+            "{\"id\":2,\"name\":null}\n{\"id\":-3,\"name\":\"\\\"c\\\"\"}\n",
+        ),
+        (
+            ["take", "1", "0"].as_slice(),
+            "{\"id\":2,\"name\":null}\n{\"id\":1,\"name\":\"a\"}\n",
+        ),
+    ] {
+        let text = requested(alloc, arguments, table(alloc).expect(&rt, "a table"))?;
+        assert!(rt; text.as_str() == want, "{arguments:?}: {text}");
+    }
+    let booleans = bytes_of(alloc, BOOLEANS)?;
+    let table_of_booleans = read_table(alloc, Projection::All, &booleans)?;
+    let text = requested(alloc, &["where", "a"], table_of_booleans)?;
+    let want = "{\"a\":true,\"b\":false}\n{\"a\":true,\"b\":true}\n{\"a\":true,\"b\":false}\n\
+                {\"a\":true,\"b\":true}\n{\"a\":true,\"b\":true}\n";
+    assert!(rt; text.as_str() == want, "{text}");
+    // The arguments are checked before the columns of the record batches, and those before the indices.
+    for (arguments, rows, want) in [
+        (["where", "x"].as_slice(), 3usize, CliError::UnknownColumn),
+        (["where", "id"].as_slice(), 3, CliError::NotBoolean),
+        (["take", "9"].as_slice(), 3, CliError::MismatchedColumns),
+        (["take", "2"].as_slice(), 2, CliError::IndexOutOfRange),
+    ] {
+        let names: [Option<&str>; 3] = [None, None, None];
+        let batch = batch(alloc, &[1, 2], &names[..rows]).expect(&rt, "a batch");
+        let error = requested(
+            alloc,
+            arguments,
+            single(alloc, batch).expect(&rt, "a table"),
+        )
+        .err();
+        assert!(rt; error == Some(want), "{arguments:?}: {error:?}");
+    }
+    Ok(())
+}
+
 #[test]
 fn batches_are_records(rt: HostRuntime) -> Result<(), Fail> {
     let alloc = rt.alloc();
@@ -244,20 +304,6 @@ fn windows_are_compared(rt: HostRuntime) -> Result<(), Fail> {
         );
         assert!(rt; found == want, "{left} {right}: {found:?}");
     }
-    Ok(())
-}
-
-#[test]
-fn schemas_are_compared(rt: HostRuntime) -> Result<(), Fail> {
-    let alloc = rt.alloc();
-    let one = schema(alloc).expect(&rt, "a schema");
-    let mut other = schema(alloc).expect(&rt, "a schema");
-    assert!(rt; same_schema(&one, &other));
-    other.metadata.insert(String::from_str(alloc, "k")?, String::from_str(alloc, "v")?)?;
-    assert!(rt; !same_schema(&one, &other));
-    let mut none = schema(alloc).expect(&rt, "a schema");
-    none.fields.clear();
-    assert!(rt; !same_schema(&one, &none) && same_schema(&none, &none));
     Ok(())
 }
 

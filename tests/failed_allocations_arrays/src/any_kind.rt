@@ -68,8 +68,8 @@ fn value_kind(builder: &AnyMutableArray) -> PhysicalType {
 /// Whether two builders, and those below them, have the same rows.
 fn are_same(first: &mut AnyMutableArray, second: &mut AnyMutableArray) -> bool {
     if first.len() != second.len()
-        || first.is_whole() != second.is_whole()
-        || first.has_whole_children() != second.has_whole_children()
+        || first.is_complete() != second.is_complete()
+        || first.has_complete_children() != second.has_complete_children()
     {
         return false;
     }
@@ -156,7 +156,7 @@ fn fill(
         }
     }
     if is_nested {
-        return change(failures, first, second, |b| b.tell(row % 4 != 3));
+        return change(failures, first, second, |b| b.push_row(row % 4 != 3));
     }
     let kind = value_kind(first);
     let pushed = if row % 4 == 3 { None } else { value(kind, row) };

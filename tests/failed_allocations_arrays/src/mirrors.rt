@@ -40,7 +40,7 @@ pub fn change<B: Mirrored, F: Fn(&mut B) -> Result<(), Error>>(
 }
 
 fn are_empty<B: Mirrored>(first: &mut B, second: &mut B) -> bool {
-    first.is_empty() && first.is_whole() && first.is_same(second)
+    first.is_empty() && first.is_complete() && first.is_same(second)
 }
 
 /// Fills two builders and freezes them to equal arrays. If an allocation of the freeze fails, the builder has no row at any

@@ -33,7 +33,7 @@ type Dictionaries = MutableDictionaryArray<i8, MutableFixedSizeBinaryArray>;
 /// Whether two builders have the same rows: of these values, or of nulls.
 fn hold_same<B: MutableArray>(first: &B, second: &B, values: &[Plain<'_>]) -> bool {
     first.len() == second.len()
-        && first.is_whole() == second.is_whole()
+        && first.is_complete() == second.is_complete()
         && (0..first.len()).all(|i| {
             first.is_valid(i) == second.is_valid(i)
                 && values

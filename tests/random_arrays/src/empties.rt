@@ -5,7 +5,7 @@
 use crate::cases::{CASES, Case, is_array_of};
 use nest_array::{new_empty_array, new_null_array};
 use nest_memory::datatypes::{DataType, Field, UnionMode};
-use nest_memory::error::{Argument, Error, Spec};
+use nest_memory::error::{ArgumentError, Error, SpecError};
 use random::numbers::Generator;
 use random::slot::Slot;
 use random::start::START;
@@ -85,34 +85,37 @@ fn faulty(alloc: Global, rng: &mut Generator) -> Result<(DataType, Error), Error
     Ok(match rng.below(10) {
         0 => (DataType::Float16, Error::NotYetImplemented),
         1 => (DataType::Float64, Error::NotYetImplemented),
-        2 => (DataType::FixedSizeBinary(0), spec(Spec::ZeroSize)),
+        2 => (DataType::FixedSizeBinary(0), spec(SpecError::ZeroSize)),
         3 => {
             let item = boxed(alloc, DataType::Utf8)?;
-            (DataType::FixedSizeList(item, 0), spec(Spec::ZeroSize))
+            (DataType::FixedSizeList(item, 0), spec(SpecError::ZeroSize))
         }
-        4 => (DataType::Struct(Vec::new(alloc)), spec(Spec::NoFields)),
+        4 => (DataType::Struct(Vec::new(alloc)), spec(SpecError::NoFields)),
         5 => {
             let pairs = DataType::Struct(booleans(alloc, [1, 3][rng.below(2)])?);
             let map = DataType::Map(boxed(alloc, pairs)?, false);
-            (map, Error::InvalidArgumentError(Argument::MapInner))
+            (map, Error::InvalidArgumentError(ArgumentError::MapInner))
         }
         6 => {
             let map = DataType::Map(boxed(alloc, DataType::Null)?, true);
-            (map, Error::InvalidArgumentError(Argument::MapInner))
+            (map, Error::InvalidArgumentError(ArgumentError::MapInner))
         }
-        7 => (union_of(alloc, rng, 128, None)?, spec(Spec::TooManyFields)),
+        7 => (
+            union_of(alloc, rng, 128, None)?,
+            spec(SpecError::TooManyFields),
+        ),
         8 => {
             let count = [1, 3][rng.below(2)];
             (
                 union_of(alloc, rng, count, Some(&[0, 1]))?,
-                spec(Spec::IdCount),
+                spec(SpecError::IdCount),
             )
         }
         _ => {
             let id = [-1, 128, 256][rng.below(3)];
             (
                 union_of(alloc, rng, 2, Some(&[0, id]))?,
-                spec(Spec::IdRange),
+                spec(SpecError::IdRange),
             )
         }
     })

@@ -16,7 +16,7 @@ use std::test::Fail;
 /// What a comparison pushes, and how many steps beyond those that were pushed before.
 fn counted(a: &AnyArray, b: &AnyArray, before: u64) -> (bool, usize) {
     let mut steps = Steps::new();
-    steps.tell(before);
+    steps.add(before);
     let same = equal_counted(a, b, &mut steps);
     (same, (steps.count() - before) as usize)
 }

@@ -3,7 +3,7 @@
 use crate::cases::{CASES, Case, is_array_of};
 use nest_array::{AnyArray, Array};
 use nest_memory::bitmap::Bitmap;
-use nest_memory::error::{Argument, Error, Spec};
+use nest_memory::error::{ArgumentError, Error, SpecError};
 use random::layouts::parts::bits;
 use random::numbers::Generator;
 use random::read::slots_of;
@@ -34,13 +34,13 @@ fn keys_fit(array: &AnyArray, valid: &[bool]) -> bool {
 /// What a new validity is rejected with.
 fn refusal(array: &AnyArray, valid: &[bool]) -> Option<Error> {
     if let AnyArray::Null(_) | AnyArray::Union(_) = array {
-        return Some(Error::InvalidArgumentError(Argument::NoValidity));
+        return Some(Error::InvalidArgumentError(ArgumentError::NoValidity));
     }
     if array.len() != valid.len() {
-        return Some(Error::OutOfSpec(Spec::ValidityLength));
+        return Some(Error::OutOfSpec(SpecError::ValidityLength));
     }
     if !keys_fit(array, valid) {
-        return Some(Error::OutOfSpec(Spec::KeyRange));
+        return Some(Error::OutOfSpec(SpecError::KeyRange));
     }
     None
 }

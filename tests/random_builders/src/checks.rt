@@ -13,8 +13,8 @@ use random::slot::Slot;
 pub fn same_levels(builder: &mut AnyMutableArray, level: &Level) -> Result<(), Failure> {
     same_rows(builder, level)?;
     expect(
-        builder.has_whole_children() == level.has_whole_children(),
-        "has_whole_children",
+        builder.has_complete_children() == level.has_complete_children(),
+        "has_complete_children",
     )?;
     if let AnyMutableArray::Dictionary(keyed) = builder {
         return same_values(keyed, level);
@@ -52,7 +52,7 @@ pub fn same_types(builder: &mut AnyMutableArray, level: &Level) -> Result<(), Fa
 pub fn same_rows<B: MutableArray>(builder: &B, level: &Level) -> Result<(), Failure> {
     expect(builder.len() == level.len(), "len")?;
     expect(builder.is_empty() == (level.len() == 0), "is_empty")?;
-    expect(builder.is_whole() == level.is_whole(), "is_whole")?;
+    expect(builder.is_complete() == level.is_complete(), "is_complete")?;
     for i in 0..level.len() {
         expect(builder.is_valid(i) == level.is_valid(i), "is_valid")?;
         same_value(builder, level, i)?;

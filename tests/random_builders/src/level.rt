@@ -3,15 +3,15 @@
 use crate::makers::child_type;
 use nest_memory::datatypes::physical_type::PhysicalType;
 use nest_memory::datatypes::{DataType, IntegerType};
-use nest_memory::error::{Argument, Error};
+use nest_memory::error::{ArgumentError, Error};
 use random::slot::Slot;
 use std::alloc::Global;
 
-const OTHER_KIND: Error = Error::InvalidArgumentError(Argument::ItemType);
+const OTHER_KIND: Error = Error::InvalidArgumentError(ArgumentError::ItemType);
 
-const OTHER_SIZE: Error = Error::InvalidArgumentError(Argument::ItemSize);
+const OTHER_SIZE: Error = Error::InvalidArgumentError(ArgumentError::ItemSize);
 
-const UNFINISHED: Error = Error::InvalidArgumentError(Argument::Unfinished);
+const UNFINISHED: Error = Error::InvalidArgumentError(ArgumentError::Incomplete);
 
 /// The rows of one level.
 #[derive(Drop)]
@@ -131,14 +131,14 @@ impl Level {
     }
 
     /// Whether each child is whole.
-    pub fn has_whole_children(&self) -> bool {
-        self.children.iter().all(|child| child.is_whole())
+    pub fn has_complete_children(&self) -> bool {
+        self.children.iter().all(|child| child.is_complete())
     }
 
     /// Whether no item waits for its row, and none is missing.
-    pub fn is_whole(&self) -> bool {
+    pub fn is_complete(&self) -> bool {
         let needed = self.needed(self.len());
-        self.has_whole_children() && self.children.iter().all(|child| child.len() == needed)
+        self.has_complete_children() && self.children.iter().all(|child| child.len() == needed)
     }
 
     /// The slot of row i, of complete children.
@@ -251,7 +251,7 @@ impl Level {
         }
         match &self.rows {
             Rows::Sized { size, .. } if *size != items.len() => Err(OTHER_SIZE),
-            _ => self.tell(true),
+            _ => self.push_row(true),
         }
     }
 
@@ -313,7 +313,7 @@ impl Level {
     }
 
     /// A row more of what waits in complete children; or why it is rejected.
-    pub fn tell(&mut self, row_is_valid: bool) -> Result<(), Error> {
+    pub fn push_row(&mut self, row_is_valid: bool) -> Result<(), Error> {
         let needed = self.needed(self.len());
         let rows = self.len();
         let found = match self.children.first() {
@@ -368,7 +368,7 @@ impl Level {
 
     /// The slots of a whole builder, which has none at any level then; or why it is rejected.
     pub fn freeze(&mut self) -> Result<Vec<Slot>, Error> {
-        if !self.is_whole() {
+        if !self.is_complete() {
             return Err(UNFINISHED);
         }
         let slots = self.slots(0, self.len())?;

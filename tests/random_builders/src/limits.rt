@@ -6,17 +6,17 @@ use crate::checks::same_levels;
 use crate::failure::{Failure, expect};
 use crate::level::Level;
 use crate::makers::no_rows;
-use crate::program::{freeze, null, push_value, tell};
+use crate::program::{freeze, null, push_row, push_value};
 use nest_any::{AnyMutableArray, MutableStructArray};
 use nest_build::array::MutableArray;
 use nest_build::null::MutableNullArray;
 use nest_memory::datatypes::{DataType, Field, IntegerType};
-use nest_memory::error::{Argument, Error};
+use nest_memory::error::{ArgumentError, Error};
 use random::numbers::Generator;
 use random::slot::Slot;
 use std::alloc::Global;
 
-const UNFINISHED: Error = Error::InvalidArgumentError(Argument::Unfinished);
+const UNFINISHED: Error = Error::InvalidArgumentError(ArgumentError::Incomplete);
 
 /// Records of numbers by keys of a width.
 fn dictionary_records(alloc: Global, keys: IntegerType) -> Result<DataType, Error> {
@@ -41,7 +41,7 @@ fn push_record(
     }
     same_levels(builder, level)?;
     if level.children[0].len() > level.len() {
-        tell(builder, level, true)?;
+        push_row(builder, level, true)?;
     }
     same_levels(builder, level)
 }
@@ -95,25 +95,25 @@ fn lists_at_the_limit(alloc: Global, large: bool, most: usize) -> Result<(), Fai
         *child = nulls(alloc, most + 1);
     }
     expect(
-        lists.tell(true) == Err(Error::Overflow),
-        "tell past the limit",
+        lists.push_row(true) == Err(Error::Overflow),
+        "push_row past the limit",
     )?;
     expect(
-        lists.is_empty() && !lists.is_whole(),
+        lists.is_empty() && !lists.is_complete(),
         "what a refused row left",
     )?;
     if let Some(child) = lists.child(0) {
         expect(child.len() == most + 1, "what waits after a refused row")?;
         child.truncate(most);
     }
-    expect(lists.tell(true) == Ok(()), "tell at the limit")?;
+    expect(lists.push_row(true) == Ok(()), "push_row at the limit")?;
     expect(lists.push_null() == Ok(()), "a null at the limit")?;
     if let Some(child) = lists.child(0) {
         expect(child.push_null() == Ok(()), "an item past the limit")?;
     }
     expect(
-        lists.tell(true) == Err(Error::Overflow),
-        "tell past the limit once more",
+        lists.push_row(true) == Err(Error::Overflow),
+        "push_row past the limit once more",
     )?;
     expect(
         lists.as_box().err() == Some(UNFINISHED),
@@ -152,7 +152,7 @@ fn longest_records(alloc: Global) -> Result<(), Failure> {
         records.push_null() == Err(Error::Overflow),
         "push_null past the limit",
     )?;
-    expect(records.is_whole(), "what a refused null left")?;
+    expect(records.is_complete(), "what a refused null left")?;
     let lengths = records
         .values()
         .iter()

@@ -62,7 +62,7 @@ fn step(
     match rng.below(16) {
         0..=5 => fill(alloc, rng, builder, level),
         6 | 7 => null(builder, level),
-        8 | 9 => tell(builder, level, !rng.one_in(4)),
+        8 | 9 => push_row(builder, level, !rng.one_in(4)),
         10 | 11 => push_of_any_kind(alloc, rng, builder, level),
         12 | 13 => truncate(rng, builder, level),
         14 => room(rng, builder),
@@ -91,8 +91,8 @@ fn fill(
         };
         fill_to(alloc, rng, child, &mut level.children[i], least, most)?;
     }
-    expect(level.has_whole_children(), "a model that is not whole")?;
-    tell(builder, level, !rng.one_in(5))
+    expect(level.has_complete_children(), "a model that is not whole")?;
+    push_row(builder, level, !rng.one_in(5))
 }
 
 /// Fills a child until it has at least so many rows, and cuts it to at most so many.
@@ -104,7 +104,7 @@ fn fill_to(
     least: usize,
     most: usize,
 ) -> Result<(), Failure> {
-    while level.len() < least || !level.is_whole() {
+    while level.len() < least || !level.is_complete() {
         fill(alloc, rng, child, level)?;
     }
     if level.len() > most {
@@ -132,18 +132,22 @@ fn value_type(alloc: Global, level: &Level) -> Result<DataType, Error> {
 
 /// A null, into a whole builder.
 pub fn null(builder: &mut AnyMutableArray, level: &mut Level) -> Result<(), Failure> {
-    if !level.is_whole() {
+    if !level.is_complete() {
         return Ok(());
     }
     expect(builder.push_null() == level.push_null(), "push_null")
 }
 
 /// A row of what waits, where the children are whole.
-pub fn tell(builder: &mut AnyMutableArray, level: &mut Level, valid: bool) -> Result<(), Failure> {
-    if !level.has_whole_children() {
+pub fn push_row(
+    builder: &mut AnyMutableArray,
+    level: &mut Level,
+    valid: bool,
+) -> Result<(), Failure> {
+    if !level.has_complete_children() {
         return Ok(());
     }
-    expect(builder.tell(valid) == level.tell(valid), "tell")
+    expect(builder.push_row(valid) == level.push_row(valid), "push_row")
 }
 
 /// A value of a type, into a whole builder.
@@ -154,7 +158,7 @@ fn push(
     level: &mut Level,
     value_type: &DataType,
 ) -> Result<(), Failure> {
-    if !level.is_whole() {
+    if !level.is_complete() {
         return Ok(());
     }
     let value = a_random_value(alloc, rng, value_type)?;
@@ -189,7 +193,7 @@ fn truncate(
     builder: &mut AnyMutableArray,
     level: &mut Level,
 ) -> Result<(), Failure> {
-    if level.is_whole() {
+    if level.is_complete() {
         let n = rng.between(0, level.len());
         builder.truncate(n);
         level.truncate(n);

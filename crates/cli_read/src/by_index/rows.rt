@@ -18,7 +18,7 @@ ghost use Rattle.cli_rows.specs.declared.error.CliError.TheVariants.{Memory};
 ghost use Rattle.cli_read.specs.Inputs.{decoded_input};
 ghost use Rattle.cli_read.specs.Readers.{decoded_reader, reader_schema};
 ghost use Rattle.cli_read.specs.Takes.{FailsToTake, Takes};
-ghost use Rattle.cli_read.specs.TakeStates.{AreRowsAtIndices, HasMoreIndices, HasTakenFrom, IsFinishError};
+ghost use Rattle.cli_read.specs.TakeStates.{AreTakenRows, HasMoreIndices, HasTakenFrom, IsFinishError};
 ghost use Rattle.cli_read.specs.TakeSteps.{FailsToTakeAll, FailsToTakeNext, TakesAll, TakesNext};
 
 use crate::by_index::indices::{indices_in_batch, positions, sort_indices};
@@ -81,7 +81,7 @@ fn copy_rows(alloc: Global, found: Vec<usize>, array: &AnyArray) -> Result<Vec<A
 /// Takes the rows of an array at the indices that are in it.
 fn take_from_array(alloc: Global, state: &mut TakeState, array: &AnyArray) -> Result<(), CliError>
     requires { HasMoreIndices state.old }
-    ensures took { OnOk result ((fs : List FieldTree) (rows : List Row) → AreRowsOf fs (rows_of (layout_of array.now)) → HasTakenFrom fs rows state.old → HasTakenFrom fs (rows ++ rows_of (layout_of array.now)) state.new) }
+    ensures took { let more = rows_of (layout_of array.now) in OnOk result ((fs : List FieldTree) (rows : List Row) → AreRowsOf fs more → HasTakenFrom fs rows state.old → HasTakenFrom fs (rows ++ more) state.new) }
     ensures same { state.new.wanted ≡ state.old.wanted }
     ensures error { IsOkUnless result Memory }
 {
@@ -167,7 +167,7 @@ fn rows_in_order(
     state: &TakeState,
     wanted: &[usize],
 ) -> Result<Vec<AnyArray>, CliError>
-    ensures rows { IfOk result (λ v. (fs : List FieldTree) (rows : List Row) → IsPermutation wanted.now state.now.wanted.items → HasTakenFrom fs rows state.now → AreRowsAtIndices fs wanted.now rows (map layout_of v.items)) }
+    ensures rows { IfOk result (λ v. AreTakenRows wanted.now state.now (map layout_of v.items)) }
     ensures error { IfErr result (λ e. IsFinishError e state.now) }
 {
     if !state.is_found() {

@@ -1,8 +1,8 @@
 //! Two readers of equal bytes.
-ghost use Rattle.std.specs.Prelude.{◌≡◌, ◌<◌, ℕ, IsTrue, List, Some, length};
+ghost use Rattle.std.specs.Prelude.{◌<◌, IsTrue, length};
 ghost use Rattle.std.specs.Io.KnownBytes.{Keeps};
 ghost use Rattle.ipc_io.specs.Seeks.{IsAt, known, position_and_bytes};
-ghost use Rattle.cli_read.specs.EqualBytes.{HaveEqualBytes, ReadsEqualBytes};
+ghost use Rattle.cli_read.specs.EqualBytes.{HaveEqualBytes, ReadsBothEqually};
 
 use ipc_io::SeekRead;
 use std::io::SeekFrom;
@@ -27,7 +27,7 @@ fn read_equal_bytes<R: SeekRead, S: SeekRead>(
     b: &mut [u8],
 ) -> Option<usize>
     requires { (0 < length a.old) × (0 < length b.old) }
-    ensures alike { (n : ℕ) (xs ys : List ℕ) → position_and_bytes (R.stream_position left.old) (R.stream_bytes left.old) ≡ Some (n, xs) → position_and_bytes (S.stream_position right.old) (S.stream_bytes right.old) ≡ Some (n, ys) → ReadsEqualBytes xs ys n result (position_and_bytes (R.stream_position left.new) (R.stream_bytes left.new)) (position_and_bytes (S.stream_position right.new) (S.stream_bytes right.new)) }
+    ensures alike { ReadsBothEqually R.stream_position R.stream_bytes S.stream_position S.stream_bytes left.old right.old result left.new right.new }
     ensures left { Keeps (known (R.stream_position left.old) (R.stream_bytes left.old)) (known (R.stream_position left.new) (R.stream_bytes left.new)) }
     ensures right { Keeps (known (S.stream_position right.old) (S.stream_bytes right.old)) (known (S.stream_position right.new) (S.stream_bytes right.new)) }
 {

@@ -4,8 +4,7 @@ ghost use Rattle.nest_memory.specs.TypeOf.{type_of};
 ghost use Rattle.ipc_schema.specs.Projections.{projection_of};
 ghost use Rattle.cli_rows.specs.Records.{record_type};
 ghost use Rattle.cli_read.specs.CompareSteps.{ComparesAll, ComparesNext, ReadsAll};
-ghost use Rattle.cli_read.specs.Comparisons.{ComparesInputs};
-ghost use Rattle.cli_read.specs.Inputs.{decoded_input};
+ghost use Rattle.cli_read.specs.Comparisons.{ComparesInputs, ComparesProjections};
 ghost use Rattle.cli_read.specs.Readers.{decoded_reader, reader_schema};
 ghost use Rattle.cli_read.specs.RowBuffers.{ComparesBuffers, IsDifferenceAt, IsInBounds, buffered_rows};
 ghost use Rattle.cli_read.specs.declared.input.Input.TheVariants.{File};
@@ -14,7 +13,7 @@ use crate::comparison::buffer::RowBuffer;
 use crate::comparison::bytes::have_equal_bytes;
 use crate::input::Input;
 use crate::reader::{BatchReader, open};
-use cli_rows::{BatchError, CliError, Difference, row_type, same_schema, window_difference};
+use cli_rows::{BatchError, CliError, Difference, row_type, window_difference};
 use ipc_io::SeekRead;
 use ipc_schema::Projection;
 use nest_memory::datatypes::DataType;
@@ -178,7 +177,7 @@ fn compare_readers<R: SeekRead + Drop, S: SeekRead + Drop>(
 ) -> Result<Option<Difference>, CompareError>
     ensures { ComparesInputs (decoded_reader R.remaining R.stream_position R.stream_bytes left) (decoded_reader S.remaining S.stream_position S.stream_bytes right) result }
 {
-    if !same_schema(left.schema(), right.schema()) {
+    if left.schema() != right.schema() {
         drop(left);
         drop(right);
         return Ok(Some(Difference::Schema));
@@ -193,7 +192,7 @@ fn compare_inputs<R: SeekRead + Drop, S: SeekRead + Drop>(
     left: Input<R>,
     right: Input<S>,
 ) -> Result<Option<Difference>, CompareError>
-    ensures { ComparesInputs (decoded_input R.remaining R.stream_position R.stream_bytes (projection_of columns.entry) left) (decoded_input S.remaining S.stream_position S.stream_bytes (projection_of columns.entry) right) result }
+    ensures { ComparesProjections R.remaining R.stream_position R.stream_bytes S.remaining S.stream_position S.stream_bytes (projection_of columns.entry) left right result }
 {
     match open(alloc, columns, left) {
         Err(error) => {
@@ -265,7 +264,7 @@ fn compare_equal_files<R: SeekRead + Drop>(
     columns: Projection<'_>,
     input: Input<R>,
 ) -> Result<Option<Difference>, CompareError>
-    ensures { ComparesInputs (decoded_input R.remaining R.stream_position R.stream_bytes (projection_of columns.entry) input) (decoded_input R.remaining R.stream_position R.stream_bytes (projection_of columns.entry) input) result }
+    ensures { ComparesProjections R.remaining R.stream_position R.stream_bytes R.remaining R.stream_position R.stream_bytes (projection_of columns.entry) input input result }
 {
     match open(alloc, columns, input) {
         Err(error) => Err(CompareError::First(BatchError { batch: None, error })),
@@ -280,7 +279,7 @@ fn compare_files<R: SeekRead + Drop, S: SeekRead + Drop>(
     mut left: R,
     mut right: S,
 ) -> Result<Option<Difference>, CompareError>
-    ensures { ComparesInputs (decoded_input R.remaining R.stream_position R.stream_bytes (projection_of columns.entry) (File left)) (decoded_input S.remaining S.stream_position S.stream_bytes (projection_of columns.entry) (File right)) result }
+    ensures { ComparesProjections R.remaining R.stream_position R.stream_bytes S.remaining S.stream_position S.stream_bytes (projection_of columns.entry) (File left) (File right) result }
 {
     if have_equal_bytes(&mut left, &mut right) {
         drop(right);
@@ -304,7 +303,7 @@ pub fn compare<R: SeekRead + Drop, S: SeekRead + Drop>(
     left: Input<R>,
     right: Input<S>,
 ) -> Result<Option<Difference>, CompareError>
-    ensures { ComparesInputs (decoded_input R.remaining R.stream_position R.stream_bytes (projection_of columns.entry) left) (decoded_input S.remaining S.stream_position S.stream_bytes (projection_of columns.entry) right) result }
+    ensures { ComparesProjections R.remaining R.stream_position R.stream_bytes S.remaining S.stream_position S.stream_bytes (projection_of columns.entry) left right result }
 {
     match left {
         Input::File(x) => match right {

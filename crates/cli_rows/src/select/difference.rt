@@ -1,6 +1,6 @@
 //! The first row at which windows differ.
 ghost use Rattle.std.specs.Prelude.{◌≡◌, ◌↔◌, ◌<◌, IfSome, IsTrue};
-ghost use Rattle.nest_memory.specs.Cut.{cut};
+ghost use Rattle.nest_memory.specs.Sublist.{sublist};
 ghost use Rattle.cli_rows.specs.Rows.{rows_in};
 ghost use Rattle.cli_rows.specs.Difference.{IsDifference};
 
@@ -11,7 +11,7 @@ use nest_array::equal::equal_windows;
 fn same_row(x: &Window<'_>, y: &Window<'_>, k: usize) -> bool
     requires within { k < x.now.count }
     requires as_many { x.now.count ≡ y.now.count }
-    ensures { IsTrue result ↔ (cut (rows_in x.now) k 1 ≡ cut (rows_in y.now) k 1) }
+    ensures { IsTrue result ↔ (sublist (rows_in x.now) k 1 ≡ sublist (rows_in y.now) k 1) }
 {
     x.known();
     let v = x.cut(k, 1);

@@ -1,7 +1,7 @@
 //! Selected rows as windows over arrays.
 ghost use Rattle.std.specs.Prelude.{◌≡◌, ◌<◌, ◌++◌, IfOk, OnOk, map, option_map, string_bytes};
 ghost use Rattle.std.specs.List.{filter, flat_map};
-ghost use Rattle.nest_memory.specs.Cut.{cut};
+ghost use Rattle.nest_memory.specs.Sublist.{sublist};
 ghost use Rattle.nest_model.specs.Meaning.{len};
 ghost use Rattle.nest_array.specs.Seen.{layout_of};
 ghost use Rattle.nest_array.specs.WindowParts.{window_parts};
@@ -35,7 +35,7 @@ fn push_slice<'a>(
     o: usize,
     n: usize,
 ) -> Result<(), AllocError>
-    ensures { OnOk result (flat_map rows_in windows.new.items ≡ flat_map rows_in windows.old.items ++ cut (flat_map rows_of (map layout_of arrays.now)) o n) }
+    ensures { OnOk result (flat_map rows_in windows.new.items ≡ flat_map rows_in windows.old.items ++ sublist (flat_map rows_of (map layout_of arrays.now)) o n) }
 {
     let mut skip = o;
     let mut left = n;
@@ -57,7 +57,7 @@ fn rows_in_slice(
     o: usize,
     n: usize,
 ) -> Result<Vec<Window<'_>>, AllocError>
-    ensures { IfOk result (λ v. flat_map rows_in v.items ≡ cut (flat_map rows_of (map layout_of arrays.now)) o n) }
+    ensures { IfOk result (λ v. flat_map rows_in v.items ≡ sublist (flat_map rows_of (map layout_of arrays.now)) o n) }
 {
     let mut windows = Vec::new(alloc);
     push_slice(&mut windows, arrays, o, n)?;

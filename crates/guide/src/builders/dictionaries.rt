@@ -1,10 +1,10 @@
 //! Builders of dictionaries, which keep each value once.
 ghost use Rattle.std.specs.Prelude.{◌≡◌, ◌↔◌, ◌++◌, ◌∷◌, [], ℕ, IfOk, IsOk, OnOk, Some, option_map, pos};
 ghost use Rattle.nest_build.specs.Keys.{dictionary_child};
-ghost use Rattle.nest_build.specs.Words.{IsWhole, own_slots};
-ghost use Rattle.nest_model.specs.Accessors.{whole};
+ghost use Rattle.nest_build.specs.Words.{IsComplete, own_slots};
+ghost use Rattle.nest_model.specs.Accessors.{as_integer};
 ghost use Rattle.nest_model.specs.BuilderItem as items;
-ghost use Rattle.nest_model.specs.BuilderItem.{Stands};
+ghost use Rattle.nest_model.specs.BuilderItem.{IsValueAt};
 ghost use Rattle.guide.specs.Words.{pushed_dictionary_values, slots_of};
 
 use std::alloc::Global;
@@ -18,7 +18,7 @@ pub type DictionaryBuilder = MutableDictionaryArray<u8, AnyMutableFlat>;
 
 /// Returns an empty builder.
 fn new_dictionary_builder(alloc: Global) -> Result<DictionaryBuilder, Error>
-    ensures whole { IfOk result (λ b. IsWhole (⟦<DictionaryBuilder as MutableArray>⟧.model b)) }
+    ensures complete { IfOk result (λ b. IsComplete (⟦<DictionaryBuilder as MutableArray>⟧.model b)) }
     ensures empty { IfOk result (λ b. own_slots (⟦<DictionaryBuilder as MutableArray>⟧.model b) ≡ []) }
 {
     let values = AnyMutableFlat::Utf8(MutableUtf8Array::new(alloc)?);
@@ -27,8 +27,8 @@ fn new_dictionary_builder(alloc: Global) -> Result<DictionaryBuilder, Error>
 
 /// Pushes "ab", "c", a null, and "ab" again.
 fn push_strings(builder: &mut DictionaryBuilder) -> Result<(), Error>
-    requires { IsWhole (⟦<DictionaryBuilder as MutableArray>⟧.model builder.old) }
-    ensures whole { OnOk result (IsWhole (⟦<DictionaryBuilder as MutableArray>⟧.model builder.new)) }
+    requires { IsComplete (⟦<DictionaryBuilder as MutableArray>⟧.model builder.old) }
+    ensures complete { OnOk result (IsComplete (⟦<DictionaryBuilder as MutableArray>⟧.model builder.new)) }
     ensures slots { OnOk result (own_slots (⟦<DictionaryBuilder as MutableArray>⟧.model builder.new) ≡ own_slots (⟦<DictionaryBuilder as MutableArray>⟧.model builder.old) ++ pushed_dictionary_values) }
 {
     builder.try_push_plain(Some(Plain::Text("ab")))?;
@@ -39,7 +39,7 @@ fn push_strings(builder: &mut DictionaryBuilder) -> Result<(), Error>
 
 /// Returns the key of a string, if it is one of the values.
 pub fn key_of_string(builder: &DictionaryBuilder, string: &str) -> Option<u8>
-    ensures { (k : ℕ) → (option_map (λ key. pos key) result ≡ Some (pos k)) ↔ Stands (dictionary_child (⟦<DictionaryBuilder as MutableArray>⟧.model builder.now)) (items.text string.now) k }
+    ensures { (k : ℕ) → (option_map (λ key. pos key) result ≡ Some (pos k)) ↔ IsValueAt (dictionary_child (⟦<DictionaryBuilder as MutableArray>⟧.model builder.now)) (items.utf8 string.now) k }
 {
     builder.key_of(&string)
 }

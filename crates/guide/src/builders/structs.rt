@@ -6,7 +6,7 @@ ghost use Rattle.guide.specs.People.{ArePeople, columns, is_person, no_people, p
 ghost use Rattle.guide.specs.Words.{type_of};
 
 use std::alloc::Global;
-use tiekvorn::error::{Argument, Error};
+use tiekvorn::error::{ArgumentError, Error};
 use tiekvorn::{
     AnyMutableArray, AnyMutableFlat, AnyMutablePrimitive, DataType, Field, MutableArray,
     MutablePrimitiveArray, MutableStructArray, MutableUtf8Array, Plain,
@@ -79,7 +79,7 @@ fn push_or_skip(people: &mut MutableStructArray, cells: Cells<'_>) -> Result<(),
     ensures refused { OnErr result (people.new ≡ people.old) }
 {
     match push_person(people, cells) {
-        Err(Error::InvalidArgumentError(Argument::ItemType)) => Ok(()),
+        Err(Error::InvalidArgumentError(ArgumentError::ItemType)) => Ok(()),
         pushed => pushed,
     }
 }

@@ -45,7 +45,7 @@ pub fn new_dictionary_has_all_values()
 pub fn extended_dictionary_has_a_delta()
     ensures known { spec_any_replaced (first words) (first more_words) ≡ false }
     ensures put { spec_dictionary_batches (first words) (first more_words) ≡ (true, (pos 0, last_word)) ∷ [] }
-    ensures word { slots_of last_word ≡ slots.text (100 ∷ []) ∷ [] }
+    ensures word { slots_of last_word ≡ slots.utf8 (100 ∷ []) ∷ [] }
     ensures order { spec_dictionary_batches (first words) ((pos 3, nines) ∷ (pos 0, more_words) ∷ []) ≡ (false, (pos 3, nines)) ∷ (true, (pos 0, last_word)) ∷ [] }
 {}
 

@@ -2,7 +2,7 @@ use Rattle.std.proofs.Common.{◌≡◌, ℕ, ◌+◌, ◌*◌, ◌<◌, ◌≤�
 use Rattle.nest_any.specs.declared.any.AnyMutableArray.{AnyMutableArray}
 use Rattle.nest_any.specs.BuilderCode.{weight, weight_all}
 use Rattle.nest_any.specs.Trees.{tree_of, trees_of}
-use Rattle.nest_model.specs.BuilderWhole.{cut_builder}
+use Rattle.nest_model.specs.BuilderComplete.{truncate_builder}
 use Rattle.nest_any.proofs.+cut.Given as goal
 
 abbrev pub decreases-any::AnyMutableArray::cut : goal.decreases-any::AnyMutableArray::cut
@@ -21,6 +21,6 @@ abbrev pub invariant-children::cut_each-loop-i : goal.invariant-children::cut_ea
 invariant-children::cut_each-loop-i l =
     record {
       same_length : length l.children ≡ length l.initial.children;
-      done : (k : ℕ) (d : AnyMutableArray) → k < l.i → tree_of (get_or l.children k d) ≡ cut_builder (tree_of (get_or l.initial.children k d)) l.n;
+      done : (k : ℕ) (d : AnyMutableArray) → k < l.i → tree_of (get_or l.children k d) ≡ truncate_builder (tree_of (get_or l.initial.children k d)) l.n;
       left : (k : ℕ) (d : AnyMutableArray) → l.i ≤ k → get_or l.children k d ≡ get_or l.initial.children k d;
     }

@@ -6,13 +6,13 @@ use Rattle.nest_memory.specs.TypeOf.{type_of}
 use Rattle.nest_model.specs.Meaning.{slots_of}
 use Rattle.nest_model.specs.BuilderLevels.{own_slots}
 use Rattle.nest_model.specs.BuilderTree.{builder_type}
-use Rattle.nest_model.specs.BuilderWhole.{IsWhole, emptied}
-use Rattle.nest_model.specs.BuilderTold.{AreEachWhole}
+use Rattle.nest_model.specs.BuilderComplete.{IsComplete, emptied}
+use Rattle.nest_model.specs.BuilderAddRow.{AreEachComplete}
 use Rattle.nest_any.specs.BuilderCode.{weight, weight_all}
 use Rattle.nest_any.specs.Trees.{tree_of, trees_of}
-use Rattle.nest_any.proofs.Each.{weight-at, each_whole-at, whole-each, emptied-all, done-next, left-next}
+use Rattle.nest_any.proofs.Each.{weight-at, each_whole-at, complete-each, emptied-all, done-next, left-next}
 use Rattle.nest_any.proofs.Frozen.{arrays-more, array-fits, array-slots}
-use Rattle.nest_any.proofs.Over.{child-whole, weight-over, has-items}
+use Rattle.nest_any.proofs.Over.{child-complete, weight-over, has-items}
 use Rattle.nest_any.proofs.+frozen.Goals as goal
 
 pub children::frozen_each-frozen-array-requires : goal.children::frozen_each-frozen-array-requires
@@ -30,19 +30,19 @@ pub lists::ListBuilder::frozen-frozen-requires : goal.lists::ListBuilder::frozen
 lists::ListBuilder::frozen-frozen-requires t c =
     let r = c.self.inside.rows in
     let b = tree_of c.self.inside.values.value in
-    let w = subst IsWhole (sym c.self.view_is) c.requires in
+    let w = subst IsComplete (sym c.self.view_is) c.requires in
     let v = ap tree_of c.deref_mut.ensures.value in
     let s = ap weight c.self.view_is in
     let k = ap weight v in
-    (omega (arith, weight-over r b, s, k), subst IsWhole (sym v) (child-whole r b w))
+    (omega (arith, weight-over r b, s, k), subst IsComplete (sym v) (child-complete r b w))
 
 pub struct_::MutableStructArray::frozen_parts-frozen_each-requires : goal.struct_::MutableStructArray::frozen_parts-frozen_each-requires
 struct_::MutableStructArray::frozen_parts-frozen_each-requires t c =
-    let w = subst IsWhole (sym c.self.view_is) c.requires in
+    let w = subst IsComplete (sym c.self.view_is) c.requires in
     let v = ap trees_of c.deref_mut.ensures.value in
     let s = ap weight c.self.view_is in
     let k = ap weight_all v in
-    (omega (arith, s, k), subst AreEachWhole (sym v) (whole-each (trees_of c.self.inside.values.items) (length c.self.inside.rows) w.0))
+    (omega (arith, s, k), subst AreEachComplete (sym v) (complete-each (trees_of c.self.inside.values.items) (length c.self.inside.rows) w.0))
 
 pub children::frozen_each-loop-i-preserved : goal.children::frozen_each-loop-i-preserved
 children::frozen_each-loop-i-preserved t c =
@@ -61,7 +61,7 @@ children::frozen_each-loop-i-preserved t c =
 pub lists::ListBuilder::frozen-freeze_over-requires : goal.lists::ListBuilder::frozen-freeze_over-requires
 lists::ListBuilder::frozen-freeze_over-requires t c =
     let v = ap tree_of c.deref_mut.ensures.value in
-    has-items c.self.inside.rows (tree_of c.self.inside.values.value) (layout_of c.in-Ok.values) (subst IsWhole (sym c.self.view_is) c.requires) (c.in-Ok.ensures.slots ∙ ap own_slots v) (c.in-Ok.ensures.same_type ∙ ap builder_type v)
+    has-items c.self.inside.rows (tree_of c.self.inside.values.value) (layout_of c.in-Ok.values) (subst IsComplete (sym c.self.view_is) c.requires) (c.in-Ok.ensures.slots ∙ ap own_slots v) (c.in-Ok.ensures.same_type ∙ ap builder_type v)
 
 pub struct_::MutableStructArray::frozen-new-requires : goal.struct_::MutableStructArray::frozen-new-requires
 struct_::MutableStructArray::frozen-new-requires t c =

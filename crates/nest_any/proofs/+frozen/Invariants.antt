@@ -2,7 +2,7 @@ use Rattle.std.specs.Prelude.{IfOk, IsOkUnless, alloc_error}
 use Rattle.std.proofs.Common.{◌≡◌, ℕ, ◌+◌, ◌*◌, ◌<◌, ◌≤◌, length, get_or, take}
 use Rattle.nest_array.specs.Seen.{layouts_of}
 use Rattle.nest_memory.specs.declared.error.Error.TheVariants.{Memory}
-use Rattle.nest_model.specs.BuilderWhole.{emptied}
+use Rattle.nest_model.specs.BuilderComplete.{emptied}
 use Rattle.nest_any.specs.declared.any.AnyMutableArray.{AnyMutableArray}
 use Rattle.nest_any.specs.BuilderCode.{weight, weight_all}
 use Rattle.nest_any.specs.Refusals.{AreFrozen}

@@ -2,19 +2,19 @@ use Rattle.std.proofs.Common.{◌≡◌, false, length, get_or, ap, sym, ◌∙�
 use Rattle.std.proofs.lemmas.List.{length-set, with_items_is}
 use Rattle.std.specs.Vec.{with_items}
 use Rattle.nest_model.specs.BuilderTree.{builder_len, struct}
-use Rattle.nest_model.specs.BuilderWhole.{IsWhole, AreWhole, cut_builder, cut_builders}
+use Rattle.nest_model.specs.BuilderComplete.{IsComplete, AreComplete, truncate_builder, truncate_builders}
 use Rattle.nest_model.specs.BuilderAppend.{nulls_appended, nulls_appended_each}
 use Rattle.nest_model.specs.BuilderAppendLaws.{nulls-zero}
 use Rattle.nest_model.specs.BuilderRefusals.{nulls_pass}
-use Rattle.nest_model.specs.BuilderAcceptLaws.{whole-nulls}
+use Rattle.nest_model.specs.BuilderAcceptLaws.{complete-nulls}
 use Rattle.nest_any.specs.BuilderCode.{weight, weight_all}
 use Rattle.nest_any.specs.Refusals.{AreEachLong}
 use Rattle.nest_any.specs.Trees.{tree_of, trees_of}
 use Rattle.nest_any.specs.TypedRows.{lists_over}
-use Rattle.nest_any.proofs.Each.{weight-at, whole-at, refused, nulls-all, pass-none, child-passes, nulls-undone, done-next, below-next, left-next, long-took, each-undone}
+use Rattle.nest_any.proofs.Each.{weight-at, complete-at, refused, nulls-all, pass-none, child-passes, nulls-undone, done-next, below-next, left-next, long-took, each-undone}
 use Rattle.nest_any.proofs.ListNulls.{child-refuses_at, null-fits}
 use Rattle.nest_any.proofs.Nulls.{one_more, fits_more, refused_after}
-use Rattle.nest_any.proofs.Over.{child-whole, weight-over}
+use Rattle.nest_any.proofs.Over.{child-complete, weight-over}
 use Rattle.nest_any.proofs.Weights.{weight-nulls}
 use Rattle.nest_any.proofs.+null.Goals as goal
 
@@ -22,33 +22,33 @@ pub children::add_nulls-add_null-requires : goal.children::add_nulls-add_null-re
 children::add_nulls-add_null-requires t c =
     let b = tree_of c.args.child.now in
     let a = c.loop-i.invariant.added in
-    (omega (arith, ap weight a, weight-nulls c.loop-i._i b), subst IsWhole (sym a) (whole-nulls c.loop-i._i b c.requires))
+    (omega (arith, ap weight a, weight-nulls c.loop-i._i b), subst IsComplete (sym a) (complete-nulls c.loop-i._i b c.requires))
 
 pub children::add_null_each-add_null-requires : goal.children::add_null_each-add_null-requires
 children::add_null_each-add_null-requires t c =
     let d = c.index-children-i.result in
     let same = c.loop-i.invariant.left c.loop-i.i d (omega arith) in
     let w = weight-at tree_of c.args.children.now c.loop-i.i d (omega arith) in
-    let h = whole-at tree_of c.args.children.now c.args.n c.loop-i.i d c.requires (omega arith) in
+    let h = complete-at tree_of c.args.children.now c.args.n c.loop-i.i d c.requires (omega arith) in
     rw same (omega arith, h.0)
 
 pub lists::ListBuilder::add_null-add_nulls-requires : goal.lists::ListBuilder::add_null-add_nulls-requires
 lists::ListBuilder::add_null-add_nulls-requires t c =
     let r = c.self.inside.rows in
     let b = tree_of c.self.inside.values.value in
-    let w = subst IsWhole (sym c.self.view_is) c.requires in
+    let w = subst IsComplete (sym c.self.view_is) c.requires in
     let v = ap tree_of c.deref_mut.ensures.value in
     let s = ap weight c.self.view_is in
     let k = ap weight v in
-    (omega (arith, weight-over r b, s, k), subst IsWhole (sym v) (child-whole r b w))
+    (omega (arith, weight-over r b, s, k), subst IsComplete (sym v) (child-complete r b w))
 
 pub struct_::MutableStructArray::add_null-add_null_each-requires : goal.struct_::MutableStructArray::add_null-add_null_each-requires
 struct_::MutableStructArray::add_null-add_null_each-requires t c =
-    let w = subst IsWhole (sym c.self.view_is) c.requires in
+    let w = subst IsComplete (sym c.self.view_is) c.requires in
     let v = ap trees_of c.deref_mut.ensures.value in
     let s = ap weight c.self.view_is in
     let k = ap weight_all v in
-    (omega (arith, s, k), subst (AreWhole (trees_of c.deref_mut.result.now)) (sym c.len-len.ensures) (subst (λ cs. AreWhole cs (length c.self.inside.rows)) (sym v) w.0))
+    (omega (arith, s, k), subst (AreComplete (trees_of c.deref_mut.result.now)) (sym c.len-len.ensures) (subst (λ cs. AreComplete cs (length c.self.inside.rows)) (sym v) w.0))
 
 pub children::add_nulls-loop-i-init : goal.children::add_nulls-loop-i-init
 children::add_nulls-loop-i-init t c = record { added = sym (nulls-zero (tree_of c.args.child.now)); fits = λ h. absurd (omega (arith, h)) }
@@ -61,15 +61,15 @@ children::add_nulls-loop-i-preserved t c =
       fits = λ h. fits_more b (tree_of c.loop-i.child) c.loop-i._i c.loop-i.invariant.added c.loop-i.invariant.fits c.in-Ok.ensures.room;
     }
 
-pub children::add_nulls-cut-requires-clause-whole : goal.children::add_nulls-cut-requires-clause-whole
-children::add_nulls-cut-requires-clause-whole t c = subst IsWhole (sym (c.in-Err.ensures.err ∙ c.loop-i.invariant.added)) (whole-nulls c.loop-i._i (tree_of c.args.child.now) c.requires)
+pub children::add_nulls-cut-requires-clause-complete : goal.children::add_nulls-cut-requires-clause-complete
+children::add_nulls-cut-requires-clause-complete t c = subst IsComplete (sym (c.in-Err.ensures.err ∙ c.loop-i.invariant.added)) (complete-nulls c.loop-i._i (tree_of c.args.child.now) c.requires)
 
 pub children::add_nulls-returns-in-Err-clause-err : goal.children::add_nulls-returns-in-Err-clause-err
 children::add_nulls-returns-in-Err-clause-err t c =
     let b = tree_of c.args.child.now in
     c.cut.ensures
-    ∙ (ap (λ x. cut_builder x c.len-len.result) (c.in-Err.ensures.err ∙ c.loop-i.invariant.added)
-    ∙ (ap (cut_builder (nulls_appended c.loop-i._i b)) c.len-len.ensures ∙ nulls-undone c.loop-i._i b c.requires))
+    ∙ (ap (λ x. truncate_builder x c.len-len.result) (c.in-Err.ensures.err ∙ c.loop-i.invariant.added)
+    ∙ (ap (truncate_builder (nulls_appended c.loop-i._i b)) c.len-len.ensures ∙ nulls-undone c.loop-i._i b c.requires))
 
 pub children::add_nulls-returns-in-Err-clause-cause : goal.children::add_nulls-returns-in-Err-clause-cause
 children::add_nulls-returns-in-Err-clause-cause t c = refused_after (tree_of c.args.child.now) (tree_of c.loop-i.child) c.loop-i._i c.args.n c.in-Err.error (omega arith) c.loop-i.invariant.added c.in-Err.ensures.cause
@@ -114,22 +114,22 @@ pub lists::ListBuilder::add_null-returns-in-Err-clause-cause : goal.lists::ListB
 lists::ListBuilder::add_null-returns-in-Err-clause-cause t c =
     child-refuses_at c.self.inside.rows (tree_of c.self.inside.values.value) (tree_of c.deref_mut.result.now) _ c.child_nulls-nulls.result c.in-Err.refusal c.self.view_is c.child_nulls-nulls.ensures.value (ap tree_of c.deref_mut.ensures.value) c.in-Err.ensures.cause
 
-pub lists::ListBuilder::add_null-cut-requires-clause-whole : goal.lists::ListBuilder::add_null-cut-requires-clause-whole
-lists::ListBuilder::add_null-cut-requires-clause-whole t c =
+pub lists::ListBuilder::add_null-cut-requires-clause-complete : goal.lists::ListBuilder::add_null-cut-requires-clause-complete
+lists::ListBuilder::add_null-cut-requires-clause-complete t c =
     let b = tree_of c.self.inside.values.value in
     let n = c.child_nulls-nulls.result in
-    let w = subst IsWhole (sym c.self.view_is) c.requires in
+    let w = subst IsComplete (sym c.self.view_is) c.requires in
     let now = ap tree_of c.deref_mut-in-Err-push_null.ensures.value ∙ (c.in_default.ensures.ok ∙ ap (λ x. nulls_appended n (tree_of x)) c.deref_mut.ensures.value) in
-    subst IsWhole (sym now) (whole-nulls n b (child-whole c.self.inside.rows b w))
+    subst IsComplete (sym now) (complete-nulls n b (child-complete c.self.inside.rows b w))
 
 pub lists::ListBuilder::add_null-returns-in-Err-push_null-clause-err : goal.lists::ListBuilder::add_null-returns-in-Err-push_null-clause-err
 lists::ListBuilder::add_null-returns-in-Err-push_null-clause-err t c =
     let b = tree_of c.self.inside.values.value in
     let n = c.child_nulls-nulls.result in
-    let w = subst IsWhole (sym c.self.view_is) c.requires in
+    let w = subst IsComplete (sym c.self.view_is) c.requires in
     let now = ap tree_of c.deref_mut-in-Err-push_null.ensures.value ∙ (c.in_default.ensures.ok ∙ ap (λ x. nulls_appended n (tree_of x)) c.deref_mut.ensures.value) in
     let long = c.len-len.ensures ∙ ap (λ x. builder_len (tree_of x)) c.deref.ensures in
-    let back = c.cut.ensures ∙ (ap (λ x. cut_builder x c.len-len.result) now ∙ (ap (cut_builder (nulls_appended n b)) long ∙ nulls-undone n b (child-whole c.self.inside.rows b w))) in
+    let back = c.cut.ensures ∙ (ap (λ x. truncate_builder x c.len-len.result) now ∙ (ap (truncate_builder (nulls_appended n b)) long ∙ nulls-undone n b (child-complete c.self.inside.rows b w))) in
     ap (lists_over c.push_null.new.self) back ∙ (c.in-Err-push_null.ensures.err b ∙ c.self.view_is)
 
 pub lists::ListBuilder::add_null-returns-in-Ok-clause-room : goal.lists::ListBuilder::add_null-returns-in-Ok-clause-room
@@ -139,7 +139,7 @@ lists::ListBuilder::add_null-returns-in-Ok-clause-room t c =
     let n = c.child_nulls-nulls.result in
     let q = c.child_nulls-nulls.ensures.value in
     let v = ap tree_of c.deref_mut.ensures.value in
-    let w = subst IsWhole (sym c.self.view_is) c.requires in
+    let w = subst IsComplete (sym c.self.view_is) c.requires in
     let e = c.in_default.ensures.ok ∙ (ap (nulls_appended n) v ∙ ap (λ m. nulls_appended m b) q) in
     let l = c.len-items.ensures ∙ ap (λ x. builder_len (tree_of x)) c.deref-2.ensures in
     subst (λ x. nulls_pass 1 x ≡ false) c.self.view_is
@@ -150,7 +150,7 @@ pub struct_::MutableStructArray::add_null-cut_each-requires : goal.struct_::Muta
 struct_::MutableStructArray::add_null-cut_each-requires t c =
     let cs = trees_of c.self.inside.values.items in
     let n = length c.self.inside.rows in
-    let w = subst IsWhole (sym c.self.view_is) c.requires in
+    let w = subst IsComplete (sym c.self.view_is) c.requires in
     let l : length c.add_null_each.new.children ≡ c.self.inside.values.len = omega (arith, c.add_null_each.auto.children, c.deref_mut.ensures.len) in
     let i = with_items_is c.self.inside.values c.add_null_each.new.children l in
     let now = ap trees_of (c.deref_mut-in-Err-push.ensures.value ∙ i) ∙ (c.in_default.ensures.ok ∙ ap (λ xs. nulls_appended_each 1 (trees_of xs)) c.deref_mut.ensures.value) in
@@ -160,11 +160,11 @@ pub struct_::MutableStructArray::add_null-returns-in-Err-push-clause-err : goal.
 struct_::MutableStructArray::add_null-returns-in-Err-push-clause-err t c =
     let cs = trees_of c.self.inside.values.items in
     let n = length c.self.inside.rows in
-    let w = subst IsWhole (sym c.self.view_is) c.requires in
+    let w = subst IsComplete (sym c.self.view_is) c.requires in
     let l : length c.add_null_each.new.children ≡ c.self.inside.values.len = omega (arith, c.add_null_each.auto.children, c.deref_mut.ensures.len) in
     let i = with_items_is c.self.inside.values c.add_null_each.new.children l in
     let now = ap trees_of (c.deref_mut-in-Err-push.ensures.value ∙ i) ∙ (c.in_default.ensures.ok ∙ ap (λ xs. nulls_appended_each 1 (trees_of xs)) c.deref_mut.ensures.value) in
-    let back = c.cut_each.ensures ∙ (ap (λ xs. cut_builders xs c.len-len.result) now ∙ (ap (cut_builders (nulls_appended_each 1 cs)) c.len-len.ensures ∙ each-undone cs n w.0)) in
+    let back = c.cut_each.ensures ∙ (ap (λ xs. truncate_builders xs c.len-len.result) now ∙ (ap (truncate_builders (nulls_appended_each 1 cs)) c.len-len.ensures ∙ each-undone cs n w.0)) in
     let v = with_items c.self.inside.values c.add_null_each.new.children in
     let m : length c.cut_each.new.children ≡ v.len = omega (arith, c.cut_each.auto.children, c.deref_mut-in-Err-push.ensures.len) in
     let j = with_items_is v c.cut_each.new.children m in

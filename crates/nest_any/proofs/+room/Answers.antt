@@ -1,6 +1,6 @@
 use Rattle.std.proofs.Common.{◌≡◌, false, sym, get_or, ap, ◌∙◌, arith}
 use Rattle.std.proofs.lemmas.List.{length-set}
-use Rattle.nest_build.specs.Told.{reserve_passes}
+use Rattle.nest_build.specs.Shown.{reserve_passes}
 use Rattle.nest_any.specs.BuilderCode.{weight, weight_all}
 use Rattle.nest_any.specs.Trees.{tree_of, trees_of}
 use Rattle.nest_any.proofs.Each.{weight-at, each-set, same-all, set-at, below-next}

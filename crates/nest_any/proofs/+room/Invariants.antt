@@ -2,7 +2,7 @@ use Rattle.std.proofs.Common.{◌≡◌, ℕ, ◌+◌, ◌*◌, ◌<◌, length,
 use Rattle.nest_any.specs.declared.any.AnyMutableArray.{AnyMutableArray}
 use Rattle.nest_any.specs.BuilderCode.{weight, weight_all}
 use Rattle.nest_any.specs.Trees.{tree_of, trees_of}
-use Rattle.nest_build.specs.Told.{reserve_passes}
+use Rattle.nest_build.specs.Shown.{reserve_passes}
 use Rattle.nest_any.proofs.+room.Given as goal
 
 abbrev pub decreases-any::AnyMutableArray::room : goal.decreases-any::AnyMutableArray::room

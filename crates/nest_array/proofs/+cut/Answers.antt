@@ -7,8 +7,8 @@ use Rattle.nest_model.specs.Layout.{weight, weight_all}
 use Rattle.nest_model.specs.Meaning.{len, first_len}
 use Rattle.nest_model.specs.Fits.{EachCovers}
 use Rattle.nest_model.specs.FactLaws.{struct-facts}
-use Rattle.nest_model.specs.Cut.{cut_layout, cut_layouts}
-use Rattle.nest_model.specs.CutLaws.{first_len-cut}
+use Rattle.nest_model.specs.Slice.{slice_layout, slice_layouts}
+use Rattle.nest_model.specs.SliceLaws.{first_len-cut}
 use Rattle.nest_model.specs.FitsLaws.{top-fits-cut}
 use Rattle.nest_model.specs.Runs.{product-fits}
 use Rattle.nest_array.specs.Seen.{layout_of, layouts_of}
@@ -29,7 +29,7 @@ fixed_size_list::FixedSizeListArray::cut-cut-requires t c =
 pub fixed_size_list::FixedSizeListArray::cut-invariant_of-self : goal.fixed_size_list::FixedSizeListArray::cut-invariant_of-self
 fixed_size_list::FixedSizeListArray::cut-invariant_of-self t c =
     let e = ap len c.self.view_is in
-    let child = c.cut.ensures ∙ ap (λ a. cut_layout (layout_of a) (c.args.o * c.self.inside.size) (c.args.n * c.self.inside.size)) c.deref_mut.ensures.value in
+    let child = c.cut.ensures ∙ ap (λ a. slice_layout (layout_of a) (c.args.o * c.self.inside.size) (c.args.n * c.self.inside.size)) c.deref_mut.ensures.value in
     let within : c.args.o + c.args.n ≤ len (layouts.fixed_size_list (type_of c.self.inside.data_type) (layout_of c.self.inside.values.value) c.self.inside.validity) = omega (arith, e, c.requires) in (
       size-cut-fits (type_of c.self.inside.data_type) (layout_of c.self.inside.values.value) (layout_of c.cut.new.self) c.self.inside.validity c.slice.new.validity c.self.inside.size c.args.o c.args.n child c.slice.ensures c.self.invariant.1.0 c.self.invariant.0 within,
       (c.self.invariant.1.0, size-cut-len (type_of c.self.inside.data_type) (layout_of c.self.inside.values.value) (layout_of c.cut.new.self) c.self.inside.validity c.slice.new.validity c.self.inside.size c.args.o c.args.n child c.slice.ensures c.self.invariant.1.0 within),
@@ -54,7 +54,7 @@ struct_::StructArray::cut-invariant_of-self t c =
     let a = ap length c.deref_mut.ensures.value in
     let l : length c.cut_all.new.children ≡ c.self.inside.values.len = omega (arith, c.cut_all.auto.children, c.deref_mut.ensures.len) in
     let w = with_items_is c.self.inside.values c.cut_all.new.children l in
-    let x = c.cut_all.ensures ∙ ap (λ xs. cut_layouts (layouts_of xs) c.args.o c.args.n) c.deref_mut.ensures.value in
+    let x = c.cut_all.ensures ∙ ap (λ xs. slice_layouts (layouts_of xs) c.args.o c.args.n) c.deref_mut.ensures.value in
     let f = top-fits-cut (layouts.struct (type_of c.self.inside.data_type) (layouts_of c.self.inside.values.items) c.self.inside.validity) c.args.o c.args.n c.self.invariant.0 k in
     let g = first_len-cut (layouts_of c.self.inside.values.items) c.args.o c.args.n k in
     rw (w, x, c.slice.ensures) (f, sym g)

@@ -1,7 +1,7 @@
 use Rattle.std.proofs.Common.{◌≡◌, ℕ, ◌+◌, ◌*◌, ◌<◌, ◌≤◌, length, get_or}
 use Rattle.nest_array.specs.declared.any.AnyArray.{AnyArray}
 use Rattle.nest_model.specs.Layout.{weight, weight_all}
-use Rattle.nest_model.specs.Cut.{cut_layout}
+use Rattle.nest_model.specs.Slice.{slice_layout}
 use Rattle.nest_array.specs.Seen.{layout_of, layouts_of}
 use Rattle.nest_array.proofs.+cut.Given as goal
 
@@ -21,6 +21,6 @@ abbrev pub invariant-struct_::cut_all-loop-i : goal.invariant-struct_::cut_all-l
 invariant-struct_::cut_all-loop-i l =
     record {
       same_length : length l.children ≡ length l.initial.children;
-      done : (k : ℕ) (d : AnyArray) → k < l.i → layout_of (get_or l.children k d) ≡ cut_layout (layout_of (get_or l.initial.children k d)) l.o l.n;
+      done : (k : ℕ) (d : AnyArray) → k < l.i → layout_of (get_or l.children k d) ≡ slice_layout (layout_of (get_or l.initial.children k d)) l.o l.n;
       left : (k : ℕ) (d : AnyArray) → l.i ≤ k → get_or l.children k d ≡ get_or l.initial.children k d;
     }

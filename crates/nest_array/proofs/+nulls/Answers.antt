@@ -6,8 +6,8 @@ use Rattle.nest_model.specs.MadeNullLaws.{top-fits, fits}
 use Rattle.nest_model.specs.NullKinds.{field_weight, fields_weight, item-lighter, fields-lighter, value-lighter, dictionary-parts, list-parts, map-parts, sized-parts, struct-parts, union-parts}
 use Rattle.nest_model.specs.NullLaws.{fills-product, fills-below}
 use Rattle.nest_model.specs.NullLayout.{none_valid, null_array, null_children}
-use Rattle.nest_model.specs.Nulls.{Fills, fault_of, field_fault, fields_fault}
-use Rattle.nest_array.proofs.NullMakes.{list-item, list-long, list-below, map-item, map-long, map-below, sized-item, sized-long, sized-below, struct-below, union-mode, union-ids, union-short, union-below, dictionary-kind, dictionary-key, dictionary-value, dictionary-below, field-lighter, weight-of, fault-of, field-below, all-nulls}
+use Rattle.nest_model.specs.Nulls.{Fills, error_of, field_error, fields_error}
+use Rattle.nest_array.proofs.NullMakes.{list-item, list-long, list-below, map-item, map-long, map-below, sized-item, sized-long, sized-below, struct-below, union-mode, union-ids, union-short, union-below, dictionary-kind, dictionary-key, dictionary-value, dictionary-below, field-lighter, weight-of, first_error-of, field-below, all-nulls}
 use Rattle.nest_array.proofs.+nulls.Goals as goal
 
 pub list::ListArray::nulls-nulls-requires : goal.list::ListArray::nulls-nulls-requires
@@ -122,7 +122,7 @@ fixed_size_list::FixedSizeListArray::nulls-null_array-requires t c =
     let s = c.unwrap_or.ensures ∙ c.size.ensures.or_zero in (
       omega (arith, item-lighter a u c.item_type.ensures),
       (
-        ap (λ k. fault_of u (c.args.length * k) c.args.fill) s ∙ sized-below a u c.args.length c.args.fill c.requires.kind c.item_type.ensures c.requires.unrefused,
+        ap (λ k. error_of u (c.args.length * k) c.args.fill) s ∙ sized-below a u c.args.length c.args.fill c.requires.kind c.item_type.ensures c.requires.unrefused,
         fills-product c.args.fill c.args.length c.unwrap_or.result c.requires.valid,
       ),
     )
@@ -153,7 +153,7 @@ pub struct_::StructArray::nulls-null_fields-requires : goal.struct_::StructArray
 struct_::StructArray::nulls-null_fields-requires t c =
     let a = type_of c.args.data_type.now in (
       omega (arith, fields-lighter a, ap fields_weight c.fields.ensures.fields),
-      (ap (λ fs. fields_fault fs c.args.length c.args.fill) c.fields.ensures.fields ∙ struct-below a c.args.length c.args.fill c.requires.kind c.requires.unrefused, c.requires.valid),
+      (ap (λ fs. fields_error fs c.args.length c.args.fill) c.fields.ensures.fields ∙ struct-below a c.args.length c.args.fill c.requires.kind c.requires.unrefused, c.requires.valid),
     )
 
 pub struct_::StructArray::nulls-new-requires : goal.struct_::StructArray::nulls-new-requires
@@ -179,7 +179,7 @@ pub union::UnionArray::nulls-null_fields-requires : goal.union::UnionArray::null
 union::UnionArray::nulls-null_fields-requires t c =
     let a = type_of c.args.data_type.now in (
       omega (arith, fields-lighter a, ap fields_weight c.fields.ensures.fields),
-      (ap (λ fs. fields_fault fs c.args.length c.args.fill) c.fields.ensures.fields ∙ union-below a c.args.length c.args.fill c.requires.kind c.requires.unrefused, c.requires.valid),
+      (ap (λ fs. fields_error fs c.args.length c.args.fill) c.fields.ensures.fields ∙ union-below a c.args.length c.args.fill c.requires.kind c.requires.unrefused, c.requires.valid),
     )
 
 pub union::UnionArray::nulls-new-requires : goal.union::UnionArray::nulls-new-requires
@@ -209,8 +209,8 @@ nulls::null_fields-null_array-requires t c =
     let q = weight-of f (type_of c.data_type.result.now) c.data_type.ensures in (
       omega (arith, e, w, q),
       (
-        fault-of f (type_of c.data_type.result.now) c.args.length c.args.fill c.data_type.ensures
-            ∙ ap (λ x. field_fault (field_of x) c.args.length c.args.fill) c.index-fields-i.is
+        first_error-of f (type_of c.data_type.result.now) c.args.length c.args.fill c.data_type.ensures
+            ∙ ap (λ x. field_error (field_of x) c.args.length c.args.fill) c.index-fields-i.is
             ∙ field-below c.args.fields.now c.loop-i.i c.args.length c.args.fill c.index-fields-i.result (omega arith) c.requires.unrefused,
         c.requires.valid,
       ),
@@ -240,7 +240,7 @@ dictionary::DictionaryArray::nulls-null_array-requires t c =
     let v = c.values_below.ensures in (
       omega (arith, value-lighter a u c.value_type.ensures),
       (
-        ap (λ k. fault_of u k c.args.fill) v ∙ dictionary-below a u c.args.length c.args.fill c.value_type.ensures c.requires.unrefused,
+        ap (λ k. error_of u k c.args.fill) v ∙ dictionary-below a u c.args.length c.args.fill c.value_type.ensures c.requires.unrefused,
         subst (Fills c.args.fill) (sym v) (fills-below c.args.fill),
       ),
     )

@@ -1,6 +1,6 @@
-//! The traits of arrays of booleans, of bytes and of texts.
+//! The array traits of Boolean, binary and UTF-8 arrays.
 use crate::any::AnyArray;
-use crate::array::{Slotted, Variant};
+use crate::array::{ArrayParts, ArrayVariant};
 use nest_flat::binary::BinaryArray;
 use nest_flat::boolean::BooleanArray;
 use nest_flat::utf8::Utf8Array;
@@ -10,7 +10,7 @@ use nest_memory::error::Error;
 use nest_memory::offset::Offset;
 use std::alloc::Global;
 
-impl Slotted for BooleanArray {
+impl ArrayParts for BooleanArray {
     ghost parts = { λ a. a };
 
     fn len(&self) -> usize {
@@ -42,7 +42,7 @@ impl Slotted for BooleanArray {
     }
 }
 
-impl<O: Offset> Slotted for BinaryArray<O> {
+impl<O: Offset> ArrayParts for BinaryArray<O> {
     ghost parts = { λ a. a };
 
     fn len(&self) -> usize {
@@ -74,7 +74,7 @@ impl<O: Offset> Slotted for BinaryArray<O> {
     }
 }
 
-impl<O: Offset> Slotted for Utf8Array<O> {
+impl<O: Offset> ArrayParts for Utf8Array<O> {
     ghost parts = { λ a. a };
 
     fn len(&self) -> usize {
@@ -106,31 +106,31 @@ impl<O: Offset> Slotted for Utf8Array<O> {
     }
 }
 
-impl Variant for BooleanArray {
+impl ArrayVariant for BooleanArray {
     fn into_any(self) -> AnyArray {
         AnyArray::Boolean(self)
     }
 }
 
-impl Variant for BinaryArray<i32> {
+impl ArrayVariant for BinaryArray<i32> {
     fn into_any(self) -> AnyArray {
         AnyArray::Binary(self)
     }
 }
 
-impl Variant for BinaryArray<i64> {
+impl ArrayVariant for BinaryArray<i64> {
     fn into_any(self) -> AnyArray {
         AnyArray::LargeBinary(self)
     }
 }
 
-impl Variant for Utf8Array<i32> {
+impl ArrayVariant for Utf8Array<i32> {
     fn into_any(self) -> AnyArray {
         AnyArray::Utf8(self)
     }
 }
 
-impl Variant for Utf8Array<i64> {
+impl ArrayVariant for Utf8Array<i64> {
     fn into_any(self) -> AnyArray {
         AnyArray::LargeUtf8(self)
     }

@@ -1,4 +1,4 @@
-//! What every array does: arrow2's trait `Array`.
+//! The methods of every array: arrow2's trait `Array`.
 mod flat;
 mod nested;
 mod primitive;
@@ -7,7 +7,7 @@ ghost use Rattle.std.specs.Prelude.{◌≡◌, ◌+◌, ◌≤◌, ◌<◌, ◌�
 ghost use Rattle.nest_model.specs.Checks.{Pass};
 ghost use Rattle.nest_model.specs.Fits.{validity_checks};
 ghost use Rattle.nest_model.specs.Slot as slots;
-ghost use Rattle.nest_array.specs.Words.{IsCut, Layout, Memory, ValidityFault, cut, cut_layout, has_keys, is_null_at, layout_of, layout_type, len, null_count, slot, type_of, validity_of, with_validity};
+ghost use Rattle.nest_array.specs.Words.{IsSlice, Layout, Memory, ValidityError, sublist, slice_layout, has_keys, is_null_at, layout_of, layout_type, len, null_count, slot, type_of, validity_of, with_validity};
 
 use crate::any::AnyArray;
 use nest_memory::bitmap::immutable::Bitmap;
@@ -15,69 +15,83 @@ use nest_memory::datatypes::DataType;
 use nest_memory::error::Error;
 use std::alloc::Global;
 
-/// An array of any kind. Each kind of array has it, by `Slotted` and `Variant`, which callers needn't name.
+/// An array of any kind.
+///
+/// Each kind implements it by `ArrayParts` and `ArrayVariant`, which callers need not name.
 pub trait Array {
-    /// Its parts, as its accessors show them after its cuts.
+    /// The layout of the array, with its slices applied.
     ghost layout: { Self → Layout };
 
-    /// How many slots it has.
+    /// Returns the number of slots.
     fn len(&self) -> usize
         ensures { result ≡ len (layout self.now) };
 
-    /// Whether it has no slot.
+    /// Returns whether the array has no slots.
     fn is_empty(&self) -> bool
         ensures { IsTrue result ↔ (len (layout self.now) ≡ 0) };
 
-    /// Its data type.
+    /// Returns the data type.
     fn data_type(&self) -> &DataType
         ensures { type_of result.now ≡ layout_type (layout self.now) };
 
-    /// Which slots are valid, a bit a slot; without it all are.
+    /// Returns the validity bitmap, one bit per slot.
+    ///
+    /// Null and union arrays have none. Any other array without one has no null slots, or no null keys.
     fn validity(&self) -> Option<&Bitmap>
         ensures { option_map (λ b. b.now) result ≡ validity_of (layout self.now) };
 
-    /// Whether slot i is null; of an array whose slots are looked up by keys, whether its key is.
+    /// Returns whether slot `i` is null; for a dictionary array, whether key `i` is null.
     fn is_null(&self, i: usize) -> bool
         requires { i < len (layout self.now) }
         ensures slot { has_keys (layout self.now) ≡ false → (IsTrue result ↔ (slot (layout self.now) i ≡ slots.null)) }
         ensures place { result ≡ is_null_at (layout self.now) i };
 
-    /// Whether slot i is not null, as `is_null` says it.
+    /// Returns the negation of `is_null`.
     fn is_valid(&self, i: usize) -> bool
         requires { i < len (layout self.now) }
         ensures { result ≡ not (is_null_at (layout self.now) i) };
 
-    /// How many slots are null, as `is_null` says it.
+    /// Returns the number of slots for which `is_null` is true.
     fn null_count(&self) -> usize
         ensures { result ≡ null_count (layout self.now) };
 
-    /// Keeps the n slots from place o. No memory is taken.
+    /// Slices the array in place to the `n` slots from index `o`, without allocation.
     fn slice(&mut self, o: usize, n: usize)
         requires { o + n ≤ len (layout self.old) }
-        ensures { IsCut (layout self.old) o n (layout self.new) };
+        ensures { IsSlice (layout self.old) o n (layout self.new) };
 
-    /// The same array in its variant, on shared memory.
+    /// Returns a copy in the variant of its kind, which shares the buffers.
+    ///
+    /// # Errors
+    /// `Memory` where an allocation fails.
     fn to_boxed(&self, alloc: Global) -> Result<AnyArray, Error>
         ensures ok { IfOk result (λ a. layout_of a ≡ layout self.now) }
         ensures err { IsOkUnless result (Memory alloc_error) };
 
-    /// The n slots from place o, on shared memory.
+    /// Returns a copy of the slice of `n` slots from index `o`, which shares the buffers.
+    ///
+    /// # Errors
+    /// `Memory` where an allocation fails.
     fn sliced(&self, alloc: Global, o: usize, n: usize) -> Result<AnyArray, Error>
         requires { o + n ≤ len (layout self.now) }
-        ensures cut { IfOk result (λ a. IsCut (layout self.now) o n (layout_of a)) }
+        ensures slice { IfOk result (λ a. IsSlice (layout self.now) o n (layout_of a)) }
         ensures err { IsOkUnless result (Memory alloc_error) };
 
-    /// The array under a new validity, on shared memory. `NoValidity` for a null array and a union, `ValidityLength` where
-    /// the validity has not a bit for each slot, `KeyRange` where a key that is valid under it names no value, `Memory`.
+    /// Returns a copy with another validity, which shares the buffers.
+    ///
+    /// # Errors
+    /// - `NoValidity`: the array is a null or union array;
+    /// - `ValidityLength`: the validity has another length;
+    /// - `KeyRange`: a key that is valid under it is not an index of the values;
+    /// - `Memory`: an allocation fails.
     fn with_validity(&self, alloc: Global, validity: Option<Bitmap>) -> Result<AnyArray, Error>
-        ensures { MatchResult result
-            (λ a. Pass (validity_checks (layout self.now) validity) × (layout_of a ≡ with_validity (layout self.now) validity))
-            (λ e. ValidityFault e (layout self.now) validity ⊎ (e ≡ Memory alloc_error)) };
+        ensures { let a = layout self.now in MatchResult result
+            (λ b. Pass (validity_checks a validity) × (layout_of b ≡ with_validity a validity))
+            (λ e. ValidityError e a validity ⊎ (e ≡ Memory alloc_error)) };
 }
 
-/// What each kind of array tells of its slots, and its copy on shared memory: the part of `Array` that the kinds
-/// differ in.
-pub trait Slotted {
+/// The part of `Array` that each kind of array implements: its accessors and its copy.
+pub trait ArrayParts {
     ghost parts: { Self → Layout };
 
     fn len(&self) -> usize
@@ -99,16 +113,16 @@ pub trait Slotted {
 
     fn slice(&mut self, o: usize, n: usize)
         requires { o + n ≤ len (parts self.old) }
-        ensures { parts self.new ≡ cut_layout (parts self.old) o n };
+        ensures { parts self.new ≡ slice_layout (parts self.old) o n };
 
     fn again(&self, alloc: Global) -> Result<Self, Error>
         ensures ok { IfOk result (λ a. parts a ≡ parts self.now) }
         ensures err { IsOkUnless result (Memory alloc_error) };
 
-    /// The n slots from place o, on shared memory.
+    /// Returns a copy of the slice of `n` slots from index `o`, which shares the buffers.
     fn part(&self, alloc: Global, o: usize, n: usize) -> Result<Self, Error>
         requires { o + n ≤ len (parts self.now) }
-        ensures ok { IfOk result (λ a. parts a ≡ cut_layout (parts self.now) o n) }
+        ensures ok { IfOk result (λ a. parts a ≡ slice_layout (parts self.now) o n) }
         ensures err { IsOkUnless result (Memory alloc_error) }
     {
         let mut part = self.again(alloc)?;
@@ -118,45 +132,45 @@ pub trait Slotted {
 }
 
 /// A kind of array that is a variant of `AnyArray`.
-pub trait Variant: Slotted {
-    /// The same array in its variant.
+pub trait ArrayVariant: ArrayParts {
+    /// Returns the array in its variant.
     fn into_any(self) -> AnyArray
         ensures { layout_of result ≡ Self.parts self };
 }
 
-impl<A: Variant> Array for A {
+impl<A: ArrayVariant> Array for A {
     ghost layout = { A.parts };
 
     fn len(&self) -> usize {
-        Slotted::len(self)
+        ArrayParts::len(self)
     }
 
     fn is_empty(&self) -> bool {
-        Slotted::len(self) == 0
+        ArrayParts::len(self) == 0
     }
 
     fn data_type(&self) -> &DataType {
-        Slotted::data_type(self)
+        ArrayParts::data_type(self)
     }
 
     fn validity(&self) -> Option<&Bitmap> {
-        Slotted::validity(self)
+        ArrayParts::validity(self)
     }
 
     fn is_null(&self, i: usize) -> bool {
-        Slotted::is_null(self, i)
+        ArrayParts::is_null(self, i)
     }
 
     fn is_valid(&self, i: usize) -> bool {
-        !Slotted::is_null(self, i)
+        !ArrayParts::is_null(self, i)
     }
 
     fn null_count(&self) -> usize {
-        Slotted::null_count(self)
+        ArrayParts::null_count(self)
     }
 
     fn slice(&mut self, o: usize, n: usize) {
-        Slotted::slice(self, o, n)
+        ArrayParts::slice(self, o, n)
     }
 
     #[inline(never)]
@@ -187,7 +201,7 @@ impl<A: Variant> Array for A {
     }
 }
 
-impl Slotted for AnyArray {
+impl ArrayParts for AnyArray {
     ghost parts = { layout_of };
 
     fn len(&self) -> usize {
@@ -223,7 +237,7 @@ impl Slotted for AnyArray {
     }
 }
 
-impl Variant for AnyArray {
+impl ArrayVariant for AnyArray {
     fn into_any(self) -> AnyArray {
         self
     }

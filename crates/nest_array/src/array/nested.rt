@@ -1,6 +1,6 @@
-//! The trait of arrays of nulls, of byte strings of one size, and of those that hold arrays.
+//! The array traits of null, fixed-size binary, nested and dictionary arrays.
 use crate::any::AnyArray;
-use crate::array::{Slotted, Variant};
+use crate::array::{ArrayParts, ArrayVariant};
 use crate::dictionary::DictionaryArray;
 use crate::fixed_size_binary::FixedSizeBinaryArray;
 use crate::fixed_size_list::FixedSizeListArray;
@@ -15,7 +15,7 @@ use nest_memory::datatypes::DataType;
 use nest_memory::error::Error;
 use std::alloc::Global;
 
-impl Slotted for NullArray {
+impl ArrayParts for NullArray {
     ghost parts = { λ a. a };
 
     fn len(&self) -> usize {
@@ -47,13 +47,13 @@ impl Slotted for NullArray {
     }
 }
 
-impl Variant for NullArray {
+impl ArrayVariant for NullArray {
     fn into_any(self) -> AnyArray {
         AnyArray::Null(self)
     }
 }
 
-impl Slotted for FixedSizeBinaryArray {
+impl ArrayParts for FixedSizeBinaryArray {
     ghost parts = { λ a. a };
 
     fn len(&self) -> usize {
@@ -85,13 +85,13 @@ impl Slotted for FixedSizeBinaryArray {
     }
 }
 
-impl Variant for FixedSizeBinaryArray {
+impl ArrayVariant for FixedSizeBinaryArray {
     fn into_any(self) -> AnyArray {
         AnyArray::FixedSizeBinary(self)
     }
 }
 
-impl Slotted for FixedSizeListArray {
+impl ArrayParts for FixedSizeListArray {
     ghost parts = { λ a. a };
 
     fn len(&self) -> usize {
@@ -123,13 +123,13 @@ impl Slotted for FixedSizeListArray {
     }
 }
 
-impl Variant for FixedSizeListArray {
+impl ArrayVariant for FixedSizeListArray {
     fn into_any(self) -> AnyArray {
         AnyArray::FixedSizeList(self)
     }
 }
 
-impl Slotted for ListArray {
+impl ArrayParts for ListArray {
     ghost parts = { λ a. a };
 
     fn len(&self) -> usize {
@@ -161,13 +161,13 @@ impl Slotted for ListArray {
     }
 }
 
-impl Variant for ListArray {
+impl ArrayVariant for ListArray {
     fn into_any(self) -> AnyArray {
         AnyArray::List(self)
     }
 }
 
-impl Slotted for LargeListArray {
+impl ArrayParts for LargeListArray {
     ghost parts = { λ a. a };
 
     fn len(&self) -> usize {
@@ -199,13 +199,13 @@ impl Slotted for LargeListArray {
     }
 }
 
-impl Variant for LargeListArray {
+impl ArrayVariant for LargeListArray {
     fn into_any(self) -> AnyArray {
         AnyArray::LargeList(self)
     }
 }
 
-impl Slotted for StructArray {
+impl ArrayParts for StructArray {
     ghost parts = { λ a. a };
 
     fn len(&self) -> usize {
@@ -237,13 +237,13 @@ impl Slotted for StructArray {
     }
 }
 
-impl Variant for StructArray {
+impl ArrayVariant for StructArray {
     fn into_any(self) -> AnyArray {
         AnyArray::Struct(self)
     }
 }
 
-impl Slotted for MapArray {
+impl ArrayParts for MapArray {
     ghost parts = { λ a. a };
 
     fn len(&self) -> usize {
@@ -275,13 +275,13 @@ impl Slotted for MapArray {
     }
 }
 
-impl Variant for MapArray {
+impl ArrayVariant for MapArray {
     fn into_any(self) -> AnyArray {
         AnyArray::Map(self)
     }
 }
 
-impl Slotted for UnionArray {
+impl ArrayParts for UnionArray {
     ghost parts = { λ a. a };
 
     fn len(&self) -> usize {
@@ -313,13 +313,13 @@ impl Slotted for UnionArray {
     }
 }
 
-impl Variant for UnionArray {
+impl ArrayVariant for UnionArray {
     fn into_any(self) -> AnyArray {
         AnyArray::Union(self)
     }
 }
 
-impl Slotted for DictionaryArray {
+impl ArrayParts for DictionaryArray {
     ghost parts = { λ a. a };
 
     fn len(&self) -> usize {
@@ -351,7 +351,7 @@ impl Slotted for DictionaryArray {
     }
 }
 
-impl Variant for DictionaryArray {
+impl ArrayVariant for DictionaryArray {
     fn into_any(self) -> AnyArray {
         AnyArray::Dictionary(self)
     }

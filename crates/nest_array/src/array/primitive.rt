@@ -1,6 +1,6 @@
-//! The traits of arrays of native values: what they tell is said once, and each kind names its variant.
+//! The array traits of primitive arrays; each native type has its own variant.
 use crate::any::AnyArray;
-use crate::array::{Slotted, Variant};
+use crate::array::{ArrayParts, ArrayVariant};
 use nest_flat::any_primitive::AnyPrimitive;
 use nest_flat::primitive::PrimitiveArray;
 use nest_memory::bitmap::immutable::Bitmap;
@@ -9,7 +9,7 @@ use nest_memory::error::Error;
 use nest_memory::types::{NativeType, days_ms, i256, months_days_ns};
 use std::alloc::Global;
 
-impl<T: NativeType> Slotted for PrimitiveArray<T> {
+impl<T: NativeType> ArrayParts for PrimitiveArray<T> {
     ghost parts = { λ a. a };
 
     fn len(&self) -> usize {
@@ -45,73 +45,73 @@ impl<T: NativeType> Slotted for PrimitiveArray<T> {
     }
 }
 
-impl Variant for PrimitiveArray<i8> {
+impl ArrayVariant for PrimitiveArray<i8> {
     fn into_any(self) -> AnyArray {
         AnyArray::Primitive(AnyPrimitive::Int8(self))
     }
 }
 
-impl Variant for PrimitiveArray<i16> {
+impl ArrayVariant for PrimitiveArray<i16> {
     fn into_any(self) -> AnyArray {
         AnyArray::Primitive(AnyPrimitive::Int16(self))
     }
 }
 
-impl Variant for PrimitiveArray<i32> {
+impl ArrayVariant for PrimitiveArray<i32> {
     fn into_any(self) -> AnyArray {
         AnyArray::Primitive(AnyPrimitive::Int32(self))
     }
 }
 
-impl Variant for PrimitiveArray<i64> {
+impl ArrayVariant for PrimitiveArray<i64> {
     fn into_any(self) -> AnyArray {
         AnyArray::Primitive(AnyPrimitive::Int64(self))
     }
 }
 
-impl Variant for PrimitiveArray<i128> {
+impl ArrayVariant for PrimitiveArray<i128> {
     fn into_any(self) -> AnyArray {
         AnyArray::Primitive(AnyPrimitive::Int128(self))
     }
 }
 
-impl Variant for PrimitiveArray<i256> {
+impl ArrayVariant for PrimitiveArray<i256> {
     fn into_any(self) -> AnyArray {
         AnyArray::Primitive(AnyPrimitive::Int256(self))
     }
 }
 
-impl Variant for PrimitiveArray<u8> {
+impl ArrayVariant for PrimitiveArray<u8> {
     fn into_any(self) -> AnyArray {
         AnyArray::Primitive(AnyPrimitive::UInt8(self))
     }
 }
 
-impl Variant for PrimitiveArray<u16> {
+impl ArrayVariant for PrimitiveArray<u16> {
     fn into_any(self) -> AnyArray {
         AnyArray::Primitive(AnyPrimitive::UInt16(self))
     }
 }
 
-impl Variant for PrimitiveArray<u32> {
+impl ArrayVariant for PrimitiveArray<u32> {
     fn into_any(self) -> AnyArray {
         AnyArray::Primitive(AnyPrimitive::UInt32(self))
     }
 }
 
-impl Variant for PrimitiveArray<u64> {
+impl ArrayVariant for PrimitiveArray<u64> {
     fn into_any(self) -> AnyArray {
         AnyArray::Primitive(AnyPrimitive::UInt64(self))
     }
 }
 
-impl Variant for PrimitiveArray<days_ms> {
+impl ArrayVariant for PrimitiveArray<days_ms> {
     fn into_any(self) -> AnyArray {
         AnyArray::Primitive(AnyPrimitive::DaysMs(self))
     }
 }
 
-impl Variant for PrimitiveArray<months_days_ns> {
+impl ArrayVariant for PrimitiveArray<months_days_ns> {
     fn into_any(self) -> AnyArray {
         AnyArray::Primitive(AnyPrimitive::MonthDayNano(self))
     }

@@ -1,46 +1,53 @@
-//! New validities and copies of arrays whose slots are looked up by keys.
+//! New validities and copies of dictionary arrays.
 ghost use Rattle.std.specs.Prelude.{◌≡◌, IfOk, IsOkUnless, MatchResult, alloc_error};
 ghost use Rattle.nest_model.specs.Checks.{Pass};
 ghost use Rattle.nest_model.specs.Fits.{validity_checks};
-ghost use Rattle.nest_array.specs.Words.{Memory, ValidityFault, layout_of, with_validity};
+ghost use Rattle.nest_array.specs.Words.{Memory, ValidityError, layout_of, with_validity};
 
 use crate::any::AnyArray;
 use crate::dictionary::DictionaryArray;
 use nest_flat::validity;
 use nest_memory::bitmap::immutable::Bitmap;
-use nest_memory::error::{Error, Spec};
+use nest_memory::error::{Error, SpecError};
 use std::alloc::Global;
 use std::rc::Rc;
 
 impl DictionaryArray {
-    /// Takes a new validity of its keys. `ValidityLength` where it has not a bit for each slot, then `KeyRange` where a
-    /// key that is valid under it names no value; the array stays as it was then.
+    /// Replaces the validity of the keys. On error the array is unchanged.
+    ///
+    /// # Errors
+    /// The first that applies:
+    /// - `ValidityLength`: the validity has another length;
+    /// - `KeyRange`: a key that is valid under it is not an index of the values.
     pub fn set_validity(&mut self, validity: Option<Bitmap>) -> Result<(), Error>
         ensures { MatchResult result
             (λ _. Pass (validity_checks self.old validity) × (self.new ≡ with_validity self.old validity))
-            (λ e. ValidityFault e self.old validity × (self.new ≡ self.old)) }
+            (λ e. ValidityError e self.old validity × (self.new ≡ self.old)) }
     {
         if !validity::fits(&validity, self.len()) {
-            return Err(Error::OutOfSpec(Spec::ValidityLength));
+            return Err(Error::OutOfSpec(SpecError::ValidityLength));
         }
         if !self
             .keys
             .each_valid_names(&validity, self.shared.values.len())
         {
-            return Err(Error::OutOfSpec(Spec::KeyRange));
+            return Err(Error::OutOfSpec(SpecError::KeyRange));
         }
         self.keys.set_validity(validity);
         Ok(())
     }
 
-    /// The array under a new validity, or as it was beside the refusal.
+    /// Returns the array with another validity of its keys.
+    ///
+    /// # Errors
+    /// The unchanged array and the error of `set_validity`.
     pub fn with_validity(
         self,
         validity: Option<Bitmap>,
     ) -> Result<DictionaryArray, (DictionaryArray, Error)>
         ensures { MatchResult result
             (λ a. Pass (validity_checks self validity) × (a ≡ with_validity self validity))
-            (λ r. ValidityFault r.1 self validity × (r.0 ≡ self)) }
+            (λ r. ValidityError r.1 self validity × (r.0 ≡ self)) }
     {
         let mut array = self;
         match array.set_validity(validity) {
@@ -49,7 +56,10 @@ impl DictionaryArray {
         }
     }
 
-    /// The same array, on shared memory: the data type and the values have one owner more.
+    /// Returns a copy that shares the buffers of the keys, the data type and the values.
+    ///
+    /// # Errors
+    /// `Memory` where an allocation fails.
     pub fn clone(&self, alloc: Global) -> Result<DictionaryArray, Error>
         ensures ok { IfOk result (λ a. a ≡ self.now) }
         ensures err { IsOkUnless result (Memory alloc_error) }
@@ -64,14 +74,17 @@ impl DictionaryArray {
         }
     }
 
-    /// The same array in its variant.
+    /// Returns the array in its variant.
     pub fn boxed(self) -> AnyArray
         ensures { layout_of result ≡ self }
     {
         AnyArray::Dictionary(self)
     }
 
-    /// The same array, owned by what shares it.
+    /// Returns the array in its variant, in an `Rc`.
+    ///
+    /// # Errors
+    /// `Memory` where an allocation fails.
     pub fn arced(self, alloc: Global) -> Result<Rc<AnyArray>, Error>
         ensures ok { IfOk result (λ r. layout_of r.value ≡ self) }
         ensures err { IsOkUnless result (Memory alloc_error) }

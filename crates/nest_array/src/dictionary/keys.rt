@@ -1,16 +1,16 @@
-//! The keys of dictionaries: whole numbers of eight widths.
+//! Keys of dictionary arrays: integers of eight types.
 ghost use Rattle.std.specs.Prelude.{◌≡◌, ◌+◌, ◌<◌, ◌≤◌, ◌↔◌, ℤ, pos, false, IsTrue, IfOk, IsErrOf, IsOkUnless, MatchOption, MatchResult, Option, Some, option_map, alloc_error};
 ghost use Rattle.nest_memory.specs.Rising.{below_zero};
 ghost use Rattle.nest_memory.specs.declared.datatypes.IntegerType.{IntegerType};
 ghost use Rattle.nest_memory.specs.declared.datatypes.IntegerType.TheVariants as integers;
-ghost use Rattle.nest_model.specs.Accessors.{key_at, key_kind, key_type_of, raw_keys, whole};
+ghost use Rattle.nest_model.specs.Accessors.{key_at, key_kind, key_type_of, raw_keys, as_integer};
 ghost use Rattle.nest_model.specs.Array.{AreKeys};
 ghost use Rattle.nest_model.specs.BuilderTree.{key_count};
 ghost use Rattle.nest_model.specs.Fits.{EachNames, EachValidNames, KeysInRange, Names};
 ghost use Rattle.nest_model.specs.Part.{valid_at};
 ghost use Rattle.nest_array.specs.Keys.{index_of, is_unsigned};
 ghost use Rattle.nest_array.specs.SeenKeys.{keys_layout};
-ghost use Rattle.nest_array.specs.Words.{Layout, Memory, ValidityFault, ValidityFits, cut_layout, is_null_at, len, null_count, type_of, validity_of, with_validity, layout_type};
+ghost use Rattle.nest_array.specs.Words.{Layout, Memory, ValidityError, ValidityFits, slice_layout, is_null_at, len, null_count, type_of, validity_of, with_validity, layout_type};
 
 use nest_flat::primitive::PrimitiveArray;
 use nest_flat::validity;
@@ -20,41 +20,41 @@ use nest_memory::error::Error;
 use nest_memory::types::NativeType;
 use std::alloc::Global;
 
-/// A whole number that is a key of a dictionary.
+/// An integer type of dictionary keys.
 pub trait DictionaryKey: NativeType {
-    /// `PrimitiveArray<Self>`.
+    /// The array of the keys, `PrimitiveArray<Self>`.
     type Array;
 
     ghost layout_of_array: { Self.Array → Layout };
 
     ghost KEY_TYPE: { IntegerType };
 
-    /// The type of such keys.
+    /// The key type in data types.
     const KEY_TYPE: IntegerType;
 
-    /// Whether no such key is negative.
+    /// Returns whether the type is unsigned, so that every key is an index.
     fn always_fits_usize() -> bool
         ensures unsigned { result ≡ is_unsigned KEY_TYPE }
-        ensures fits { IsTrue result → (k : Self) → below_zero (whole (Self.numbers k)) ≡ false };
+        ensures fits { IsTrue result → (k : Self) → below_zero (as_integer (Self.numbers k)) ≡ false };
 
-    /// The place that the key names.
+    /// Returns the key as an index.
     fn as_usize(self) -> usize
-        requires { below_zero (whole (Self.numbers self)) ≡ false }
-        ensures { pos result ≡ whole (Self.numbers self) };
+        requires { below_zero (as_integer (Self.numbers self)) ≡ false }
+        ensures { pos result ≡ as_integer (Self.numbers self) };
 
-    /// The place that the key names, `None` where it is negative.
+    /// Returns the key as an index, `None` if it is negative.
     fn to_index(self) -> Option<usize>
-        ensures { result ≡ index_of (whole (Self.numbers self)) };
+        ensures { result ≡ index_of (as_integer (Self.numbers self)) };
 
-    /// The key that names a place, `None` where the place is past the keys of this type.
+    /// Returns the key of an index, `None` if this type has no such key.
     fn from_index(index: usize) -> Option<Self>
-        ensures { MatchOption result (key_count KEY_TYPE ≤ index) (λ k. (whole (Self.numbers k) ≡ pos index) × (index < key_count KEY_TYPE)) };
+        ensures { MatchOption result (key_count KEY_TYPE ≤ index) (λ k. (as_integer (Self.numbers k) ≡ pos index) × (index < key_count KEY_TYPE)) };
 
-    /// These keys in the variant of their width.
+    /// Returns an array of keys in its variant.
     fn wrap(keys: Self::Array) -> AnyKeys
         ensures { keys_layout result ≡ layout_of_array keys };
 
-    // Arrays of such native values are keys of that type.
+    // `KEY_TYPE` is the key type of arrays of this native type.
     ghost kind: { key_kind Self.NativeType.PRIMITIVE ≡ Some KEY_TYPE };
 }
 
@@ -350,7 +350,7 @@ impl DictionaryKey for u64 {
     }
 }
 
-/// The keys of a dictionary, in the variant of their width.
+/// An array of dictionary keys, in the variant of their type.
 #[derive(Drop)]
 pub enum AnyKeys {
     Int8(PrimitiveArray<i8>),
@@ -363,7 +363,7 @@ pub enum AnyKeys {
     UInt64(PrimitiveArray<u64>),
 }
 
-// What is the same for each width.
+// Evaluates the same expression for the keys of any variant.
 macro_rules! each_width {
     ($any:expr, $keys:ident => $body:expr) => {
         match $any {
@@ -380,49 +380,49 @@ macro_rules! each_width {
 }
 
 impl AnyKeys {
-    /// What holds of all keys: they are an array of whole numbers of a key type.
+    /// Shows the prover that the keys are an array of a key type. Does nothing at run time.
     pub fn known(&self)
         ensures { AreKeys (keys_layout self.now) }
     {
         each_width!(self, keys => known(keys))
     }
 
-    /// How many keys there are.
+    /// Returns the number of keys.
     pub fn len(&self) -> usize
         ensures { result ≡ len (keys_layout self.now) }
     {
         each_width!(self, keys => keys.len())
     }
 
-    /// Whether there is no key.
+    /// Returns whether there are no keys.
     pub fn is_empty(&self) -> bool
         ensures { IsTrue result ↔ (len (keys_layout self.now) ≡ 0) }
     {
         self.len() == 0
     }
 
-    /// The type that a dictionary's type names for such keys.
+    /// Returns the key type.
     pub fn key_type(&self) -> IntegerType
         ensures { key_type_of (keys_layout self.now) ≡ Some result }
     {
         each_width!(self, keys => key_type(keys))
     }
 
-    /// Their own data type, as an array.
+    /// Returns the data type of the keys as an array.
     pub fn data_type(&self) -> &DataType
         ensures { type_of result.now ≡ layout_type (keys_layout self.now) }
     {
         each_width!(self, keys => keys.data_type())
     }
 
-    /// Which keys are valid, a bit a key; without it all are.
+    /// Returns the validity bitmap, one bit per key; `None` if no key is null.
     pub fn validity(&self) -> Option<&Bitmap>
         ensures { option_map (λ b. b.now) result ≡ validity_of (keys_layout self.now) }
     {
         each_width!(self, keys => keys.validity())
     }
 
-    /// Whether key i is null.
+    /// Returns whether key `i` is null.
     pub fn is_null(&self, i: usize) -> bool
         requires { i < len (keys_layout self.now) }
         ensures { result ≡ is_null_at (keys_layout self.now) i }
@@ -430,14 +430,14 @@ impl AnyKeys {
         each_width!(self, keys => keys.is_null(i))
     }
 
-    /// How many keys are null.
+    /// Returns the number of null keys.
     pub fn null_count(&self) -> usize
         ensures { result ≡ null_count (keys_layout self.now) }
     {
         each_width!(self, keys => keys.null_count())
     }
 
-    /// The place that raw key i names, also under a null; `None` where it is negative.
+    /// Returns raw key `i`, null or not, as an index; `None` if it is negative.
     pub fn index(&self, i: usize) -> Option<usize>
         requires { i < len (keys_layout self.now) }
         ensures { result ≡ index_of (key_at (keys_layout self.now) i) }
@@ -445,21 +445,21 @@ impl AnyKeys {
         each_width!(self, keys => index(keys, i))
     }
 
-    /// Whether each raw key names one of n places, also under a null.
+    /// Returns whether each raw key, null or not, is an index less than `n`.
     pub(crate) fn each_names(&self, n: usize) -> bool
         ensures { IsTrue result ↔ EachNames (raw_keys (keys_layout self.now)) n }
     {
         each_width!(self, keys => each_names(keys, n))
     }
 
-    /// Whether each raw key names one of n places, or all keys are null.
+    /// Returns whether each raw key is an index less than `n`, or all keys are null.
     pub(crate) fn are_in_range(&self, n: usize) -> bool
         ensures { IsTrue result ↔ KeysInRange (keys_layout self.now) n }
     {
         each_width!(self, keys => are_in_range(keys, n))
     }
 
-    /// Whether each key that is valid under this validity names one of n places.
+    /// Returns whether each key that is valid under a validity is an index less than `n`.
     pub(crate) fn each_valid_names(&self, validity: &Option<Bitmap>, n: usize) -> bool
         requires { ValidityFits validity.now (len (keys_layout self.now)) }
         ensures { IsTrue result ↔ EachValidNames validity.now (keys_layout self.now) n }
@@ -469,7 +469,7 @@ impl AnyKeys {
 
     pub(crate) fn slice(&mut self, o: usize, n: usize)
         requires { o + n ≤ len (keys_layout self.old) }
-        ensures { keys_layout self.new ≡ cut_layout (keys_layout self.old) o n }
+        ensures { keys_layout self.new ≡ slice_layout (keys_layout self.old) o n }
     {
         each_width!(self, keys => keys.slice(o, n))
     }
@@ -498,7 +498,7 @@ impl AnyKeys {
     }
 }
 
-// Keys in the variant of their width, or the refusal of them.
+// Returns the keys in their variant, or the error.
 pub(super) fn wrapped<K: DictionaryKey>(keys: Result<K::Array, Error>) -> Result<AnyKeys, Error>
     ensures { MatchResult keys
         (λ a. MatchResult result (λ b. keys_layout b ≡ K.layout_of_array a) (λ _. ⊥))
@@ -530,7 +530,7 @@ fn index<K: DictionaryKey>(keys: &PrimitiveArray<K>, i: usize) -> Option<usize>
     keys.value(i).to_index()
 }
 
-/// Whether raw key i names one of n places.
+/// Returns whether raw key `i` is an index less than `n`.
 fn names<K: DictionaryKey>(keys: &PrimitiveArray<K>, i: usize, n: usize) -> bool
     requires { i < len keys.now }
     ensures { IsTrue result ↔ Names (key_at keys.now i) n }

@@ -1,4 +1,4 @@
-//! Arrays whose slots are looked up by keys.
+//! Dictionary-encoded arrays.
 mod copies;
 pub mod keys;
 mod nulls;
@@ -9,13 +9,13 @@ ghost use Rattle.nest_memory.specs.TypeTree.{is_ordered};
 ghost use Rattle.nest_model.specs.Accessors.{key_at, key_type_of, keys_of, raw_keys};
 ghost use Rattle.nest_model.specs.Fits.{EachNames, Names};
 ghost use Rattle.nest_model.specs.Layout as layouts;
-ghost use Rattle.nest_model.specs.Part.{place};
+ghost use Rattle.nest_model.specs.Part.{to_index};
 ghost use Rattle.nest_model.specs.Slot as slots;
 ghost use Rattle.nest_array.specs.Keys.{keyed_by};
 ghost use Rattle.nest_array.specs.ScalarParts.{scalar_parts};
 ghost use Rattle.nest_array.specs.SeenKeys.{keys_layout};
-ghost use Rattle.nest_array.specs.Types.{default_dictionary_type};
-ghost use Rattle.nest_array.specs.Words.{FirstFault, Fits, IsCut, Keeps, Memory, RefusesOrMemory, TopFits, child_of, cut_layout, has_keys, is_null_at, layout_of, layout_type, len, null_count, slot, type_of, validity_of, where_valid};
+ghost use Rattle.nest_array.specs.Types.{default_dictionary_type, default_dictionary};
+ghost use Rattle.nest_array.specs.Words.{FirstError, Fits, IsSlice, Keeps, Memory, RefusesOrMemory, TopFits, child_of, slice_layout, has_keys, is_null_at, layout_of, layout_type, len, null_count, slot, type_of, validity_of, where_valid};
 
 use crate::any::AnyArray;
 use crate::scalar::{AnyScalar, new_scalar};
@@ -23,14 +23,14 @@ use crate::types::{has_key_type, has_values, is_dictionary};
 use keys::AnyKeys;
 use nest_memory::bitmap::immutable::Bitmap;
 use nest_memory::datatypes::DataType;
-use nest_memory::error::{Error, Spec};
+use nest_memory::error::{Error, SpecError};
 use std::alloc::Global;
 use std::marker::Model;
 use std::rc::Rc;
 
-/// Values that are looked up by keys: the Dictionary-encoded Layout of the Arrow format.
+/// Dictionary-encoded Layout: an array of keys, which are indices of an array of values.
 ///
-/// A slot is null where its key is null, else it is the value that the key names, which may be null itself.
+/// A slot is null if its key is null. Otherwise it is the value at its key, which may itself be null.
 #[cycle(array)]
 #[derive(Drop)]
 pub struct DictionaryArray {
@@ -38,7 +38,7 @@ pub struct DictionaryArray {
     shared: Rc<TypedValues>,
 }
 
-// What no cut and no new validity changes, so that all copies share it.
+// The parts that slices and new validities leave unchanged, which all copies share.
 #[cycle(array)]
 #[derive(Drop)]
 struct TypedValues {
@@ -70,12 +70,17 @@ impl Model for DictionaryArray {
 }
 
 impl DictionaryArray {
-    /// The array of these parts. Raw keys are looked at under nulls too, but where all keys are null none is.
+    /// Returns the array of these parts.
+    ///
+    /// Raw keys are checked even where they are null, unless all keys are null.
     ///
     /// # Errors
-    /// `WrongType` where the logical type isn't `Dictionary`, `KeyType` where it names another type of keys,
-    /// `ChildType` where the values have another logical type than its value type, `KeyRange` where a key is negative
-    /// or past the values: the first of these. Then `Memory`, for what copies share: the data type and the values.
+    /// The first that applies:
+    /// - `WrongType`: the logical type is not `Dictionary`;
+    /// - `KeyType`: the keys are not of its key type;
+    /// - `ChildType`: the values have another logical type than its value type;
+    /// - `KeyRange`: a key is not an index of the values;
+    /// - `Memory`: an allocation for the data type and values fails.
     pub fn try_new(
         alloc: Global,
         data_type: DataType,
@@ -85,7 +90,7 @@ impl DictionaryArray {
         ensures { let parts = layouts.dictionary (type_of data_type) (keys_layout keys) (layout_of values) in
             MatchResult result (λ a. Fits parts × (a ≡ parts)) (λ e. RefusesOrMemory e parts) }
     {
-        if let Some(error) = fault(&data_type, &keys, &values) {
+        if let Some(error) = first_error(&data_type, &keys, &values) {
             drop(values);
             drop(keys);
             drop(data_type);
@@ -94,24 +99,23 @@ impl DictionaryArray {
         DictionaryArray::of(alloc, data_type, keys, values)
     }
 
-    /// The array of these keys and values, under the type of both: its values are in no order.
+    /// Returns the array of these keys and values, of their dictionary type without order.
     ///
     /// # Errors
-    /// `KeyRange` as in `try_new`, then `Memory`.
+    /// `KeyRange` as in `try_new`, then `Memory` where an allocation fails.
     pub fn try_from_keys(
         alloc: Global,
         keys: AnyKeys,
         values: AnyArray,
     ) -> Result<DictionaryArray, Error>
-        ensures { let data_type = default_dictionary_type (keyed_by (key_type_of (keys_layout keys))) (layout_type (layout_of values)) in
-            let parts = layouts.dictionary data_type (keys_layout keys) (layout_of values) in
+        ensures { let parts = default_dictionary (keys_layout keys) (layout_of values) in
             MatchResult result (λ a. Fits parts × (a ≡ parts)) (λ e. RefusesOrMemory e parts) }
     {
         keys.known();
         if !keys.are_in_range(values.len()) {
             drop(values);
             drop(keys);
-            return Err(Error::OutOfSpec(Spec::KeyRange));
+            return Err(Error::OutOfSpec(SpecError::KeyRange));
         }
         match default_type(alloc, &keys, &values) {
             Ok(data_type) => DictionaryArray::of(alloc, data_type, keys, values),
@@ -123,7 +127,10 @@ impl DictionaryArray {
         }
     }
 
-    /// The array of parts that fit. `Memory` alone is refused.
+    /// Returns the array of these parts, which must pass the checks of `try_new`.
+    ///
+    /// # Errors
+    /// `Memory` where an allocation fails.
     pub fn new(
         alloc: Global,
         data_type: DataType,
@@ -137,7 +144,7 @@ impl DictionaryArray {
         DictionaryArray::of(alloc, data_type, keys, values)
     }
 
-    // The array of parts that were checked.
+    // Returns the array of checked parts.
     fn of(
         alloc: Global,
         data_type: DataType,
@@ -158,7 +165,7 @@ impl DictionaryArray {
         }
     }
 
-    /// What holds of every such array.
+    /// Shows the prover the invariant of the array. Does nothing at run time.
     pub fn known(&self)
         ensures fits { TopFits self.now }
         ensures kind { self.now ≡ layouts.dictionary (layout_type self.now) (keys_of self.now) (child_of self.now) }
@@ -166,49 +173,49 @@ impl DictionaryArray {
         let _ = &self.shared;
     }
 
-    /// How many slots it has.
+    /// Returns the number of slots.
     pub fn len(&self) -> usize
         ensures { result ≡ len self.now }
     {
         self.keys.len()
     }
 
-    /// Its data type.
+    /// Returns the data type.
     pub fn data_type(&self) -> &DataType
         ensures { type_of result.now ≡ layout_type self.now }
     {
         &self.shared.data_type
     }
 
-    /// Whether its type says that the values are ordered.
+    /// Returns whether the data type declares the values ordered.
     pub fn is_ordered(&self) -> bool
         ensures { result ≡ is_ordered (layout_type self.now) }
     {
         self.shared.data_type.is_ordered()
     }
 
-    /// Its keys, one for each slot.
+    /// Returns the keys, one per slot.
     pub fn keys(&self) -> &AnyKeys
         ensures { keys_layout result.now ≡ keys_of self.now }
     {
         &self.keys
     }
 
-    /// The values that keys name.
+    /// Returns the values that the keys index.
     pub fn values(&self) -> &AnyArray
         ensures { layout_of result.now ≡ child_of self.now }
     {
         &self.shared.values
     }
 
-    /// Which keys are valid, a bit a key; without it all are.
+    /// Returns the validity bitmap of the keys, one bit per key; `None` if no key is null.
     pub fn validity(&self) -> Option<&Bitmap>
         ensures { option_map (λ b. b.now) result ≡ validity_of self.now }
     {
         self.keys.validity()
     }
 
-    /// Whether key i is null. Slot i is null then; it is null too where the value that a valid key names is.
+    /// Returns whether key `i` is null. Slot `i` is also null if a valid key indexes a null value.
     pub fn is_null(&self, i: usize) -> bool
         requires { i < len self.now }
         ensures place { result ≡ is_null_at self.now i }
@@ -218,14 +225,14 @@ impl DictionaryArray {
         self.keys.is_null(i)
     }
 
-    /// How many keys are null.
+    /// Returns the number of null keys.
     pub fn null_count(&self) -> usize
         ensures { result ≡ null_count self.now }
     {
         self.keys.null_count()
     }
 
-    /// Whether raw key i names a value. Under a null it needn't.
+    /// Returns whether raw key `i` is an index of the values. A null key need not be.
     pub fn in_range(&self, i: usize) -> bool
         requires { i < len self.now }
         ensures names { IsTrue result ↔ Names (key_at (keys_of self.now) i) (len (child_of self.now)) }
@@ -237,14 +244,14 @@ impl DictionaryArray {
         }
     }
 
-    /// Whether each raw key names a value, also under a null.
+    /// Returns whether each raw key, null or not, is an index of the values.
     pub fn all_in_range(&self) -> bool
         ensures { IsTrue result ↔ EachNames (raw_keys (keys_of self.now)) (len (child_of self.now)) }
     {
         self.keys.each_names(self.shared.values.len())
     }
 
-    /// Raw key i, the place of the value that slot i is, unless it is null.
+    /// Returns raw key `i`: the index of the value of slot `i`, unless the key is null.
     pub fn key_value(&self, i: usize) -> usize
         requires within { i < len self.now }
         requires not_negative { below_zero (key_at (keys_of self.now) i) ≡ false }
@@ -255,11 +262,14 @@ impl DictionaryArray {
         self.place(i)
     }
 
-    /// The value that raw key i names, also under a null, by itself: under the values' data type. `Memory` alone is refused.
+    /// Returns the value at raw key `i`, null or not, as a scalar of the values' data type.
+    ///
+    /// # Errors
+    /// `Memory` where an allocation fails.
     pub fn value(&self, alloc: Global, i: usize) -> Result<AnyScalar, Error>
         requires within { i < len self.now }
         requires in_range { Names (key_at (keys_of self.now) i) (len (child_of self.now)) }
-        ensures ok { IfOk result (λ s. s ≡ scalar_parts (layout_type (child_of self.now)) (slot (child_of self.now) (place (key_at (keys_of self.now) i)))) }
+        ensures ok { IfOk result (λ s. s ≡ scalar_parts (layout_type (child_of self.now)) (slot (child_of self.now) (to_index (key_at (keys_of self.now) i)))) }
         ensures slot { IfOk result (λ s. slot self.now i ≡ where_valid (validity_of self.now) i s.slot) }
         ensures err { IsOkUnless result (Memory alloc_error) }
     {
@@ -267,33 +277,33 @@ impl DictionaryArray {
         new_scalar(alloc, self.values(), self.place(i))
     }
 
-    /// The place among the values that raw key i names, 0 where it is negative.
+    /// Returns raw key `i` as an index of the values, 0 if it is negative.
     pub(crate) fn place(&self, i: usize) -> usize
         requires { i < len self.now }
-        ensures { result ≡ place (key_at (keys_of self.now) i) }
+        ensures { result ≡ to_index (key_at (keys_of self.now) i) }
     {
         self.keys.index(i).unwrap_or(0)
     }
 
-    /// Keeps the n slots from place o. The values stay whole.
+    /// Slices the array in place to the `n` slots from index `o`. The values are not sliced.
     pub fn slice(&mut self, o: usize, n: usize)
         requires { o + n ≤ len self.old }
-        ensures { IsCut self.old o n self.new }
+        ensures { IsSlice self.old o n self.new }
     {
         self.cut(o, n);
     }
 
     fn cut(&mut self, o: usize, n: usize)
         requires { o + n ≤ len self.old }
-        ensures { self.new ≡ cut_layout self.old o n }
+        ensures { self.new ≡ slice_layout self.old o n }
     {
         self.keys.slice(o, n);
     }
 
-    /// The n slots from place o.
+    /// Returns the slice of `n` slots from index `o`.
     pub fn sliced(self, o: usize, n: usize) -> DictionaryArray
         requires { o + n ≤ len self }
-        ensures { IsCut self o n result }
+        ensures { IsSlice self o n result }
     {
         let mut cut = self;
         cut.slice(o, n);
@@ -301,27 +311,27 @@ impl DictionaryArray {
     }
 }
 
-/// The first check of an array's parts that fails.
-fn fault(data_type: &DataType, keys: &AnyKeys, values: &AnyArray) -> Option<Error>
+/// Returns the error of the first check that fails, `None` if the parts fit.
+fn first_error(data_type: &DataType, keys: &AnyKeys, values: &AnyArray) -> Option<Error>
     ensures { let parts = layouts.dictionary (type_of data_type.now) (keys_layout keys.now) (layout_of values.now) in
-        MatchOption result (Fits parts) (λ e. FirstFault e parts) }
+        MatchOption result (Fits parts) (λ e. FirstError e parts) }
 {
     if !is_dictionary(data_type) {
-        return Some(Error::OutOfSpec(Spec::WrongType));
+        return Some(Error::OutOfSpec(SpecError::WrongType));
     }
     if !has_key_type(data_type, keys.key_type()) {
-        return Some(Error::OutOfSpec(Spec::KeyType));
+        return Some(Error::OutOfSpec(SpecError::KeyType));
     }
     if !has_values(data_type, values.data_type()) {
-        return Some(Error::OutOfSpec(Spec::ChildType));
+        return Some(Error::OutOfSpec(SpecError::ChildType));
     }
     if !keys.are_in_range(values.len()) {
-        return Some(Error::OutOfSpec(Spec::KeyRange));
+        return Some(Error::OutOfSpec(SpecError::KeyRange));
     }
     None
 }
 
-/// The type of dictionaries of these keys and values.
+/// Returns the dictionary type of these keys and values, without order.
 fn default_type(alloc: Global, keys: &AnyKeys, values: &AnyArray) -> Result<DataType, Error>
     ensures ok { IfOk result (λ t. type_of t ≡ default_dictionary_type (keyed_by (key_type_of (keys_layout keys.now))) (layout_type (layout_of values.now))) }
     ensures err { IsOkUnless result (Memory alloc_error) }

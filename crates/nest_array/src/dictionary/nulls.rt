@@ -1,17 +1,17 @@
-//! Arrays of dictionaries whose keys are null, and such arrays without a slot.
+//! Dictionary arrays of null keys, and empty ones.
 ghost use Rattle.std.specs.Prelude.{◌≡◌, IfOk, IsOkUnless, MatchResult, None, Some, alloc_error, true};
 ghost use Rattle.nest_memory.specs.TypeTree.{key_type};
 ghost use Rattle.nest_memory.specs.declared.datatypes.IntegerType.{IntegerType};
 ghost use Rattle.nest_model.specs.Fits.{is_dictionary};
 ghost use Rattle.nest_model.specs.NullLayout.{native_nulls, native_of_key, null_array as nulls_of, type_of_key};
-ghost use Rattle.nest_model.specs.Nulls.{Fills, empty_fault, fault_of, type_fault};
+ghost use Rattle.nest_model.specs.Nulls.{Fills, empty_error, error_of, type_error};
 ghost use Rattle.nest_array.specs.Keys.{RefusesDictionary};
 ghost use Rattle.nest_array.specs.SeenKeys.{keys_layout};
 ghost use Rattle.nest_array.specs.Words.{HasNone, HasNulls, Memory, type_of};
 
 use crate::dictionary::DictionaryArray;
 use crate::dictionary::keys::{AnyKeys, wrapped};
-use crate::nulls::{dictionary_fault, null_array, values_below};
+use crate::nulls::{dictionary_error, null_array, values_below};
 use crate::types::value_type;
 use nest_flat::primitive::PrimitiveArray;
 use nest_memory::datatypes::{DataType, IntegerType};
@@ -20,7 +20,7 @@ use nest_model::fill::Fill;
 use std::alloc::Global;
 
 impl AnyKeys {
-    /// `length` null keys of this type: of nulls none is valid, of nothing there is no validity.
+    /// Returns `length` keys of this type: null keys for `Fill::Nulls`, keys without a validity for `Fill::Nothing`.
     pub(crate) fn nulls(
         alloc: Global,
         key: IntegerType,
@@ -52,30 +52,30 @@ impl AnyKeys {
 }
 
 impl DictionaryArray {
-    /// The array without a slot and without a value.
+    /// Returns the array without slots and values.
     ///
     /// # Errors
-    /// `WrongType` where the logical type isn't `Dictionary`, then as `new_empty_array`.
+    /// `WrongType` where the logical type is not `Dictionary`, then those of `new_empty_array`.
     pub fn new_empty(alloc: Global, data_type: DataType) -> Result<DictionaryArray, Error>
         ensures { let t = type_of data_type in MatchResult result
-            (λ a. (is_dictionary t ≡ true) × (empty_fault t ≡ None) × HasNone t a)
-            (λ e. RefusesDictionary e t (empty_fault t)) }
+            (λ a. (is_dictionary t ≡ true) × (empty_error t ≡ None) × HasNone t a)
+            (λ e. RefusesDictionary e t (empty_error t)) }
     {
         DictionaryArray::checked(alloc, data_type, 0, Fill::Nothing)
     }
 
-    /// The array of `length` null keys over one null value.
+    /// Returns the array of `length` null keys over one null value.
     ///
     /// # Errors
-    /// `WrongType` where the logical type isn't `Dictionary`, then as `new_null_array`.
+    /// `WrongType` where the logical type is not `Dictionary`, then those of `new_null_array`.
     pub fn new_null(
         alloc: Global,
         data_type: DataType,
         length: usize,
     ) -> Result<DictionaryArray, Error>
         ensures { let t = type_of data_type in MatchResult result
-            (λ a. (is_dictionary t ≡ true) × (type_fault t length ≡ None) × HasNulls t length a)
-            (λ e. RefusesDictionary e t (type_fault t length)) }
+            (λ a. (is_dictionary t ≡ true) × (type_error t length ≡ None) × HasNulls t length a)
+            (λ e. RefusesDictionary e t (type_error t length)) }
     {
         DictionaryArray::checked(alloc, data_type, length, Fill::Nulls)
     }
@@ -88,10 +88,10 @@ impl DictionaryArray {
     ) -> Result<DictionaryArray, Error>
         requires { Fills fill length }
         ensures { let t = type_of data_type in MatchResult result
-            (λ a. (is_dictionary t ≡ true) × (fault_of t length fill ≡ None) × (a ≡ nulls_of t length fill))
-            (λ e. RefusesDictionary e t (fault_of t length fill)) }
+            (λ a. (is_dictionary t ≡ true) × (error_of t length fill ≡ None) × (a ≡ nulls_of t length fill))
+            (λ e. RefusesDictionary e t (error_of t length fill)) }
     {
-        let array = match dictionary_fault(&data_type, length, fill) {
+        let array = match dictionary_error(&data_type, length, fill) {
             Some(error) => Err(error),
             None => DictionaryArray::nulls(alloc, &data_type, length, fill),
         };
@@ -99,7 +99,7 @@ impl DictionaryArray {
         array
     }
 
-    /// `length` nulls of a type that was looked at.
+    /// Returns the array of `length` null keys, of a checked type.
     #[cycle(nulls)]
     pub(crate) fn nulls(
         alloc: Global,
@@ -108,7 +108,7 @@ impl DictionaryArray {
         fill: Fill,
     ) -> Result<DictionaryArray, Error>
         requires kind { is_dictionary (type_of data_type.now) ≡ true }
-        requires unrefused { fault_of (type_of data_type.now) length fill ≡ None }
+        requires unrefused { error_of (type_of data_type.now) length fill ≡ None }
         requires valid { Fills fill length }
         ensures ok { IfOk result (λ a. a ≡ nulls_of (type_of data_type.now) length fill) }
         ensures err { IsOkUnless result (Memory alloc_error) }

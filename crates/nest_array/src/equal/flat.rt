@@ -1,8 +1,8 @@
-//! Equality of runs of slots without children, counted.
+//! Equality of slices of arrays without children, with a count of comparisons.
 ghost use Rattle.std.specs.Prelude.{◌≡◌, ◌≢◌, ◌↔◌, ◌+◌, ◌<◌, ◌≤◌, IfNone, IfSome, IsTrue};
 ghost use Rattle.nest_flat.specs.AnyPrimitive.{primitive_layout};
 ghost use Rattle.nest_flat.specs.BareSlots.{bare};
-ghost use Rattle.nest_array.specs.Words.{Tells, layout_type, len, physical_type, run, slot};
+ghost use Rattle.nest_array.specs.Words.{CountsComparisons, layout_type, len, physical_type, run, slot};
 
 use crate::equal::is_full;
 use crate::steps::Steps;
@@ -11,7 +11,7 @@ use nest_flat::flat_array::FlatArray;
 use nest_flat::primitive::PrimitiveArray;
 use nest_memory::types::{NativeType, days_ms, i256, months_days_ns};
 
-/// Whether the n slots of a from place o are those of b from place p, one after another.
+/// Returns whether the `n` slots of `a` from index `o` equal those of `b` from index `p`, one by one.
 pub(crate) fn each_same_slot<A: FlatArray>(
     a: A,
     o: usize,
@@ -23,20 +23,22 @@ pub(crate) fn each_same_slot<A: FlatArray>(
     requires within { o + n ≤ len (A.layout a) }
     requires other_within { p + n ≤ len (A.layout b) }
     ensures same { IsTrue result ↔ (run (slot (A.layout a)) o n ≡ run (slot (A.layout b)) p n) }
-    ensures told { Tells result steps.old steps.new n }
+    ensures comparisons { CountsComparisons result steps.old steps.new n }
 {
     let _ends = (a.count(), b.count());
     for k in 0..n {
         if !a.is_same_slot(o + k, &b, p + k) {
-            steps.tell(k as u64 + 1);
+            steps.add(k as u64 + 1);
             return false;
         }
     }
-    steps.tell(n as u64);
+    steps.add(n as u64);
     true
 }
 
-/// How many of the n raw values of a from place o are those of b from place p, by whole blocks of B; none where a block differs.
+/// Compares `n` raw values of `a` from index `o` with those of `b` from index `p`, by complete blocks of `B` values.
+///
+/// Returns the number of values in these blocks, `None` if a block differs.
 fn same_blocks<A: FlatArray, const B: usize>(
     a: A,
     o: usize,
@@ -50,14 +52,14 @@ fn same_blocks<A: FlatArray, const B: usize>(
     requires other_within { p + n ≤ len (A.layout b) }
     ensures whole { IfSome result (λ m. (m ≤ n) × (n < m + B)) }
     ensures same { IfSome result (λ m. run (slot (bare (A.layout a))) o m ≡ run (slot (bare (A.layout b))) p m) }
-    ensures told { IfSome result (λ m. steps.new ≡ steps.old + m) }
+    ensures comparisons { IfSome result (λ m. steps.new ≡ steps.old + m) }
     ensures differ { IfNone result (run (slot (bare (A.layout a))) o n ≢ run (slot (bare (A.layout b))) p n) }
     ensures stopped { IfNone result (steps.new ≤ steps.old + n) }
 {
     let _ends = (a.count(), b.count());
     let mut done = 0;
     while n - done >= B {
-        steps.tell(B as u64);
+        steps.add(B as u64);
         if !a.same_values(o + done, &b, p + done, B) {
             return None;
         }
@@ -66,12 +68,14 @@ fn same_blocks<A: FlatArray, const B: usize>(
     Some(done)
 }
 
-/// Whether the n raw values of a from place o are those of b from place p: in large blocks, the rest in small ones, and one by one.
+/// Returns whether the `n` raw values of `a` from index `o` equal those of `b` from index `p`.
+///
+/// Compares large blocks, then small blocks, then single values.
 fn same_bare<A: FlatArray>(a: A, o: usize, b: A, p: usize, n: usize, steps: &mut Steps) -> bool
     requires within { o + n ≤ len (A.layout a) }
     requires other_within { p + n ≤ len (A.layout b) }
     ensures same { IsTrue result ↔ (run (slot (bare (A.layout a))) o n ≡ run (slot (bare (A.layout b))) p n) }
-    ensures told { Tells result steps.old steps.new n }
+    ensures comparisons { CountsComparisons result steps.old steps.new n }
 {
     let _ends = (a.count(), b.count());
     let Some(large) = same_blocks::<A, 1024>(a, o, b, p, n, steps) else {
@@ -84,7 +88,9 @@ fn same_bare<A: FlatArray>(a: A, o: usize, b: A, p: usize, n: usize, steps: &mut
     same_blocks::<A, 1>(a, o + done, b, p + done, n - done, steps).is_some()
 }
 
-/// Whether the n slots of a from place o are those of b from place p: by blocks of raw values where none is null.
+/// Returns whether the `n` slots of `a` from index `o` equal those of `b` from index `p`.
+///
+/// Without nulls it compares blocks of raw values.
 fn same_natives<T: NativeType>(
     a: &PrimitiveArray<T>,
     o: usize,
@@ -96,7 +102,7 @@ fn same_natives<T: NativeType>(
     requires within { o + n ≤ len a.now }
     requires other_within { p + n ≤ len b.now }
     ensures same { IsTrue result ↔ (run (slot a.now) o n ≡ run (slot b.now) p n) }
-    ensures told { Tells result steps.old steps.new n }
+    ensures comparisons { CountsComparisons result steps.old steps.new n }
 {
     if is_full(a, o, n) && is_full(b, p, n) {
         return same_bare(a, o, b, p, n, steps);
@@ -104,7 +110,7 @@ fn same_natives<T: NativeType>(
     each_same_slot(a, o, b, p, n, steps)
 }
 
-// What is the same for two arrays of each kind.
+// Evaluates the same expression for two arrays of any native type.
 macro_rules! each_pair {
     ($a:expr, $b:expr, ($x:ident, $y:ident) => $body:expr) => {
         match $a {
@@ -160,8 +166,9 @@ macro_rules! each_pair {
     };
 }
 
-/// Whether the n slots of a from place o are those of b from place p, for arrays of one physical type. The kind is
-/// matched once.
+/// Returns whether the `n` slots of `a` from index `o` equal those of `b` from index `p`, for one physical type.
+///
+/// The native type is matched once.
 pub(crate) fn same_primitives(
     a: &AnyPrimitive,
     o: usize,
@@ -174,7 +181,7 @@ pub(crate) fn same_primitives(
     requires within { o + n ≤ len (primitive_layout a.now) }
     requires other_within { p + n ≤ len (primitive_layout b.now) }
     ensures same { IsTrue result ↔ (run (slot (primitive_layout a.now)) o n ≡ run (slot (primitive_layout b.now)) p n) }
-    ensures told { Tells result steps.old steps.new n }
+    ensures comparisons { CountsComparisons result steps.old steps.new n }
 {
     a.known();
     each_pair!(a, b, (x, y) => same_natives(x, o, y, p, n, steps))

@@ -1,14 +1,14 @@
-//! Equality of runs of slots that are looked up by keys: keys are followed before anything is compared, which costs no step.
+//! Equality of slices of dictionary arrays, by their values. Looking up a key counts no comparison.
 ghost use Rattle.std.specs.Prelude.{◌≡◌, ◌↔◌, ◌+◌, ◌≤◌, ◌<◌, IsTrue};
 ghost use Rattle.nest_model.specs.Slot as slots;
-ghost use Rattle.nest_array.specs.Words.{Alike, Tells, layout_of, len, node_count, node_counts, run, slot};
+ghost use Rattle.nest_array.specs.Words.{Alike, CountsComparisons, layout_of, len, node_count, node_counts, run, slot};
 
 use crate::any::AnyArray;
 use crate::dictionary::DictionaryArray;
 use crate::equal::same_run;
 use crate::steps::Steps;
 
-/// Whether the n slots of x from place o are those of y from place p, one after another.
+/// Returns whether the `n` slots of `x` from index `o` equal those of `y` from index `p`, one by one.
 #[cycle(equal)]
 pub(crate) fn same_keyed(
     x: &DictionaryArray,
@@ -22,7 +22,7 @@ pub(crate) fn same_keyed(
     requires within { o + n ≤ len x.now }
     requires other_within { p + n ≤ len y.now }
     ensures same { IsTrue result ↔ (run (slot x.now) o n ≡ run (slot y.now) p n) }
-    ensures told { Tells result steps.old steps.new (node_counts (run (slot x.now) o n)) }
+    ensures comparisons { CountsComparisons result steps.old steps.new (node_counts (run (slot x.now) o n)) }
 {
     let _ends = (x.len(), y.len());
     for k in 0..n {
@@ -33,7 +33,7 @@ pub(crate) fn same_keyed(
     true
 }
 
-/// Whether slot i of x is slot j of y. A null by the key and a null by the value are one slot.
+/// Returns whether slot `i` of `x` equals slot `j` of `y`. A null key equals a valid key of a null value.
 #[cycle(equal)]
 fn is_same_keyed(
     x: &DictionaryArray,
@@ -46,19 +46,19 @@ fn is_same_keyed(
     requires within { i < len x.now }
     requires other_within { j < len y.now }
     ensures same { IsTrue result ↔ (slot x.now i ≡ slot y.now j) }
-    ensures told { Tells result steps.old steps.new (node_count (slot x.now i)) }
+    ensures comparisons { CountsComparisons result steps.old steps.new (node_count (slot x.now i)) }
 {
     x.known();
     y.known();
     if x.is_null(i) || y.is_null(j) {
-        steps.tell(1);
+        steps.add(1);
         return is_null_value(x, i) && is_null_value(y, j);
     }
     let (values, other_values) = (x.values(), y.values());
     same_run(values, x.place(i), other_values, y.place(j), 1, steps)
 }
 
-/// Whether slot i is null, by its key or by the value that it names.
+/// Returns whether slot `i` is null: its key, or the value at its key.
 #[cycle(null)]
 fn is_null_value(x: &DictionaryArray, i: usize) -> bool
     requires { i < len x.now }
@@ -71,7 +71,7 @@ fn is_null_value(x: &DictionaryArray, i: usize) -> bool
     is_null_slot(x.values(), x.place(i))
 }
 
-/// Whether slot i is null, also where it is looked up by a key.
+/// Returns whether slot `i` is null; in a dictionary array also where its key indexes a null value.
 #[cycle(null)]
 fn is_null_slot(a: &AnyArray, i: usize) -> bool
     requires { i < len (layout_of a.now) }

@@ -1,4 +1,4 @@
-//! Arrays of any kind by the kinds that their data types name.
+//! Downcasts of arrays whose kind is known from their data type.
 ghost use Rattle.std.specs.Prelude.{◌≡◌};
 ghost use Rattle.nest_memory.specs.declared.datatypes.physical_type.PhysicalType.TheVariants as physical;
 ghost use Rattle.nest_flat.specs.AnyPrimitive.{primitive_layout};
@@ -20,7 +20,7 @@ use nest_flat::binary::BinaryArray;
 use nest_flat::boolean::BooleanArray;
 use nest_flat::utf8::Utf8Array;
 
-/// The variant of an array is that of its data type's physical type.
+/// Shows the prover that the variant of an array is that of its physical type.
 pub(crate) fn kind(a: &AnyArray)
     ensures { physical_type (layout_type (layout_of a.now)) ≡ physical_kind a.now }
 {
@@ -43,7 +43,7 @@ pub(crate) fn kind(a: &AnyArray)
     }
 }
 
-/// Arrays whose data types are equal but for their outer extensions have one physical type.
+/// Shows the prover that data types that differ only in outer extensions have one physical type.
 pub(crate) fn same_kind(a: &AnyArray, b: &AnyArray)
     requires { Alike (layout_of a.now) (layout_of b.now) }
     ensures { physical_type (layout_type (layout_of a.now)) ≡ physical_type (layout_type (layout_of b.now)) }
@@ -52,7 +52,7 @@ pub(crate) fn same_kind(a: &AnyArray, b: &AnyArray)
     kind(b);
 }
 
-/// The array whose data type is that of nulls.
+/// Returns the null array.
 pub(crate) fn as_null(b: &AnyArray) -> &NullArray
     requires { physical_type (layout_type (layout_of b.now)) ≡ physical.Null }
     ensures { result.now ≡ layout_of b.now }
@@ -64,7 +64,7 @@ pub(crate) fn as_null(b: &AnyArray) -> &NullArray
     }
 }
 
-/// The array whose data type is that of native values.
+/// Returns the primitive array, of any native type.
 pub(crate) fn as_primitive(b: &AnyArray) -> &AnyPrimitive
     requires { IsPrimitive (physical_type (layout_type (layout_of b.now))) }
     ensures { primitive_layout result.now ≡ layout_of b.now }
@@ -76,7 +76,7 @@ pub(crate) fn as_primitive(b: &AnyArray) -> &AnyPrimitive
     }
 }
 
-/// The array whose data type is that of booleans.
+/// Returns the Boolean array.
 pub(crate) fn as_boolean(b: &AnyArray) -> &BooleanArray
     requires { physical_type (layout_type (layout_of b.now)) ≡ physical.Boolean }
     ensures { result.now ≡ layout_of b.now }
@@ -88,7 +88,7 @@ pub(crate) fn as_boolean(b: &AnyArray) -> &BooleanArray
     }
 }
 
-/// The array whose data type is that of bytes.
+/// Returns the binary array with 32-bit offsets.
 pub(crate) fn as_binary(b: &AnyArray) -> &BinaryArray<i32>
     requires { physical_type (layout_type (layout_of b.now)) ≡ physical.Binary }
     ensures { result.now ≡ layout_of b.now }
@@ -100,7 +100,7 @@ pub(crate) fn as_binary(b: &AnyArray) -> &BinaryArray<i32>
     }
 }
 
-/// The array whose data type is that of bytes by large offsets.
+/// Returns the binary array with 64-bit offsets.
 pub(crate) fn as_large_binary(b: &AnyArray) -> &BinaryArray<i64>
     requires { physical_type (layout_type (layout_of b.now)) ≡ physical.LargeBinary }
     ensures { result.now ≡ layout_of b.now }
@@ -112,7 +112,7 @@ pub(crate) fn as_large_binary(b: &AnyArray) -> &BinaryArray<i64>
     }
 }
 
-/// The array whose data type is that of texts.
+/// Returns the UTF-8 array with 32-bit offsets.
 pub(crate) fn as_utf8(b: &AnyArray) -> &Utf8Array<i32>
     requires { physical_type (layout_type (layout_of b.now)) ≡ physical.Utf8 }
     ensures { result.now ≡ layout_of b.now }
@@ -124,7 +124,7 @@ pub(crate) fn as_utf8(b: &AnyArray) -> &Utf8Array<i32>
     }
 }
 
-/// The array whose data type is that of texts by large offsets.
+/// Returns the UTF-8 array with 64-bit offsets.
 pub(crate) fn as_large_utf8(b: &AnyArray) -> &Utf8Array<i64>
     requires { physical_type (layout_type (layout_of b.now)) ≡ physical.LargeUtf8 }
     ensures { result.now ≡ layout_of b.now }
@@ -136,7 +136,7 @@ pub(crate) fn as_large_utf8(b: &AnyArray) -> &Utf8Array<i64>
     }
 }
 
-/// The array whose data type is that of byte strings of one size.
+/// Returns the fixed-size binary array.
 pub(crate) fn as_fixed_size_binary(b: &AnyArray) -> &FixedSizeBinaryArray
     requires { physical_type (layout_type (layout_of b.now)) ≡ physical.FixedSizeBinary }
     ensures { result.now ≡ layout_of b.now }
@@ -148,7 +148,7 @@ pub(crate) fn as_fixed_size_binary(b: &AnyArray) -> &FixedSizeBinaryArray
     }
 }
 
-/// The array whose data type is that of lists of one size.
+/// Returns the fixed-size list array.
 pub(crate) fn as_fixed_size_list(b: &AnyArray) -> &FixedSizeListArray
     requires { physical_type (layout_type (layout_of b.now)) ≡ physical.FixedSizeList }
     ensures { result.now ≡ layout_of b.now }
@@ -160,7 +160,7 @@ pub(crate) fn as_fixed_size_list(b: &AnyArray) -> &FixedSizeListArray
     }
 }
 
-/// The array whose data type is that of lists.
+/// Returns the list array with 32-bit offsets.
 pub(crate) fn as_list(b: &AnyArray) -> &ListArray
     requires { physical_type (layout_type (layout_of b.now)) ≡ physical.List }
     ensures { result.now ≡ layout_of b.now }
@@ -172,7 +172,7 @@ pub(crate) fn as_list(b: &AnyArray) -> &ListArray
     }
 }
 
-/// The array whose data type is that of lists by large offsets.
+/// Returns the list array with 64-bit offsets.
 pub(crate) fn as_large_list(b: &AnyArray) -> &LargeListArray
     requires { physical_type (layout_type (layout_of b.now)) ≡ physical.LargeList }
     ensures { result.now ≡ layout_of b.now }
@@ -184,7 +184,7 @@ pub(crate) fn as_large_list(b: &AnyArray) -> &LargeListArray
     }
 }
 
-/// The array whose data type is that of records.
+/// Returns the struct array.
 pub(crate) fn as_struct(b: &AnyArray) -> &StructArray
     requires { physical_type (layout_type (layout_of b.now)) ≡ physical.Struct }
     ensures { result.now ≡ layout_of b.now }
@@ -196,7 +196,7 @@ pub(crate) fn as_struct(b: &AnyArray) -> &StructArray
     }
 }
 
-/// The array whose data type is that of maps.
+/// Returns the map array.
 pub(crate) fn as_map(b: &AnyArray) -> &MapArray
     requires { physical_type (layout_type (layout_of b.now)) ≡ physical.Map }
     ensures { result.now ≡ layout_of b.now }
@@ -208,7 +208,7 @@ pub(crate) fn as_map(b: &AnyArray) -> &MapArray
     }
 }
 
-/// The array whose data type is that of unions.
+/// Returns the union array.
 pub(crate) fn as_union(b: &AnyArray) -> &UnionArray
     requires { physical_type (layout_type (layout_of b.now)) ≡ physical.Union }
     ensures { result.now ≡ layout_of b.now }
@@ -220,7 +220,7 @@ pub(crate) fn as_union(b: &AnyArray) -> &UnionArray
     }
 }
 
-/// The array whose data type is that of a dictionary.
+/// Returns the dictionary array, of any key type.
 pub(crate) fn as_dictionary(b: &AnyArray) -> &DictionaryArray
     requires { IsKeyed (physical_type (layout_type (layout_of b.now))) }
     ensures { result.now ≡ layout_of b.now }

@@ -1,5 +1,6 @@
-//! Equality of arrays of any kind: equal data types and equal slots, by comparisons that are told to a count. No call
-//! takes memory.
+//! Equality of arrays of any kind: equal data types and equal slots.
+//!
+//! Comparisons are counted in [`Steps`], and nothing is allocated.
 mod flat;
 mod keyed;
 pub(crate) mod kinds;
@@ -12,10 +13,10 @@ ghost use Rattle.std.specs.Prelude.{◌≡◌, ◌↔◌, ◌+◌, ◌≤◌, �
 ghost use Rattle.nest_array.specs.Kinds.{has_leaves};
 ghost use Rattle.nest_array.specs.RowSlots.{IsWithin, row_slot};
 ghost use Rattle.nest_array.specs.SeenLists.{lists_layout};
-ghost use Rattle.nest_array.specs.Words.{Alike, EachValid, IsSameArray, Tells, layout_of, layout_type, len, node_count, node_counts, physical_type, run, slot, slots_of, type_of, validity_of, window_slots};
+ghost use Rattle.nest_array.specs.Words.{Alike, EachValid, IsSameArray, CountsComparisons, layout_of, layout_type, len, node_count, node_counts, physical_type, run, slot, slots_of, type_of, validity_of, window_slots};
 
 use crate::any::AnyArray;
-use crate::array::Slotted;
+use crate::array::ArrayParts;
 use crate::null::NullArray;
 use crate::steps::Steps;
 use crate::window::Window;
@@ -27,7 +28,7 @@ use picks::same_picks;
 use records::same_records;
 use rows::{Lists, Rows, same_counts};
 
-/// Whether two arrays have the same data type and the same slots.
+/// Returns whether two arrays have the same data type and the same slots.
 pub fn equal(a: &AnyArray, b: &AnyArray) -> bool
     ensures { IsTrue result ↔ IsSameArray (layout_of a.now) (layout_of b.now) }
 {
@@ -35,18 +36,20 @@ pub fn equal(a: &AnyArray, b: &AnyArray) -> bool
     equal_counted(a, b, &mut steps)
 }
 
-/// Whether two arrays have the same data type and the same slots. A step is told for each pair of slots that is
-/// compared, at any depth, and 16 for a block of native values; none where data types or lengths differ.
+/// Returns whether two arrays have the same data type and the same slots, and counts comparisons in `steps`.
+///
+/// Makes at most one comparison per value of `a`, at any depth, and exactly that many when the arrays are equal.
+/// A block of native values counts all its values. Different data types or lengths count none.
 pub fn equal_counted(a: &AnyArray, b: &AnyArray, steps: &mut Steps) -> bool
     ensures same { IsTrue result ↔ IsSameArray (layout_of a.now) (layout_of b.now) }
-    ensures told { Tells result steps.old steps.new (node_counts (slots_of (layout_of a.now))) }
+    ensures comparisons { CountsComparisons result steps.old steps.new (node_counts (slots_of (layout_of a.now))) }
     ensures none { (layout_type (layout_of a.now) ≡ layout_type (layout_of b.now) → len (layout_of a.now) ≡ len (layout_of b.now) → ⊥)
         → steps.new ≡ steps.old }
 {
     whole::same_arrays_counted(a, b, steps)
 }
 
-/// Whether two windows have the same data type and the same slots.
+/// Returns whether two windows have the same data type and the same slots.
 pub fn equal_windows(x: &Window, y: &Window) -> bool
     ensures { IsTrue result
         ↔ (layout_type x.now.array ≡ layout_type y.now.array) × (window_slots x.now ≡ window_slots y.now) }
@@ -61,15 +64,15 @@ pub fn equal_windows(x: &Window, y: &Window) -> bool
     same_run(a, x.offset(), b, y.offset(), x.len(), &mut steps)
 }
 
-/// Whether two data types and two lengths are the same.
+/// Returns whether two data types are equal and two lengths are equal.
 pub(crate) fn same_shape(t: &DataType, m: usize, u: &DataType, n: usize) -> bool
     ensures { IsTrue result ↔ (type_of t.now ≡ type_of u.now) × (m ≡ n) }
 {
     m == n && *t == *u
 }
 
-/// Whether none of the n slots from place o is null by the validity.
-pub(crate) fn is_full<A: Slotted>(a: &A, o: usize, n: usize) -> bool
+/// Returns whether the validity has no null among the `n` slots from index `o`.
+pub(crate) fn is_full<A: ArrayParts>(a: &A, o: usize, n: usize) -> bool
     requires { o + n ≤ len (A.parts a.now) }
     ensures { IsTrue result ↔ EachValid (validity_of (A.parts a.now)) o n }
 {
@@ -85,7 +88,7 @@ pub(crate) fn is_full<A: Slotted>(a: &A, o: usize, n: usize) -> bool
     true
 }
 
-/// Whether the n slots of a from place o are those of b from place p. The kind is matched once.
+/// Returns whether the `n` slots of `a` from index `o` equal those of `b` from index `p`. The kind is matched once.
 #[cycle(equal)]
 pub(crate) fn same_run(
     a: &AnyArray,
@@ -99,7 +102,7 @@ pub(crate) fn same_run(
     requires within { o + n ≤ len (layout_of a.now) }
     requires other_within { p + n ≤ len (layout_of b.now) }
     ensures same { IsTrue result ↔ (run (slot (layout_of a.now)) o n ≡ run (slot (layout_of b.now)) p n) }
-    ensures told { Tells result steps.old steps.new (node_counts (run (slot (layout_of a.now)) o n)) }
+    ensures comparisons { CountsComparisons result steps.old steps.new (node_counts (run (slot (layout_of a.now)) o n)) }
 {
     kinds::same_kind(a, b);
     kind(a);
@@ -138,14 +141,14 @@ pub(crate) fn same_run(
     }
 }
 
-/// Whether the n slots of a from place o are those of b from place p, where a has no children.
+/// Returns whether the `n` slots of `a` from index `o` equal those of `b` from index `p`, where `a` has no children.
 fn same_leaves(a: &AnyArray, o: usize, b: &AnyArray, p: usize, n: usize, steps: &mut Steps) -> bool
     requires flat { IsTrue (has_leaves a.now) }
     requires same_kind { physical_type (layout_type (layout_of a.now)) ≡ physical_type (layout_type (layout_of b.now)) }
     requires within { o + n ≤ len (layout_of a.now) }
     requires other_within { p + n ≤ len (layout_of b.now) }
     ensures same { IsTrue result ↔ (run (slot (layout_of a.now)) o n ≡ run (slot (layout_of b.now)) p n) }
-    ensures told { Tells result steps.old steps.new (node_counts (run (slot (layout_of a.now)) o n)) }
+    ensures comparisons { CountsComparisons result steps.old steps.new (node_counts (run (slot (layout_of a.now)) o n)) }
 {
     a.known();
     kind(a);
@@ -158,7 +161,7 @@ fn same_flat(a: &AnyArray, o: usize, b: &AnyArray, p: usize, n: usize, steps: &m
     requires within { o + n ≤ len (layout_of a.now) }
     requires other_within { p + n ≤ len (layout_of b.now) }
     ensures same { IsTrue result ↔ (run (slot (layout_of a.now)) o n ≡ run (slot (layout_of b.now)) p n) }
-    ensures told { Tells result steps.old steps.new n }
+    ensures comparisons { CountsComparisons result steps.old steps.new n }
 {
     kind(a);
     match a {
@@ -176,19 +179,20 @@ fn same_flat(a: &AnyArray, o: usize, b: &AnyArray, p: usize, n: usize, steps: &m
     }
 }
 
-/// Whether n nulls from place o are n nulls from place p, as always.
+/// Returns true and counts `n` comparisons: slots of null arrays are always equal.
 fn same_nulls(x: &NullArray, o: usize, y: &NullArray, p: usize, n: usize, steps: &mut Steps) -> bool
     ensures same { IsTrue result ↔ (run (slot x.now) o n ≡ run (slot y.now) p n) }
-    ensures told { Tells result steps.old steps.new n }
+    ensures comparisons { CountsComparisons result steps.old steps.new n }
 {
     x.known();
     y.known();
-    steps.tell(n as u64);
+    steps.add(n as u64);
     true
 }
 
-/// Whether the n lists of xs from place o are those of ys from place p. Where none is null, their lengths are
-/// compared and then all items as one run.
+/// Returns whether the `n` lists of `xs` from index `o` equal those of `ys` from index `p`.
+///
+/// Without nulls it compares all lengths, then all items as one slice.
 #[cycle(equal)]
 pub(crate) fn same_rows(
     xs: &Lists,
@@ -202,7 +206,7 @@ pub(crate) fn same_rows(
     requires within { o + n ≤ len (lists_layout xs.now) }
     requires other_within { p + n ≤ len (lists_layout ys.now) }
     ensures same { IsTrue result ↔ (run (slot (lists_layout xs.now)) o n ≡ run (slot (lists_layout ys.now)) p n) }
-    ensures told { Tells result steps.old steps.new (node_counts (run (slot (lists_layout xs.now)) o n)) }
+    ensures comparisons { CountsComparisons result steps.old steps.new (node_counts (run (slot (lists_layout xs.now)) o n)) }
 {
     if n == 0 {
         return true;
@@ -227,7 +231,7 @@ fn each_same_row(xs: &Lists, o: usize, ys: &Lists, p: usize, n: usize, steps: &m
     requires within { o + n ≤ len (lists_layout xs.now) }
     requires other_within { p + n ≤ len (lists_layout ys.now) }
     ensures same { IsTrue result ↔ (run (slot (lists_layout xs.now)) o n ≡ run (slot (lists_layout ys.now)) p n) }
-    ensures told { Tells result steps.old steps.new (node_counts (run (slot (lists_layout xs.now)) o n)) }
+    ensures comparisons { CountsComparisons result steps.old steps.new (node_counts (run (slot (lists_layout xs.now)) o n)) }
 {
     let _ends = (xs.count(), ys.count());
     let (items, other_items) = (xs.items(), ys.items());
@@ -239,7 +243,7 @@ fn each_same_row(xs: &Lists, o: usize, ys: &Lists, p: usize, n: usize, steps: &m
     true
 }
 
-/// Whether a row of items is the same list as a row of other items: both are null, or both have the same items.
+/// Returns whether two rows are the same list: both are null, or both have the same items.
 #[cycle(equal)]
 fn same_row(
     items: &AnyArray,
@@ -252,9 +256,9 @@ fn same_row(
     requires within { IsWithin row (len (layout_of items.now)) }
     requires other_within { IsWithin other_row (len (layout_of other_items.now)) }
     ensures same { IsTrue result ↔ (row_slot (layout_of items.now) row ≡ row_slot (layout_of other_items.now) other_row) }
-    ensures told { Tells result steps.old steps.new (node_count (row_slot (layout_of items.now) row)) }
+    ensures comparisons { CountsComparisons result steps.old steps.new (node_count (row_slot (layout_of items.now) row)) }
 {
-    steps.tell(1);
+    steps.add(1);
     let Some((start, count)) = row else {
         return other_row.is_none();
     };

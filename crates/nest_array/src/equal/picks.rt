@@ -1,12 +1,12 @@
-//! Equality of runs of a union's picks.
+//! Equality of slices of union arrays.
 ghost use Rattle.std.specs.Prelude.{◌≡◌, ◌↔◌, ◌+◌, ◌≤◌, ◌<◌, IsTrue};
-ghost use Rattle.nest_array.specs.Words.{Alike, Tells, len, node_count, node_counts, run, slot};
+ghost use Rattle.nest_array.specs.Words.{Alike, CountsComparisons, len, node_count, node_counts, run, slot};
 
 use crate::equal::same_run;
 use crate::steps::Steps;
 use crate::union::UnionArray;
 
-/// Whether the n picks of x from place o are those of y from place p, one after another.
+/// Returns whether the `n` picks of `x` from index `o` equal those of `y` from index `p`, one by one.
 #[cycle(equal)]
 pub(crate) fn same_picks(
     x: &UnionArray,
@@ -20,7 +20,7 @@ pub(crate) fn same_picks(
     requires within { o + n ≤ len x.now }
     requires other_within { p + n ≤ len y.now }
     ensures same { IsTrue result ↔ (run (slot x.now) o n ≡ run (slot y.now) p n) }
-    ensures told { Tells result steps.old steps.new (node_counts (run (slot x.now) o n)) }
+    ensures comparisons { CountsComparisons result steps.old steps.new (node_counts (run (slot x.now) o n)) }
 {
     let _ends = (x.len(), y.len());
     for k in 0..n {
@@ -31,16 +31,16 @@ pub(crate) fn same_picks(
     true
 }
 
-/// Whether pick i of x is pick j of y: of the field at one position, and of one slot.
+/// Returns whether pick `i` of `x` equals pick `j` of `y`: the same field index and the same slot.
 #[cycle(equal)]
 fn is_same_pick(x: &UnionArray, i: usize, y: &UnionArray, j: usize, steps: &mut Steps) -> bool
     requires alike { Alike x.now y.now }
     requires within { i < len x.now }
     requires other_within { j < len y.now }
     ensures same { IsTrue result ↔ (slot x.now i ≡ slot y.now j) }
-    ensures told { Tells result steps.old steps.new (node_count (slot x.now i)) }
+    ensures comparisons { CountsComparisons result steps.old steps.new (node_count (slot x.now i)) }
 {
-    steps.tell(1);
+    steps.add(1);
     x.known();
     y.known();
     let (field, place) = x.index(i);

@@ -11,35 +11,35 @@ use crate::list::large::LargeListArray;
 use crate::map::MapArray;
 use crate::steps::Steps;
 
-/// What a comparison asks of an array of lists.
+/// An array of lists, as comparisons need it.
 pub(crate) trait Rows {
     ghost layout: { Self → Layout };
 
-    /// How many lists it has.
+    /// Returns the number of lists.
     fn count(&self) -> usize
         ensures { result ≡ len (layout self.now) };
 
-    /// The items of all lists.
+    /// Returns the items of all lists.
     fn items(&self) -> &AnyArray
         ensures shown { layout_of result.now ≡ child_of (layout self.now) }
         ensures typed { item_type (layout_type (layout self.now)) ≡ Some (layout_type (layout_of result.now)) };
 
-    /// Where the items of list i begin and how many there are, `None` where it is null.
+    /// Returns the index of the first item of list `i` and the number of its items, `None` if the list is null.
     fn row(&self, i: usize) -> Option<(usize, usize)>
         requires { i < len (layout self.now) }
         ensures within { IsWithin result (len (child_of (layout self.now))) }
         ensures slot { row_slot (child_of (layout self.now)) result ≡ slot (layout self.now) i };
 
-    /// What holds of every such array.
+    /// Shows the prover the invariant of the array. Does nothing at run time.
     fn known_rows(&self)
         ensures { AreRows (layout self.now) };
 
-    /// Whether none of the n lists from place o is null.
+    /// Returns whether none of the `n` lists from index `o` is null.
     fn are_full(&self, o: usize, n: usize) -> bool
         requires { o + n ≤ len (layout self.now) }
         ensures { IsTrue result ↔ EachValid (validity_of (layout self.now)) o n };
 
-    /// Where the items of list i begin and how many there are, also where it is null.
+    /// Returns the index of the first item of list `i` and the number of its items, also if the list is null.
     fn span(&self, i: usize) -> (usize, usize)
         requires { i < len (layout self.now) }
         ensures start { result.0 ≡ bound_of (layout self.now) i }
@@ -252,8 +252,9 @@ impl<'a> Rows for Lists<'a> {
     }
 }
 
-/// How many items the n lists from place o have, where those of ys from place p have as many each, a step a list;
-/// `None` where they haven't.
+/// Returns the number of items in the `n` lists of `xs` from index `o`.
+///
+/// Returns `None` if a list of `ys` from index `p` has another length. Each pair of lists counts one comparison.
 pub(crate) fn same_counts<R: Rows, S: Rows>(
     xs: &R,
     o: usize,
@@ -264,9 +265,9 @@ pub(crate) fn same_counts<R: Rows, S: Rows>(
 ) -> Option<usize>
     requires within { o + n ≤ len (R.layout xs.now) }
     requires other_within { p + n ≤ len (S.layout ys.now) }
-    ensures same { MatchOption result (SameBounds (R.layout xs.now) o (S.layout ys.now) p n → ⊥)
-        (λ m. SameBounds (R.layout xs.now) o (S.layout ys.now) p n × (bound_of (R.layout xs.now) o + m ≡ bound_of (R.layout xs.now) (o + n))) }
-    ensures told { MatchOption result (steps.new ≤ steps.old + n) (λ m. steps.new ≡ steps.old + n) }
+    ensures same { let a = R.layout xs.now in let b = S.layout ys.now in MatchOption result (SameBounds a o b p n → ⊥)
+        (λ m. SameBounds a o b p n × (bound_of a o + m ≡ bound_of a (o + n))) }
+    ensures comparisons { MatchOption result (steps.new ≤ steps.old + n) (λ m. steps.new ≡ steps.old + n) }
 {
     xs.known_rows();
     let _ends = (xs.count(), ys.count());
@@ -277,11 +278,11 @@ pub(crate) fn same_counts<R: Rows, S: Rows>(
         let (_, count) = xs.span(o + k);
         let (_, other_count) = ys.span(p + k);
         if count != other_count {
-            steps.tell(k as u64 + 1);
+            steps.add(k as u64 + 1);
             return None;
         }
         total += count;
     }
-    steps.tell(n as u64);
+    steps.add(n as u64);
     Some(total)
 }

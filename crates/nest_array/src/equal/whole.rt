@@ -1,6 +1,6 @@
-//! Equality of whole arrays: of any kind, and of each kind.
+//! Equality of entire arrays: of any kind, and of each kind.
 ghost use Rattle.std.specs.Prelude.{◌≡◌, ◌↔◌, ◌+◌, ◌≤◌, IsTrue};
-ghost use Rattle.nest_array.specs.Words.{Alike, IsSameArray, Tells, layout_of, layout_type, len, node_counts, run, same_array, slot, slots_of};
+ghost use Rattle.nest_array.specs.Words.{Alike, IsSameArray, CountsComparisons, layout_of, layout_type, len, node_counts, run, same_array, slot, slots_of};
 
 use crate::any::AnyArray;
 use crate::array::Array;
@@ -21,18 +21,18 @@ use crate::steps::Steps;
 use crate::struct_::StructArray;
 use crate::union::UnionArray;
 
-/// An array whose slots are compared in runs.
+/// An array whose slices can be compared.
 pub(crate) trait SlotRuns: Array {
-    /// Whether the n slots from place o are those of the other array from place p.
+    /// Returns whether the `n` slots from index `o` equal those of `other` from index `p`.
     fn is_same_run(&self, o: usize, other: &Self, p: usize, n: usize, steps: &mut Steps) -> bool
         requires alike { Alike (Self.layout self.now) (Self.layout other.now) }
         requires within { o + n ≤ len (Self.layout self.now) }
         requires other_within { p + n ≤ len (Self.layout other.now) }
         ensures same { IsTrue result ↔ (run (slot (Self.layout self.now)) o n ≡ run (slot (Self.layout other.now)) p n) }
-        ensures told { Tells result steps.old steps.new (node_counts (run (slot (Self.layout self.now)) o n)) };
+        ensures comparisons { CountsComparisons result steps.old steps.new (node_counts (run (slot (Self.layout self.now)) o n)) };
 }
 
-/// Whether two arrays of one kind have the same data type and the same slots.
+/// Returns whether two arrays of one kind have the same data type and the same slots.
 pub(crate) fn same_arrays<A: SlotRuns>(x: &A, y: &A) -> bool
     ensures computes { result ≡ same_array (A.layout x.now) (A.layout y.now) }
     ensures decides { IsTrue result ↔ IsSameArray (A.layout x.now) (A.layout y.now) }
@@ -41,10 +41,10 @@ pub(crate) fn same_arrays<A: SlotRuns>(x: &A, y: &A) -> bool
     same_arrays_counted(x, y, &mut steps)
 }
 
-/// The same, counted.
+/// The same as `same_arrays`, with a count of comparisons.
 pub(crate) fn same_arrays_counted<A: SlotRuns>(x: &A, y: &A, steps: &mut Steps) -> bool
     ensures same { IsTrue result ↔ IsSameArray (A.layout x.now) (A.layout y.now) }
-    ensures told { Tells result steps.old steps.new (node_counts (slots_of (A.layout x.now))) }
+    ensures comparisons { CountsComparisons result steps.old steps.new (node_counts (slots_of (A.layout x.now))) }
     ensures none { (layout_type (A.layout x.now) ≡ layout_type (A.layout y.now) → len (A.layout x.now) ≡ len (A.layout y.now) → ⊥)
         → steps.new ≡ steps.old }
 {

@@ -1,4 +1,4 @@
-//! Arrays of byte strings of one size as flat arrays.
+//! Fixed-size binary arrays as flat arrays.
 ghost use Rattle.nest_model.specs.Slot as slots;
 
 use crate::fixed_size_binary::FixedSizeBinaryArray;

@@ -1,12 +1,12 @@
-//! Arrays of byte strings of one size from items that may be null.
+//! Constructors of fixed-size binary arrays from items that may be null.
 ghost use Rattle.std.specs.Prelude.{◌≡◌, ◌<◌, ◌↔◌, ◌⊎◌, ◌++◌, ◌∷◌, ◌||◌, [], ℕ, List, Option, not, is_some, IfOk, IfErr, IsErrOf, OnOk, OnErr, IsOkUnless, IsTrue, None, map, alloc_error};
 ghost use Rattle.std.specs.Borrow.{Bor};
 ghost use Rattle.std.specs.Option.{option_copied};
 ghost use Rattle.nest_memory.specs.TypeTree as types;
-ghost use Rattle.nest_memory.specs.declared.error.Argument.TheVariants.{ItemSize};
+ghost use Rattle.nest_memory.specs.declared.error.ArgumentError.TheVariants.{ItemSize};
 ghost use Rattle.nest_memory.specs.declared.error.Error.TheVariants.{InvalidArgumentError, OutOfSpec};
-ghost use Rattle.nest_memory.specs.declared.error.Spec.TheVariants.{ZeroSize};
-ghost use Rattle.nest_model.specs.BuilderSpells.{Gives};
+ghost use Rattle.nest_memory.specs.declared.error.SpecError.TheVariants.{ZeroSize};
+ghost use Rattle.nest_model.specs.BuilderInput.{YieldsAll};
 ghost use Rattle.nest_model.specs.Layout as layouts;
 ghost use Rattle.nest_model.specs.Slot as slots;
 ghost use Rattle.nest_flat.specs.FlatParts.{optional};
@@ -19,11 +19,11 @@ use crate::fixed_size_binary::rows::bytes_of;
 use nest_flat::growth::validity;
 use nest_memory::bitmap::mutable::MutableBitmap;
 use nest_memory::buffer::Buffer;
-use nest_memory::error::{Argument, Error, Spec};
+use nest_memory::error::{ArgumentError, Error, SpecError};
 use std::alloc::Global;
 use std::marker::Model;
 
-/// The array so far. Under a null lie zeros, and a validity is made at the first one.
+/// An array under construction. Null slots hold zeros; the first null creates the validity.
 #[derive(Drop)]
 struct SoFar {
     size: usize,
@@ -47,7 +47,7 @@ impl Model for SoFar {
     ghost invariant = { λ b. TopFits (layouts.fixed_size_binary (types.fixed_size_binary b.size) b.values.items b.validity) };
 }
 
-/// Adds the bytes of one slot more: zeros for a null.
+/// Appends the bytes of a slot, zeros for a null.
 fn push_bytes(values: &mut Vec<u8>, size: usize, item: Option<&[u8]>) -> Result<(), Error>
     ensures ok { OnOk result (values.new.items ≡ values.old.items ++ sized_bytes size (option_copied item.entry)) }
     ensures err { OnErr result (values.new.items ≡ values.old.items) }
@@ -65,7 +65,7 @@ fn push_bytes(values: &mut Vec<u8>, size: usize, item: Option<&[u8]>) -> Result<
     Ok(())
 }
 
-/// Whether it is bytes of another size.
+/// Returns whether an item has another size.
 fn is_other_size(item: Option<&[u8]>, size: usize) -> bool
     ensures { IsTrue result ↔ IsOtherSize size (option_copied item.entry) }
 {
@@ -93,7 +93,7 @@ impl SoFar {
         self.values.len() / self.size
     }
 
-    /// Adds a slot: bytes of its size, or null.
+    /// Appends a slot: bytes of the array's size, or null.
     fn push(&mut self, item: Option<&[u8]>) -> Result<(), Error>
         requires { ¬ IsOtherSize (size_of (layout_type self.old)) (option_copied item) }
         ensures parts { OnOk result (self.new ≡ pushed_bytes self.old (option_copied item.entry)) }
@@ -113,7 +113,7 @@ impl SoFar {
         Ok(())
     }
 
-    /// The same, but `ItemSize` for bytes of another size.
+    /// Appends a slot, or returns `ItemSize` for bytes of another size.
     fn try_push(&mut self, item: Option<&[u8]>) -> Result<(), Error>
         ensures slots { OnOk result (slots_of self.new ≡ slots_of self.old ++ optional slots.bytes (option_copied item.entry) ∷ []) }
         ensures masked { OnOk result (is_masked self.new ≡ (is_masked self.old || not (is_some (option_copied item.entry)))) }
@@ -122,12 +122,12 @@ impl SoFar {
         ensures errors { IfErr result (λ e. (e ≡ InvalidArgumentError ItemSize) ⊎ (e ≡ Memory alloc_error)) }
     {
         if is_other_size(item, self.size) {
-            return Err(Error::InvalidArgumentError(Argument::ItemSize));
+            return Err(Error::InvalidArgumentError(ArgumentError::ItemSize));
         }
         self.push(item)
     }
 
-    /// The array of the slots.
+    /// Returns the array of the slots.
     fn freeze(&mut self) -> Result<FixedSizeBinaryArray, Error>
         ensures ok { IfOk result (λ a. a ≡ self.old) }
         ensures memory { IsOkUnless result (Memory alloc_error) }
@@ -141,14 +141,14 @@ impl SoFar {
     }
 }
 
-/// Adds a slot for each item, until one is refused.
+/// Appends a slot for each item, up to the first error.
 fn push_items<'a, I: IntoIterator<Item = Option<&'a [u8]>>>(
     made: &mut SoFar,
     items: I,
 ) -> Result<(), Error>
     requires can { CanDrain I.into_iter_gives I.IntoIter.can_next I.IntoIter.remaining items }
     requires empty { IsMadeOf (size_of (layout_type made.old)) [] made.old }
-    ensures ok { OnOk result ((xs : List (Option (Bor (List ℕ)))) × Gives I.into_iter_gives I.IntoIter.next_gives items xs
+    ensures ok { OnOk result ((xs : List (Option (Bor (List ℕ)))) × YieldsAll I.into_iter_gives I.IntoIter.next_gives items xs
         × IsMadeOf (size_of (layout_type made.old)) (map option_copied xs) made.new) }
     ensures cause { IfErr result (λ e. (e ≡ Memory alloc_error)
         ⊎ ((e ≡ InvalidArgumentError ItemSize) × GivesOtherSize I.into_iter_gives I.IntoIter.next_gives (size_of (layout_type made.old)) items)) }
@@ -161,7 +161,7 @@ fn push_items<'a, I: IntoIterator<Item = Option<&'a [u8]>>>(
     Ok(())
 }
 
-/// Adds a row, or null.
+/// Appends a row, or null.
 fn push_row<const N: usize>(made: &mut SoFar, item: &Option<[u8; N]>) -> Result<(), Error>
     requires { size_of (layout_type made.old) ≡ N }
     ensures slots { OnOk result (slots_of made.new ≡ slots_of made.old ++ optional slots.bytes item.now ∷ []) }
@@ -176,7 +176,7 @@ fn push_row<const N: usize>(made: &mut SoFar, item: &Option<[u8; N]>) -> Result<
     }
 }
 
-/// Adds a slot for each row, until one finds no memory.
+/// Appends a slot for each row, up to the first error.
 fn push_rows<const N: usize>(made: &mut SoFar, items: &[Option<[u8; N]>]) -> Result<(), Error>
     requires { IsMadeOf N [] made.old }
     ensures ok { OnOk result (IsMadeOf N items.now made.new) }
@@ -189,23 +189,26 @@ fn push_rows<const N: usize>(made: &mut SoFar, items: &[Option<[u8; N]>]) -> Res
 }
 
 impl FixedSizeBinaryArray {
-    /// The array of these items, of the type of byte strings of this size. It has a validity where one is null.
+    /// Returns the array of these items, of the fixed-size binary type of this size.
+    ///
+    /// It has a validity only if an item is null.
     ///
     /// # Errors
-    /// `ZeroSize` where the size is 0; `ItemSize` at the first item of another size; `Memory`.
+    /// `ZeroSize` where the size is 0, `ItemSize` at the first item of another size,
+    /// `Memory` where an allocation fails.
     pub fn try_from_iter<'a, I: IntoIterator<Item = Option<&'a [u8]>> + Drop>(
         alloc: Global,
         items: I,
         size: usize,
     ) -> Result<FixedSizeBinaryArray, Error>
         requires { CanDrain I.into_iter_gives I.IntoIter.can_next I.IntoIter.remaining items }
-        ensures ok { IfOk result (λ a. (xs : List (Option (Bor (List ℕ)))) × Gives I.into_iter_gives I.IntoIter.next_gives items xs × IsMadeOf size (map option_copied xs) a) }
+        ensures ok { IfOk result (λ a. (xs : List (Option (Bor (List ℕ)))) × YieldsAll I.into_iter_gives I.IntoIter.next_gives items xs × IsMadeOf size (map option_copied xs) a) }
         ensures zero { IsErrOf result (OutOfSpec ZeroSize) ↔ (size ≡ 0) }
         ensures cause { IfErr result (λ e. ((e ≡ OutOfSpec ZeroSize) × (size ≡ 0)) ⊎ ((e ≡ Memory alloc_error)
             ⊎ ((e ≡ InvalidArgumentError ItemSize) × GivesOtherSize I.into_iter_gives I.IntoIter.next_gives size items))) }
     {
         if size == 0 {
-            return Err(Error::OutOfSpec(Spec::ZeroSize));
+            return Err(Error::OutOfSpec(SpecError::ZeroSize));
         }
         let mut made = SoFar::new(alloc, size);
         if let Err(error) = push_items(&mut made, items) {
@@ -214,17 +217,17 @@ impl FixedSizeBinaryArray {
         made.freeze()
     }
 
-    /// `try_from_iter` under its other name.
+    /// The same as `try_from_iter`.
     ///
     /// # Errors
-    /// As `try_from_iter`.
+    /// Those of `try_from_iter`.
     pub fn from_iter<'a, I: IntoIterator<Item = Option<&'a [u8]>> + Drop>(
         alloc: Global,
         items: I,
         size: usize,
     ) -> Result<FixedSizeBinaryArray, Error>
         requires { CanDrain I.into_iter_gives I.IntoIter.can_next I.IntoIter.remaining items }
-        ensures ok { IfOk result (λ a. (xs : List (Option (Bor (List ℕ)))) × Gives I.into_iter_gives I.IntoIter.next_gives items xs × IsMadeOf size (map option_copied xs) a) }
+        ensures ok { IfOk result (λ a. (xs : List (Option (Bor (List ℕ)))) × YieldsAll I.into_iter_gives I.IntoIter.next_gives items xs × IsMadeOf size (map option_copied xs) a) }
         ensures zero { IsErrOf result (OutOfSpec ZeroSize) ↔ (size ≡ 0) }
         ensures cause { IfErr result (λ e. ((e ≡ OutOfSpec ZeroSize) × (size ≡ 0)) ⊎ ((e ≡ Memory alloc_error)
             ⊎ ((e ≡ InvalidArgumentError ItemSize) × GivesOtherSize I.into_iter_gives I.IntoIter.next_gives size items))) }
@@ -232,10 +235,10 @@ impl FixedSizeBinaryArray {
         FixedSizeBinaryArray::try_from_iter(alloc, items, size)
     }
 
-    /// The array of these rows, some of which may be null. It has a validity where one is.
+    /// Returns the array of these rows. It has a validity only if a row is null.
     ///
     /// # Errors
-    /// `Memory`.
+    /// `Memory` where an allocation fails.
     pub fn from<const N: usize>(
         alloc: Global,
         items: &[Option<[u8; N]>],

@@ -1,4 +1,4 @@
-//! Arrays of byte strings of one size.
+//! Fixed-size binary arrays.
 mod flat;
 mod makers;
 mod nulls;
@@ -9,7 +9,7 @@ ghost use Rattle.nest_model.specs.Accessors.{bytes_of};
 ghost use Rattle.nest_model.specs.Layout as layouts;
 ghost use Rattle.nest_model.specs.Slot as slots;
 ghost use Rattle.nest_flat.specs.FlatParts.{optional};
-ghost use Rattle.nest_array.specs.Words.{FirstFault, Fits, HasValidity, IsCut, Memory, RefusesValidity, TopFits, cut, cut_layout, is_null_at, layout_of, layout_type, len, null_count, size_of, slot, type_of, validity_of, where_valid, with_validity};
+ghost use Rattle.nest_array.specs.Words.{FirstError, Fits, HasValidity, IsSlice, Memory, RefusesValidity, TopFits, sublist, slice_layout, is_null_at, layout_of, layout_type, len, null_count, size_of, slot, type_of, validity_of, where_valid, with_validity};
 
 use crate::any::AnyArray;
 use nest_flat::validity;
@@ -17,16 +17,15 @@ use nest_memory::bitmap::immutable::Bitmap;
 use nest_memory::buffer::Buffer;
 use nest_memory::datatypes::DataType;
 use nest_memory::datatypes::physical_type::PhysicalType;
-use nest_memory::error::{Error, Spec};
+use nest_memory::error::{Error, SpecError};
 use std::alloc::Global;
 use std::marker::Model;
 use std::rc::Rc;
 
-/// An array of byte strings of one size, at least 1: the Fixed-Size Primitive Layout of the Arrow format, of so many
-/// bytes a slot.
+/// Fixed-Size Primitive Layout: an array of binary values of one size, which is at least 1 byte.
 #[derive(Drop)]
 pub struct FixedSizeBinaryArray {
-    // The data type's, which may lie below extensions.
+    // The size of the data type, also where that is the storage of extension types.
     size: usize,
     data_type: DataType,
     values: Buffer<u8>,
@@ -53,20 +52,23 @@ impl Model for FixedSizeBinaryArray {
 }
 
 impl FixedSizeBinaryArray {
-    /// The array of these parts.
+    /// Returns the array of these parts.
     ///
     /// # Errors
-    /// `WrongType` where the physical type isn't `FixedSizeBinary`, `ZeroSize` where its size is 0, `NotMultiple` where the
-    /// number of bytes is no multiple of it, `ValidityLength` where the validity has another length: the first of these.
+    /// The first that applies:
+    /// - `WrongType`: the physical type is not `FixedSizeBinary`;
+    /// - `ZeroSize`: its size is 0;
+    /// - `NotMultiple`: the number of bytes is not a multiple of the size;
+    /// - `ValidityLength`: the validity has another length.
     pub fn try_new(
         data_type: DataType,
         values: Buffer<u8>,
         validity: Option<Bitmap>,
     ) -> Result<FixedSizeBinaryArray, Error>
         ensures { let parts = layouts.fixed_size_binary (type_of data_type) values validity in
-            MatchResult result (λ a. Fits parts × (a ≡ parts)) (λ e. FirstFault e parts) }
+            MatchResult result (λ a. Fits parts × (a ≡ parts)) (λ e. FirstError e parts) }
     {
-        if let Some(error) = fault(&data_type, &values, &validity) {
+        if let Some(error) = first_error(&data_type, &values, &validity) {
             drop(validity);
             drop(values);
             drop(data_type);
@@ -75,7 +77,7 @@ impl FixedSizeBinaryArray {
         Ok(FixedSizeBinaryArray::new(data_type, values, validity))
     }
 
-    /// The array of parts that fit.
+    /// Returns the array of these parts, which must pass the checks of `try_new`.
     pub fn new(
         data_type: DataType,
         values: Buffer<u8>,
@@ -92,7 +94,7 @@ impl FixedSizeBinaryArray {
         }
     }
 
-    /// What holds of every such array.
+    /// Shows the prover the invariant of the array. Does nothing at run time.
     pub fn known(&self)
         ensures fits { TopFits self.now }
         ensures kind { self.now ≡ layouts.fixed_size_binary (layout_type self.now) (bytes_of self.now) (validity_of self.now) }
@@ -100,21 +102,21 @@ impl FixedSizeBinaryArray {
         let _ = &self.data_type;
     }
 
-    /// How many slots it has.
+    /// Returns the number of slots.
     pub fn len(&self) -> usize
         ensures { result ≡ len self.now }
     {
         self.values.len() / self.size
     }
 
-    /// Its data type.
+    /// Returns the data type.
     pub fn data_type(&self) -> &DataType
         ensures { type_of result.now ≡ layout_type self.now }
     {
         &self.data_type
     }
 
-    /// How many bytes each slot has.
+    /// Returns the size of each slot in bytes.
     pub fn size(&self) -> usize
         ensures typed { result ≡ size_of (layout_type self.now) }
         ensures some { 0 < result }
@@ -122,21 +124,21 @@ impl FixedSizeBinaryArray {
         self.size
     }
 
-    /// Which slots are valid, a bit a slot; without it all are.
+    /// Returns the validity bitmap, one bit per slot; `None` if no slot is null.
     pub fn validity(&self) -> Option<&Bitmap>
         ensures { option_map (λ b. b.now) result ≡ validity_of self.now }
     {
         self.validity.as_ref()
     }
 
-    /// The bytes of all slots, one after another, also those under nulls.
+    /// Returns the bytes of all slots, one after another, including null slots.
     pub fn values(&self) -> &Buffer<u8>
         ensures { result.now ≡ bytes_of self.now }
     {
         &self.values
     }
 
-    /// Whether slot i is null.
+    /// Returns whether slot `i` is null.
     pub fn is_null(&self, i: usize) -> bool
         requires { i < len self.now }
         ensures slot { IsTrue result ↔ (slot self.now i ≡ slots.null) }
@@ -145,17 +147,17 @@ impl FixedSizeBinaryArray {
         !validity::is_valid(&self.validity, i)
     }
 
-    /// How many slots are null.
+    /// Returns the number of null slots.
     pub fn null_count(&self) -> usize
         ensures { result ≡ null_count self.now }
     {
         validity::null_count(&self.validity)
     }
 
-    /// The bytes of slot i, which mean nothing where the slot is null.
+    /// Returns the bytes of slot `i`, which have no meaning if the slot is null.
     pub fn value(&self, i: usize) -> &[u8]
         requires { i < len self.now }
-        ensures raw { result.now ≡ cut (bytes_of self.now) (i * size_of (layout_type self.now)) (size_of (layout_type self.now)) }
+        ensures raw { result.now ≡ sublist (bytes_of self.now) (i * size_of (layout_type self.now)) (size_of (layout_type self.now)) }
         ensures slot { slot self.now i ≡ where_valid (validity_of self.now) i (slots.bytes result.now) }
         ensures unmasked { slot (with_validity self.now None) i ≡ slots.bytes result.now }
     {
@@ -165,7 +167,7 @@ impl FixedSizeBinaryArray {
         &values.as_slice()[start..start + self.size]
     }
 
-    /// The bytes of slot i, `None` where it is null.
+    /// Returns the bytes of slot `i`, `None` if it is null.
     pub fn get(&self, i: usize) -> Option<&[u8]>
         requires { i < len self.now }
         ensures { optional (λ x. slots.bytes x.now) result ≡ slot self.now i }
@@ -177,35 +179,37 @@ impl FixedSizeBinaryArray {
         }
     }
 
-    /// Keeps the n slots from place o.
+    /// Slices the array in place to the `n` slots from index `o`.
     pub fn slice(&mut self, o: usize, n: usize)
         requires { o + n ≤ len self.old }
-        ensures { IsCut self.old o n self.new }
+        ensures { IsSlice self.old o n self.new }
     {
         self.cut(o, n);
     }
 
     fn cut(&mut self, o: usize, n: usize)
         requires { o + n ≤ len self.old }
-        ensures { self.new ≡ cut_layout self.old o n }
+        ensures { self.new ≡ slice_layout self.old o n }
     {
         let _bytes = self.values.len();
         self.values.slice(o * self.size, n * self.size);
         validity::slice(&mut self.validity, o, n);
     }
 
-    /// The n slots from place o.
+    /// Returns the slice of `n` slots from index `o`.
     pub fn sliced(self, o: usize, n: usize) -> FixedSizeBinaryArray
         requires { o + n ≤ len self }
-        ensures { IsCut self o n result }
+        ensures { IsSlice self o n result }
     {
         let mut cut = self;
         cut.slice(o, n);
         cut
     }
 
-    /// Takes a new validity. `ValidityLength` where it has not a bit for each slot; the array stays
-    /// as it was then.
+    /// Replaces the validity. On error the array is unchanged.
+    ///
+    /// # Errors
+    /// `ValidityLength` where the validity has another length.
     pub fn set_validity(&mut self, validity: Option<Bitmap>) -> Result<(), Error>
         ensures { MatchResult result
             (λ _. HasValidity self.old validity self.new)
@@ -215,7 +219,10 @@ impl FixedSizeBinaryArray {
         validity::replace(&mut self.validity, validity, count)
     }
 
-    /// The array under a new validity, or as it was beside the refusal.
+    /// Returns the array with another validity.
+    ///
+    /// # Errors
+    /// The unchanged array and the error of `set_validity`.
     pub fn with_validity(
         self,
         validity: Option<Bitmap>,
@@ -231,7 +238,10 @@ impl FixedSizeBinaryArray {
         }
     }
 
-    /// The same array, on shared memory.
+    /// Returns a copy that shares the buffers.
+    ///
+    /// # Errors
+    /// `Memory` where an allocation fails.
     pub fn clone(&self, alloc: Global) -> Result<FixedSizeBinaryArray, Error>
         ensures ok { IfOk result (λ a. a ≡ self.now) }
         ensures err { IsOkUnless result (Memory alloc_error) }
@@ -244,14 +254,17 @@ impl FixedSizeBinaryArray {
         })
     }
 
-    /// The same array in its variant.
+    /// Returns the array in its variant.
     pub fn boxed(self) -> AnyArray
         ensures { layout_of result ≡ self }
     {
         AnyArray::FixedSizeBinary(self)
     }
 
-    /// The same array, owned by what shares it.
+    /// Returns the array in its variant, in an `Rc`.
+    ///
+    /// # Errors
+    /// `Memory` where an allocation fails.
     pub fn arced(self, alloc: Global) -> Result<Rc<AnyArray>, Error>
         ensures ok { IfOk result (λ r. layout_of r.value ≡ self) }
         ensures err { IsOkUnless result (Memory alloc_error) }
@@ -260,30 +273,34 @@ impl FixedSizeBinaryArray {
     }
 }
 
-/// The size that a data type states, 0 where it states none.
+/// Returns the size that a data type states, 0 if it states none.
 fn slot_size(data_type: &DataType) -> usize
     ensures { result ≡ size_of (type_of data_type.now) }
 {
     data_type.size().unwrap_or(0)
 }
 
-/// The first check of an array's parts that fails.
-fn fault(data_type: &DataType, values: &Buffer<u8>, validity: &Option<Bitmap>) -> Option<Error>
+/// Returns the error of the first check that fails, `None` if the parts fit.
+fn first_error(
+    data_type: &DataType,
+    values: &Buffer<u8>,
+    validity: &Option<Bitmap>,
+) -> Option<Error>
     ensures { let parts = layouts.fixed_size_binary (type_of data_type.now) values.now validity.now in
-        MatchOption result (Fits parts) (λ e. FirstFault e parts) }
+        MatchOption result (Fits parts) (λ e. FirstError e parts) }
 {
     if data_type.to_physical_type() != PhysicalType::FixedSizeBinary {
-        return Some(Error::OutOfSpec(Spec::WrongType));
+        return Some(Error::OutOfSpec(SpecError::WrongType));
     }
     let size = slot_size(data_type);
     if size == 0 {
-        return Some(Error::OutOfSpec(Spec::ZeroSize));
+        return Some(Error::OutOfSpec(SpecError::ZeroSize));
     }
     if values.len() % size != 0 {
-        return Some(Error::OutOfSpec(Spec::NotMultiple));
+        return Some(Error::OutOfSpec(SpecError::NotMultiple));
     }
     if !validity::fits(validity, values.len() / size) {
-        return Some(Error::OutOfSpec(Spec::ValidityLength));
+        return Some(Error::OutOfSpec(SpecError::ValidityLength));
     }
     None
 }

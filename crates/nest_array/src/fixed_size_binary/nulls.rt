@@ -1,7 +1,7 @@
-//! Arrays of byte strings of one size that are null, and such arrays without a slot.
+//! Fixed-size binary arrays of nulls, and empty ones.
 ghost use Rattle.std.specs.Prelude.{◌≡◌, IfOk, IsOkUnless, MatchResult, None, alloc_error};
 ghost use Rattle.nest_memory.specs.declared.datatypes.physical_type.PhysicalType.TheVariants as physical;
-ghost use Rattle.nest_model.specs.Nulls.{Fills, empty_fault, fault_of, type_fault};
+ghost use Rattle.nest_model.specs.Nulls.{Fills, empty_error, error_of, type_error};
 ghost use Rattle.nest_model.specs.NullLayout.{null_array as nulls_of};
 ghost use Rattle.nest_array.specs.Words.{AcceptsKind, HasNone, HasNulls, Memory, RefusesKind, physical_type, type_of};
 
@@ -16,35 +16,34 @@ use nest_model::fill::Fill;
 use std::alloc::Global;
 
 impl FixedSizeBinaryArray {
-    /// The array without a slot.
+    /// Returns the array without slots.
     ///
     /// # Errors
-    /// `WrongType` where the physical type isn't `FixedSizeBinary`, then as `new_empty_array`.
+    /// `WrongType` where the physical type is not `FixedSizeBinary`, then those of `new_empty_array`.
     pub fn new_empty(alloc: Global, data_type: DataType) -> Result<FixedSizeBinaryArray, Error>
         ensures { let t = type_of data_type in MatchResult result
-            (λ a. AcceptsKind physical.FixedSizeBinary t (empty_fault t) × HasNone t a)
-            (λ e. RefusesKind e physical.FixedSizeBinary t (empty_fault t)) }
+            (λ a. AcceptsKind physical.FixedSizeBinary t (empty_error t) × HasNone t a)
+            (λ e. RefusesKind e physical.FixedSizeBinary t (empty_error t)) }
     {
         nulls::empty(alloc, data_type)
     }
 
-    /// The array of `length` null slots.
+    /// Returns the array of `length` null slots.
     ///
     /// # Errors
-    /// `WrongType` where the physical type isn't `FixedSizeBinary`, then as `new_null_array`.
+    /// `WrongType` where the physical type is not `FixedSizeBinary`, then those of `new_null_array`.
     pub fn new_null(
         alloc: Global,
         data_type: DataType,
         length: usize,
     ) -> Result<FixedSizeBinaryArray, Error>
-        ensures { let t = type_of data_type in MatchResult result
-            (λ a. AcceptsKind physical.FixedSizeBinary t (type_fault t length) × HasNulls t length a)
-            (λ e. RefusesKind e physical.FixedSizeBinary t (type_fault t length)) }
+        ensures { let k = physical.FixedSizeBinary in let t = type_of data_type in let first = type_error t length in
+            MatchResult result (λ a. AcceptsKind k t first × HasNulls t length a) (λ e. RefusesKind e k t first) }
     {
         nulls::null(alloc, data_type, length)
     }
 
-    /// `length` nulls of a type that was looked at.
+    /// Returns the array of `length` null slots of a checked type.
     pub(crate) fn nulls(
         alloc: Global,
         data_type: &DataType,
@@ -52,7 +51,7 @@ impl FixedSizeBinaryArray {
         fill: Fill,
     ) -> Result<FixedSizeBinaryArray, Error>
         requires kind { physical_type (type_of data_type.now) ≡ physical.FixedSizeBinary }
-        requires unrefused { fault_of (type_of data_type.now) length fill ≡ None }
+        requires unrefused { error_of (type_of data_type.now) length fill ≡ None }
         requires valid { Fills fill length }
         ensures ok { IfOk result (λ a. a ≡ nulls_of (type_of data_type.now) length fill) }
         ensures err { IsOkUnless result (Memory alloc_error) }

@@ -1,4 +1,4 @@
-//! Arrays of byte strings of one size from rows, and under other data types.
+//! Fixed-size binary arrays from rows, and with other data types.
 ghost use Rattle.std.specs.Prelude.{◌≡◌, ◌⊎◌, ◌↔◌, ◌*◌, ◌≤◌, ◌<◌, ◌^◌, IfOk, IfErr, IsErrOf, IsOkUnless, None, length, map, alloc_error};
 ghost use Rattle.std.specs.List.{concat, All};
 ghost use Rattle.nest_memory.specs.declared.datatypes.physical_type.PhysicalType.TheVariants as physical;
@@ -16,17 +16,17 @@ use nest_memory::error::Error;
 use std::alloc::Global;
 
 impl FixedSizeBinaryArray {
-    /// The type of byte strings of this size.
+    /// Returns the fixed-size binary type of a size.
     pub fn default_datatype(size: usize) -> DataType
         ensures { type_of result ≡ types.fixed_size_binary size }
     {
         DataType::FixedSizeBinary(size)
     }
 
-    /// The array of these rows, of which none is null.
+    /// Returns the array of these rows, without nulls.
     ///
     /// # Errors
-    /// `Overflow` where there are 2^64 bytes or more, `Memory` where there is no room for them.
+    /// `Overflow` where the rows have 2^64 bytes or more, `Memory` where an allocation fails.
     pub fn from_slice<const N: usize>(
         alloc: Global,
         rows: &[[u8; N]],
@@ -45,7 +45,7 @@ impl FixedSizeBinaryArray {
         Ok(FixedSizeBinaryArray::new(data_type, values, None))
     }
 
-    /// The same slots under another data type, a fixed-size binary of the same size or an extension of one.
+    /// Returns the array with another data type: fixed-size binary of the same size, or an extension of it.
     pub fn to(self, data_type: DataType) -> FixedSizeBinaryArray
         requires kind { physical_type (type_of data_type) ≡ physical.FixedSizeBinary }
         requires same_size { size_of (type_of data_type) ≡ size_of (layout_type self) }
@@ -69,7 +69,7 @@ impl FixedSizeBinaryArray {
     }
 }
 
-/// The bytes of the rows, one row after another.
+/// Returns the concatenated bytes of the rows.
 fn joined<const N: usize>(alloc: Global, rows: &[[u8; N]]) -> Result<Buffer<u8>, Error>
     ensures ok { IfOk result (λ b. b ≡ concat rows.now) }
     ensures each { IfOk result (λ _. All (λ row. length row ≡ N) rows.now) }
@@ -82,7 +82,7 @@ fn joined<const N: usize>(alloc: Global, rows: &[[u8; N]]) -> Result<Buffer<u8>,
     Buffer::from_vec(alloc, bytes)
 }
 
-/// The bytes of a row.
+/// Returns the bytes of a row.
 pub(crate) fn bytes_of<const N: usize>(row: &[u8; N]) -> &[u8]
     ensures bytes { result.now ≡ row.now }
     ensures count { length result.now ≡ N }

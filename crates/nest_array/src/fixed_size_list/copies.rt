@@ -1,4 +1,4 @@
-//! New validities and copies of arrays of lists of one size.
+//! Validity and copies of `FixedSizeListArray`.
 ghost use Rattle.std.specs.Prelude.{◌≡◌, IfOk, IsOkUnless, MatchResult, alloc_error};
 ghost use Rattle.nest_model.specs.Layout as layouts;
 ghost use Rattle.nest_array.specs.Words.{HasValidity, Memory, RefusesValidity, TopFits, layout_of, type_of, with_validity};
@@ -13,8 +13,10 @@ use std::alloc::Global;
 use std::rc::Rc;
 
 impl FixedSizeListArray {
-    /// Takes a new validity. `ValidityLength` where it has not a bit for each slot; the array stays
-    /// as it was then.
+    /// Replaces the validity.
+    ///
+    /// # Errors
+    /// `ValidityLength` if `validity` does not have one bit per slot. The array is unchanged then.
     pub fn set_validity(&mut self, validity: Option<Bitmap>) -> Result<(), Error>
         ensures { MatchResult result
             (λ _. HasValidity self.old validity self.new)
@@ -24,7 +26,7 @@ impl FixedSizeListArray {
         validity::replace(&mut self.validity, validity, count)
     }
 
-    /// The array under a new validity, or as it was beside the refusal.
+    /// Returns the array with this validity, or the unchanged array with the error of `set_validity`.
     pub fn with_validity(
         self,
         validity: Option<Bitmap>,
@@ -40,7 +42,10 @@ impl FixedSizeListArray {
         }
     }
 
-    /// The same array, on shared memory.
+    /// Returns a copy of the array that shares its memory.
+    ///
+    /// # Errors
+    /// `Memory` if an allocation fails.
     #[cycle(clone)]
     pub fn clone(&self, alloc: Global) -> Result<FixedSizeListArray, Error>
         ensures ok { IfOk result (λ a. a ≡ self.now) }
@@ -51,7 +56,7 @@ impl FixedSizeListArray {
         FixedSizeListArray::again(alloc, &self.data_type, values, &self.validity)
     }
 
-    // The array of a type and a validity that are shared, and of items.
+    // Returns the array of a type and a validity that are shared, and of these values.
     fn again(
         alloc: Global,
         data_type: &DataType,
@@ -79,14 +84,17 @@ impl FixedSizeListArray {
         }
     }
 
-    /// The same array in its variant.
+    /// Returns the array as an `AnyArray`.
     pub fn boxed(self) -> AnyArray
         ensures { layout_of result ≡ self }
     {
         AnyArray::FixedSizeList(self)
     }
 
-    /// The same array, owned by what shares it.
+    /// Returns the array as an `AnyArray` in an `Rc`.
+    ///
+    /// # Errors
+    /// `Memory` if the allocation fails.
     pub fn arced(self, alloc: Global) -> Result<Rc<AnyArray>, Error>
         ensures ok { IfOk result (λ r. layout_of r.value ≡ self) }
         ensures err { IsOkUnless result (Memory alloc_error) }

@@ -1,4 +1,4 @@
-//! Arrays of lists of one size.
+//! Fixed-size list arrays.
 mod copies;
 mod nulls;
 
@@ -7,7 +7,7 @@ ghost use Rattle.nest_model.specs.Layout as layouts;
 ghost use Rattle.nest_model.specs.Slot as slots;
 ghost use Rattle.nest_flat.specs.FlatParts.{optional};
 ghost use Rattle.nest_array.specs.Types.{default_fixed_size_list_type};
-ghost use Rattle.nest_array.specs.Words.{FirstFault, Fits, IsCut, Memory, RefusesOrMemory, TopFits, child_of, cut, cut_layout, is_null_at, layout_of, layout_type, len, null_count, seal, size_of, slot, slots_of, type_of, validity_of, where_valid, window_parts, window_slots};
+ghost use Rattle.nest_array.specs.Words.{FirstError, Fits, IsSlice, Memory, RefusesOrMemory, TopFits, child_of, sublist, slice_layout, is_null_at, layout_of, layout_type, len, null_count, seal, size_of, slot, slots_of, type_of, validity_of, where_valid, window_parts, window_slots};
 
 use crate::any::AnyArray;
 use crate::types::{default_child, has_items};
@@ -16,11 +16,11 @@ use nest_flat::validity;
 use nest_memory::bitmap::immutable::Bitmap;
 use nest_memory::datatypes::DataType;
 use nest_memory::datatypes::physical_type::PhysicalType;
-use nest_memory::error::{Error, Spec};
+use nest_memory::error::{Error, SpecError};
 use std::alloc::Global;
 use std::marker::Model;
 
-/// Lists of as many items each: the Fixed-Size List Layout of the Arrow format.
+/// An array of lists of one length: the Fixed-Size List Layout of the Arrow format.
 #[cycle(array)]
 #[derive(Drop)]
 pub struct FixedSizeListArray {
@@ -59,13 +59,16 @@ impl Model for FixedSizeListArray {
 }
 
 impl FixedSizeListArray {
-    /// The array of these parts.
+    /// Returns the array with these parts.
     ///
     /// # Errors
-    /// `WrongType` where the physical type isn't `FixedSizeList`, `ZeroSize` where its size is 0, `ChildType` where the
-    /// items have another data type than its field, `NotMultiple` where they are no multiple of the size,
-    /// `ValidityLength` where the validity has another length: the first of these. Then `Memory`, for the box of
-    /// the items.
+    /// The first that applies:
+    /// - `WrongType` if the physical type is not `FixedSizeList`.
+    /// - `ZeroSize` if the size in the data type is 0.
+    /// - `ChildType` if the data type of `values` is not that of the field.
+    /// - `NotMultiple` if the length of `values` is not a multiple of the size.
+    /// - `ValidityLength` if the validity does not have one bit per slot.
+    /// - `Memory` if an allocation fails.
     pub fn try_new(
         alloc: Global,
         data_type: DataType,
@@ -75,7 +78,7 @@ impl FixedSizeListArray {
         ensures { let parts = layouts.fixed_size_list (type_of data_type) (layout_of values) validity in
             MatchResult result (λ a. Fits parts × (a ≡ parts)) (λ e. RefusesOrMemory e parts) }
     {
-        if let Some(error) = fault(&data_type, &values, &validity) {
+        if let Some(error) = first_error(&data_type, &values, &validity) {
             drop(validity);
             drop(values);
             drop(data_type);
@@ -84,7 +87,10 @@ impl FixedSizeListArray {
         FixedSizeListArray::of(alloc, data_type, values, validity)
     }
 
-    /// The array of parts that fit. `Memory` alone is refused.
+    /// Returns the array with these parts.
+    ///
+    /// # Errors
+    /// `Memory` if an allocation fails.
     pub fn new(
         alloc: Global,
         data_type: DataType,
@@ -98,7 +104,7 @@ impl FixedSizeListArray {
         FixedSizeListArray::of(alloc, data_type, values, validity)
     }
 
-    // The array of parts that were checked.
+    // Returns the array with parts that are already checked.
     fn of(
         alloc: Global,
         data_type: DataType,
@@ -127,7 +133,10 @@ impl FixedSizeListArray {
         }
     }
 
-    /// The type of lists of so many such items: the field is named "item" and nullable.
+    /// Returns the type of lists of `size` items. Their field is nullable and named "item".
+    ///
+    /// # Errors
+    /// `Memory` if an allocation fails.
     pub fn default_datatype(
         alloc: Global,
         data_type: DataType,
@@ -140,7 +149,7 @@ impl FixedSizeListArray {
         Ok(DataType::FixedSizeList(Box::new(alloc, field)?, size))
     }
 
-    /// What holds of every such array.
+    /// States the invariant of every such array. It does nothing at run time.
     pub fn known(&self)
         ensures fits { TopFits self.now }
         ensures kind { self.now ≡ layouts.fixed_size_list (layout_type self.now) (child_of self.now) (validity_of self.now) }
@@ -148,21 +157,21 @@ impl FixedSizeListArray {
         let _ = &self.data_type;
     }
 
-    /// How many slots it has.
+    /// Returns the number of slots.
     pub fn len(&self) -> usize
         ensures { result ≡ len self.now }
     {
         self.count
     }
 
-    /// Its data type.
+    /// Returns the data type.
     pub fn data_type(&self) -> &DataType
         ensures { type_of result.now ≡ layout_type self.now }
     {
         &self.data_type
     }
 
-    /// How many items each slot has.
+    /// Returns the number of items per slot.
     pub fn size(&self) -> usize
         ensures size { result ≡ size_of (layout_type self.now) }
         ensures some { 0 < result }
@@ -170,21 +179,21 @@ impl FixedSizeListArray {
         self.size
     }
 
-    /// The items of all slots.
+    /// Returns the items of all slots.
     pub fn values(&self) -> &AnyArray
         ensures { layout_of result.now ≡ child_of self.now }
     {
         &self.values
     }
 
-    /// Which slots are valid, a bit a slot; without it all are.
+    /// Returns the validity, one bit per slot. Without a validity all slots are valid.
     pub fn validity(&self) -> Option<&Bitmap>
         ensures { option_map (λ b. b.now) result ≡ validity_of self.now }
     {
         self.validity.as_ref()
     }
 
-    /// Whether slot i is null.
+    /// Returns whether slot `i` is null.
     pub fn is_null(&self, i: usize) -> bool
         requires { i < len self.now }
         ensures slot { IsTrue result ↔ (slot self.now i ≡ slots.null) }
@@ -193,14 +202,14 @@ impl FixedSizeListArray {
         !validity::is_valid(&self.validity, i)
     }
 
-    /// How many slots are null.
+    /// Returns the number of null slots.
     pub fn null_count(&self) -> usize
         ensures { result ≡ null_count self.now }
     {
         validity::null_count(&self.validity)
     }
 
-    /// Where the items of slot i begin.
+    /// Returns the offset of the items of slot `i`.
     pub(crate) fn start(&self, i: usize) -> usize
         requires { i < len self.now }
         ensures start { result ≡ i * size_of (layout_type self.now) }
@@ -210,10 +219,13 @@ impl FixedSizeListArray {
         i * self.size
     }
 
-    /// The items of slot i, also under a null.
+    /// Returns the items of slot `i`, even if the slot is null.
+    ///
+    /// # Errors
+    /// `Memory` if an allocation fails.
     pub fn value(&self, alloc: Global, i: usize) -> Result<AnyArray, Error>
         requires { i < len self.now }
-        ensures parts { IfOk result (λ a. layout_of a ≡ cut_layout (child_of self.now) (i * size_of (layout_type self.now)) (size_of (layout_type self.now))) }
+        ensures parts { IfOk result (λ a. layout_of a ≡ slice_layout (child_of self.now) (i * size_of (layout_type self.now)) (size_of (layout_type self.now))) }
         ensures items { IfOk result (λ a. slot self.now i ≡ where_valid (validity_of self.now) i (slots.list (seal (slots_of (layout_of a))))) }
         ensures err { IsOkUnless result (Memory alloc_error) }
     {
@@ -221,7 +233,10 @@ impl FixedSizeListArray {
         self.values.part(alloc, start, self.size)
     }
 
-    /// The items of slot i, `None` where it is null.
+    /// Returns the items of slot `i`, or `None` if the slot is null.
+    ///
+    /// # Errors
+    /// `Memory` if an allocation fails.
     pub fn get(&self, alloc: Global, i: usize) -> Result<Option<AnyArray>, Error>
         requires { i < len self.now }
         ensures ok { IfOk result (λ items. optional (λ a. slots.list (seal (slots_of (layout_of a)))) items ≡ slot self.now i) }
@@ -233,7 +248,7 @@ impl FixedSizeListArray {
         Ok(Some(self.value(alloc, i)?))
     }
 
-    /// The items of slot i, also under a null, borrowed.
+    /// Returns a window over the items of slot `i`, even if the slot is null.
     pub fn window(&self, i: usize) -> Window<'_>
         requires { i < len self.now }
         ensures parts { result ≡ window_parts (child_of self.now) (i * size_of (layout_type self.now)) (size_of (layout_type self.now)) }
@@ -244,10 +259,10 @@ impl FixedSizeListArray {
         Window::new(values, start, self.size)
     }
 
-    /// Keeps the n slots from place o.
+    /// Keeps `n` slots from index `o`.
     pub fn slice(&mut self, o: usize, n: usize)
         requires { o + n ≤ len self.old }
-        ensures { IsCut self.old o n self.new }
+        ensures { IsSlice self.old o n self.new }
     {
         self.cut(o, n);
     }
@@ -255,7 +270,7 @@ impl FixedSizeListArray {
     #[cycle(cut)]
     pub(crate) fn cut(&mut self, o: usize, n: usize)
         requires { o + n ≤ len self.old }
-        ensures { self.new ≡ cut_layout self.old o n }
+        ensures { self.new ≡ slice_layout self.old o n }
     {
         let _items = self.values.len();
         self.values.cut(o * self.size, n * self.size);
@@ -263,10 +278,10 @@ impl FixedSizeListArray {
         validity::slice(&mut self.validity, o, n);
     }
 
-    /// The n slots from place o.
+    /// Returns the slice of `n` slots from index `o`.
     pub fn sliced(self, o: usize, n: usize) -> FixedSizeListArray
         requires { o + n ≤ len self }
-        ensures { IsCut self o n result }
+        ensures { IsSlice self o n result }
     {
         let mut cut = self;
         cut.slice(o, n);
@@ -274,27 +289,27 @@ impl FixedSizeListArray {
     }
 }
 
-/// The first check of an array's parts that fails.
-fn fault(data_type: &DataType, values: &AnyArray, validity: &Option<Bitmap>) -> Option<Error>
+/// Returns the error of the first check of the parts that fails.
+fn first_error(data_type: &DataType, values: &AnyArray, validity: &Option<Bitmap>) -> Option<Error>
     ensures { let parts = layouts.fixed_size_list (type_of data_type.now) (layout_of values.now) validity.now in
-        MatchOption result (Fits parts) (λ e. FirstFault e parts) }
+        MatchOption result (Fits parts) (λ e. FirstError e parts) }
 {
     if data_type.to_physical_type() != PhysicalType::FixedSizeList {
-        return Some(Error::OutOfSpec(Spec::WrongType));
+        return Some(Error::OutOfSpec(SpecError::WrongType));
     }
     let size = data_type.size().unwrap_or(0);
     if size == 0 {
-        return Some(Error::OutOfSpec(Spec::ZeroSize));
+        return Some(Error::OutOfSpec(SpecError::ZeroSize));
     }
     if !has_items(data_type, values.data_type()) {
-        return Some(Error::OutOfSpec(Spec::ChildType));
+        return Some(Error::OutOfSpec(SpecError::ChildType));
     }
     let items = values.len();
     if items % size != 0 {
-        return Some(Error::OutOfSpec(Spec::NotMultiple));
+        return Some(Error::OutOfSpec(SpecError::NotMultiple));
     }
     if !validity::fits(validity, items / size) {
-        return Some(Error::OutOfSpec(Spec::ValidityLength));
+        return Some(Error::OutOfSpec(SpecError::ValidityLength));
     }
     None
 }

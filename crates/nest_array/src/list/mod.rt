@@ -1,4 +1,4 @@
-//! Arrays of lists.
+//! List arrays.
 mod copies;
 mod data_type;
 pub mod large;
@@ -9,7 +9,7 @@ pub(crate) mod ranges;
 ghost use Rattle.std.specs.Prelude.{◌≡◌, ◌+◌, ◌≤◌, ◌<◌, ◌↔◌, false, IsTrue, IfOk, IsOkUnless, MatchResult, option_map, alloc_error};
 ghost use Rattle.nest_model.specs.Layout as layouts;
 ghost use Rattle.nest_model.specs.Slot as slots;
-ghost use Rattle.nest_array.specs.Words.{Fits, IsCut, Memory, RefusesOrMemory, TopFits, begin, child_of, cut, cut_layout, extent, is_null_at, layout_of, layout_type, len, null_count, offsets_of, seal, slot, slots_of, type_of, validity_of, where_valid, window_parts, window_slots};
+ghost use Rattle.nest_array.specs.Words.{Fits, IsSlice, Memory, RefusesOrMemory, TopFits, begin, child_of, sublist, slice_layout, extent, is_null_at, layout_of, layout_type, len, null_count, offsets_of, seal, slot, slots_of, type_of, validity_of, where_valid, window_parts, window_slots};
 
 use crate::any::AnyArray;
 use crate::list::ranges::Ranges;
@@ -23,7 +23,7 @@ use std::alloc::Global;
 use std::marker::Model;
 use std::rc::Rc;
 
-/// Lists of items of any kind, by offsets of 32 bits: the Variable-size List Layout of the Arrow format.
+/// An array of lists by 32-bit offsets: the Variable-size List Layout of the Arrow format.
 #[cycle(array)]
 #[derive(Drop)]
 pub struct ListArray {
@@ -56,12 +56,15 @@ impl Model for ListArray {
 }
 
 impl ListArray {
-    /// The array of these parts.
+    /// Returns the array with these parts.
     ///
     /// # Errors
-    /// `OffsetPastChild` where the last offset is past the items, `ValidityLength` where the validity has another
-    /// length, `WrongType` where the physical type isn't `List`, `ChildType` where the items have another data type than
-    /// its field: the first of these. Then `Memory`, for the box of the items.
+    /// The first that applies:
+    /// - `OffsetPastChild` if the last offset is past the end of `values`.
+    /// - `ValidityLength` if the validity does not have one bit per slot.
+    /// - `WrongType` if the physical type is not `List`.
+    /// - `ChildType` if the data type of `values` is not that of the field.
+    /// - `Memory` if an allocation fails.
     pub fn try_new(
         alloc: Global,
         data_type: DataType,
@@ -73,7 +76,7 @@ impl ListArray {
             MatchResult result (λ a. Fits parts × (a ≡ parts)) (λ e. RefusesOrMemory e parts) }
     {
         let ranges = Ranges { offsets, validity };
-        if let Some(error) = ranges::fault(&data_type, &ranges, &values) {
+        if let Some(error) = ranges::first_error(&data_type, &ranges, &values) {
             drop(values);
             drop(ranges);
             drop(data_type);
@@ -82,7 +85,10 @@ impl ListArray {
         ListArray::of(alloc, data_type, ranges, values)
     }
 
-    /// The array of parts that fit. `Memory` alone is refused.
+    /// Returns the array with these parts.
+    ///
+    /// # Errors
+    /// `Memory` if an allocation fails.
     pub fn new(
         alloc: Global,
         data_type: DataType,
@@ -98,7 +104,7 @@ impl ListArray {
         ListArray::of(alloc, data_type, Ranges { offsets, validity }, values)
     }
 
-    // The array of parts that were checked.
+    // Returns the array with parts that are already checked.
     fn of(
         alloc: Global,
         data_type: DataType,
@@ -123,7 +129,7 @@ impl ListArray {
         }
     }
 
-    /// What holds of every such array.
+    /// States the invariant of every such array. It does nothing at run time.
     pub fn known(&self)
         ensures fits { TopFits self.now }
         ensures kind { self.now ≡ layouts.list false (layout_type self.now) (offsets_of self.now) (child_of self.now) (validity_of self.now) }
@@ -131,42 +137,42 @@ impl ListArray {
         let _ = &self.data_type;
     }
 
-    /// How many slots it has.
+    /// Returns the number of slots.
     pub fn len(&self) -> usize
         ensures { result ≡ len self.now }
     {
         self.ranges.len()
     }
 
-    /// Its data type.
+    /// Returns the data type.
     pub fn data_type(&self) -> &DataType
         ensures { type_of result.now ≡ layout_type self.now }
     {
         &self.data_type
     }
 
-    /// Its offsets, one more than slots.
+    /// Returns the offsets, one more than slots.
     pub fn offsets(&self) -> &OffsetsBuffer<i32>
         ensures { result.now ≡ offsets_of self.now }
     {
         &self.ranges.offsets
     }
 
-    /// The items of all slots.
+    /// Returns the items of all slots.
     pub fn values(&self) -> &AnyArray
         ensures { layout_of result.now ≡ child_of self.now }
     {
         &self.values
     }
 
-    /// Which slots are valid, a bit a slot; without it all are.
+    /// Returns the validity, one bit per slot. Without a validity all slots are valid.
     pub fn validity(&self) -> Option<&Bitmap>
         ensures { option_map (λ b. b.now) result ≡ validity_of self.now }
     {
         self.ranges.validity.as_ref()
     }
 
-    /// Whether slot i is null.
+    /// Returns whether slot `i` is null.
     pub fn is_null(&self, i: usize) -> bool
         requires { i < len self.now }
         ensures slot { IsTrue result ↔ (slot self.now i ≡ slots.null) }
@@ -175,14 +181,14 @@ impl ListArray {
         !validity::is_valid(&self.ranges.validity, i)
     }
 
-    /// How many slots are null.
+    /// Returns the number of null slots.
     pub fn null_count(&self) -> usize
         ensures { result ≡ null_count self.now }
     {
         validity::null_count(&self.ranges.validity)
     }
 
-    /// Where the items of slot i begin, and how many there are.
+    /// Returns the offset and the number of the items of slot `i`.
     pub(crate) fn range(&self, i: usize) -> (usize, usize)
         requires { i < len self.now }
         ensures start { result.0 ≡ begin (offsets_of self.now) i }
@@ -192,10 +198,13 @@ impl ListArray {
         self.ranges.range(i)
     }
 
-    /// The items of slot i, also under a null.
+    /// Returns the items of slot `i`, even if the slot is null.
+    ///
+    /// # Errors
+    /// `Memory` if an allocation fails.
     pub fn value(&self, alloc: Global, i: usize) -> Result<AnyArray, Error>
         requires { i < len self.now }
-        ensures parts { IfOk result (λ a. layout_of a ≡ cut_layout (child_of self.now) (begin (offsets_of self.now) i) (extent (offsets_of self.now) i)) }
+        ensures parts { IfOk result (λ a. layout_of a ≡ slice_layout (child_of self.now) (begin (offsets_of self.now) i) (extent (offsets_of self.now) i)) }
         ensures items { IfOk result (λ a. slot self.now i ≡ where_valid (validity_of self.now) i (slots.list (seal (slots_of (layout_of a))))) }
         ensures err { IsOkUnless result (Memory alloc_error) }
     {
@@ -204,7 +213,7 @@ impl ListArray {
         values.part(alloc, start, count)
     }
 
-    /// The items of slot i, also under a null, borrowed.
+    /// Returns a window over the items of slot `i`, even if the slot is null.
     pub fn window(&self, i: usize) -> Window<'_>
         requires { i < len self.now }
         ensures parts { result ≡ window_parts (child_of self.now) (begin (offsets_of self.now) i) (extent (offsets_of self.now) i) }
@@ -215,25 +224,25 @@ impl ListArray {
         Window::new(values, start, count)
     }
 
-    /// Keeps the n slots from place o.
+    /// Keeps `n` slots from index `o`.
     pub fn slice(&mut self, o: usize, n: usize)
         requires { o + n ≤ len self.old }
-        ensures { IsCut self.old o n self.new }
+        ensures { IsSlice self.old o n self.new }
     {
         self.cut(o, n);
     }
 
     fn cut(&mut self, o: usize, n: usize)
         requires { o + n ≤ len self.old }
-        ensures { self.new ≡ cut_layout self.old o n }
+        ensures { self.new ≡ slice_layout self.old o n }
     {
         self.ranges.slice(o, n);
     }
 
-    /// The n slots from place o.
+    /// Returns the slice of `n` slots from index `o`.
     pub fn sliced(self, o: usize, n: usize) -> ListArray
         requires { o + n ≤ len self }
-        ensures { IsCut self o n result }
+        ensures { IsSlice self o n result }
     {
         let mut cut = self;
         cut.slice(o, n);

@@ -1,4 +1,4 @@
-//! The offsets of lists, and the arrays that they make.
+//! List arrays by the type of their offsets.
 ghost use Rattle.std.specs.Prelude.{◌≡◌, ℕ, List as Seq, MatchResult};
 ghost use Rattle.nest_model.specs.Layout as layouts;
 ghost use Rattle.nest_array.specs.Words.{Fits, RefusesOrMemory, layout_of, type_of};
@@ -14,17 +14,20 @@ use nest_memory::offset::Offset;
 use nest_memory::offsets::OffsetsBuffer;
 use std::alloc::Global;
 
-/// An offset by which lists are made: of 32 bits those of a `ListArray`, of 64 bits those of a `LargeListArray`.
+/// An offset type of list arrays: `i32` of `ListArray`, `i64` of `LargeListArray`.
 pub trait ListOffset: Offset {
     /// `OffsetsBuffer<Self>`.
     type Buffer;
 
-    /// The array of lists by such offsets.
+    /// The type of list arrays with these offsets.
     type List: Array;
 
     ghost offsets_of_buffer: { Self.Buffer → Seq ℕ };
 
-    /// The array of these parts: its `try_new`.
+    /// Returns the array with these parts.
+    ///
+    /// # Errors
+    /// The errors of its `try_new`.
     fn list(
         alloc: Global,
         data_type: DataType,
@@ -32,10 +35,10 @@ pub trait ListOffset: Offset {
         values: AnyArray,
         validity: Option<Bitmap>,
     ) -> Result<Self::List, Error>
-        ensures { let parts = layouts.list Self.IS_LARGE (type_of data_type) (offsets_of_buffer offsets) (layout_of values) validity in
-            MatchResult result (λ a. Fits parts × (Self.List.layout a ≡ parts)) (λ e. RefusesOrMemory e parts) };
+        ensures { let l = layouts.list Self.IS_LARGE (type_of data_type) (offsets_of_buffer offsets) (layout_of values) validity in
+            MatchResult result (λ a. Fits l × (Self.List.layout a ≡ l)) (λ e. RefusesOrMemory e l) };
 
-    /// The same array in its variant.
+    /// Returns the array as an `AnyArray`.
     fn any(list: Self::List) -> AnyArray
         ensures { layout_of result ≡ Self.List.layout list };
 }

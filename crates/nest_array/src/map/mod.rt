@@ -1,4 +1,4 @@
-//! Arrays of maps: lists of pairs of a key and a value.
+//! Map arrays: lists of key-value entries.
 mod copies;
 mod nulls;
 
@@ -6,7 +6,7 @@ ghost use Rattle.std.specs.Prelude.{◌≡◌, ◌+◌, ◌≤◌, ◌<◌, ◌�
 ghost use Rattle.nest_model.specs.Array.{AreOffsets};
 ghost use Rattle.nest_model.specs.Layout as layouts;
 ghost use Rattle.nest_model.specs.Slot as slots;
-ghost use Rattle.nest_array.specs.Words.{FirstFault, Fits, IsCut, Memory, RefusesOrMemory, TopFits, begin, child_of, cut, cut_layout, extent, is_null_at, layout_of, layout_type, len, null_count, offsets_of, seal, slot, slots_of, type_of, validity_of, where_valid, window_parts, window_slots};
+ghost use Rattle.nest_array.specs.Words.{FirstError, Fits, IsSlice, Memory, RefusesOrMemory, TopFits, begin, child_of, slice_layout, extent, is_null_at, layout_of, layout_type, len, null_count, offsets_of, seal, slot, slots_of, type_of, validity_of, where_valid, window_parts, window_slots};
 
 use crate::any::AnyArray;
 use crate::list::ranges::Ranges;
@@ -16,14 +16,14 @@ use nest_flat::validity;
 use nest_memory::bitmap::immutable::Bitmap;
 use nest_memory::datatypes::DataType;
 use nest_memory::datatypes::physical_type::PhysicalType;
-use nest_memory::error::{Argument, Error, Spec};
+use nest_memory::error::{ArgumentError, Error, SpecError};
 use nest_memory::offsets::OffsetsBuffer;
 use std::alloc::Global;
 use std::marker::Model;
 use std::rc::Rc;
 
-/// Lists of entries, each a record of a key and a value, by offsets of 32 bits: the Variable-size List Layout of the
-/// Arrow format, under the type `Map` of its schema.
+/// An array of maps: lists of entries by 32-bit offsets, each entry a struct of a key and a value.
+/// It has the Variable-size List Layout of the Arrow format, and the type `Map` of `Schema.fbs`.
 #[cycle(array)]
 #[derive(Drop)]
 pub struct MapArray {
@@ -56,13 +56,16 @@ impl Model for MapArray {
 }
 
 impl MapArray {
-    /// The array of these parts.
+    /// Returns the array with these parts.
     ///
     /// # Errors
-    /// `OffsetPastChild` where the last offset is past the entries, `WrongType` where the physical type isn't `Map`,
-    /// `MapInner` where the type of its entries is no struct of two fields, an extension of one neither, `ChildType` (an
-    /// `InvalidArgumentError`) where the entries have another data type than that, `ValidityLength` where the validity has
-    /// another length than the slots: the first of these. Then `Memory`, for the box of the entries.
+    /// The first that applies:
+    /// - `OffsetPastChild` if the last offset is past the end of `field`.
+    /// - `WrongType` if the physical type is not `Map`.
+    /// - `MapInner` if the entries' type is not a struct of two fields; an extension type of one is an error too.
+    /// - `ChildType` (as an `InvalidArgumentError`) if the data type of `field` is not the entries' type.
+    /// - `ValidityLength` if the validity does not have one bit per slot.
+    /// - `Memory` if an allocation fails.
     pub fn try_new(
         alloc: Global,
         data_type: DataType,
@@ -74,7 +77,7 @@ impl MapArray {
             MatchResult result (λ a. Fits parts × (a ≡ parts)) (λ e. RefusesOrMemory e parts) }
     {
         let ranges = Ranges { offsets, validity };
-        if let Some(error) = fault(&data_type, &ranges, &field) {
+        if let Some(error) = first_error(&data_type, &ranges, &field) {
             drop(field);
             drop(ranges);
             drop(data_type);
@@ -83,7 +86,10 @@ impl MapArray {
         MapArray::of(alloc, data_type, ranges, field)
     }
 
-    /// The array of parts that fit. `Memory` alone is refused.
+    /// Returns the array with these parts.
+    ///
+    /// # Errors
+    /// `Memory` if an allocation fails.
     pub fn new(
         alloc: Global,
         data_type: DataType,
@@ -99,7 +105,7 @@ impl MapArray {
         MapArray::of(alloc, data_type, Ranges { offsets, validity }, field)
     }
 
-    // The array of parts that were checked.
+    // Returns the array with parts that are already checked.
     fn of(
         alloc: Global,
         data_type: DataType,
@@ -124,7 +130,7 @@ impl MapArray {
         }
     }
 
-    /// What holds of every such array.
+    /// States the invariant of every such array. It does nothing at run time.
     pub fn known(&self)
         ensures fits { TopFits self.now }
         ensures kind { self.now ≡ layouts.map (layout_type self.now) (offsets_of self.now) (child_of self.now) (validity_of self.now) }
@@ -132,42 +138,42 @@ impl MapArray {
         let _ = &self.data_type;
     }
 
-    /// How many slots it has.
+    /// Returns the number of slots.
     pub fn len(&self) -> usize
         ensures { result ≡ len self.now }
     {
         self.ranges.len()
     }
 
-    /// Its data type.
+    /// Returns the data type.
     pub fn data_type(&self) -> &DataType
         ensures { type_of result.now ≡ layout_type self.now }
     {
         &self.data_type
     }
 
-    /// Its offsets, one more than slots.
+    /// Returns the offsets, one more than slots.
     pub fn offsets(&self) -> &OffsetsBuffer<i32>
         ensures { result.now ≡ offsets_of self.now }
     {
         &self.ranges.offsets
     }
 
-    /// The entries of all slots, an array of structs.
+    /// Returns the entries of all slots, an array of structs.
     pub fn field(&self) -> &AnyArray
         ensures { layout_of result.now ≡ child_of self.now }
     {
         &self.field
     }
 
-    /// Which slots are valid, a bit a slot; without it all are.
+    /// Returns the validity, one bit per slot. Without a validity all slots are valid.
     pub fn validity(&self) -> Option<&Bitmap>
         ensures { option_map (λ b. b.now) result ≡ validity_of self.now }
     {
         self.ranges.validity.as_ref()
     }
 
-    /// Whether slot i is null.
+    /// Returns whether slot `i` is null.
     pub fn is_null(&self, i: usize) -> bool
         requires { i < len self.now }
         ensures slot { IsTrue result ↔ (slot self.now i ≡ slots.null) }
@@ -176,14 +182,14 @@ impl MapArray {
         !validity::is_valid(&self.ranges.validity, i)
     }
 
-    /// How many slots are null.
+    /// Returns the number of null slots.
     pub fn null_count(&self) -> usize
         ensures { result ≡ null_count self.now }
     {
         validity::null_count(&self.ranges.validity)
     }
 
-    /// Where the entries of slot i begin, and how many there are.
+    /// Returns the offset and the number of the entries of slot `i`.
     pub(crate) fn range(&self, i: usize) -> (usize, usize)
         requires { i < len self.now }
         ensures start { result.0 ≡ begin (offsets_of self.now) i }
@@ -193,10 +199,13 @@ impl MapArray {
         self.ranges.range(i)
     }
 
-    /// The entries of slot i, also under a null.
+    /// Returns the entries of slot `i`, even if the slot is null.
+    ///
+    /// # Errors
+    /// `Memory` if an allocation fails.
     pub fn value(&self, alloc: Global, i: usize) -> Result<AnyArray, Error>
         requires { i < len self.now }
-        ensures parts { IfOk result (λ a. layout_of a ≡ cut_layout (child_of self.now) (begin (offsets_of self.now) i) (extent (offsets_of self.now) i)) }
+        ensures parts { IfOk result (λ a. layout_of a ≡ slice_layout (child_of self.now) (begin (offsets_of self.now) i) (extent (offsets_of self.now) i)) }
         ensures items { IfOk result (λ a. slot self.now i ≡ where_valid (validity_of self.now) i (slots.list (seal (slots_of (layout_of a))))) }
         ensures err { IsOkUnless result (Memory alloc_error) }
     {
@@ -205,7 +214,7 @@ impl MapArray {
         field.part(alloc, start, count)
     }
 
-    /// The entries of slot i, also under a null, borrowed.
+    /// Returns a window over the entries of slot `i`, even if the slot is null.
     pub fn window(&self, i: usize) -> Window<'_>
         requires { i < len self.now }
         ensures parts { result ≡ window_parts (child_of self.now) (begin (offsets_of self.now) i) (extent (offsets_of self.now) i) }
@@ -216,25 +225,25 @@ impl MapArray {
         Window::new(field, start, count)
     }
 
-    /// Keeps the n slots from place o.
+    /// Keeps `n` slots from index `o`.
     pub fn slice(&mut self, o: usize, n: usize)
         requires { o + n ≤ len self.old }
-        ensures { IsCut self.old o n self.new }
+        ensures { IsSlice self.old o n self.new }
     {
         self.cut(o, n);
     }
 
     fn cut(&mut self, o: usize, n: usize)
         requires { o + n ≤ len self.old }
-        ensures { self.new ≡ cut_layout self.old o n }
+        ensures { self.new ≡ slice_layout self.old o n }
     {
         self.ranges.slice(o, n);
     }
 
-    /// The n slots from place o.
+    /// Returns the slice of `n` slots from index `o`.
     pub fn sliced(self, o: usize, n: usize) -> MapArray
         requires { o + n ≤ len self }
-        ensures { IsCut self o n result }
+        ensures { IsSlice self o n result }
     {
         let mut cut = self;
         cut.slice(o, n);
@@ -242,25 +251,25 @@ impl MapArray {
     }
 }
 
-/// The first check of a map array's parts that fails.
-fn fault(data_type: &DataType, ranges: &Ranges<i32>, field: &AnyArray) -> Option<Error>
-    ensures { let parts = layouts.map (type_of data_type.now) ranges.now.offsets (layout_of field.now) ranges.now.validity in
-        MatchOption result (AreOffsets ranges.now.offsets × Fits parts) (λ e. FirstFault e parts) }
+/// Returns the error of the first check of a map array's parts that fails.
+fn first_error(data_type: &DataType, ranges: &Ranges<i32>, field: &AnyArray) -> Option<Error>
+    ensures { let r = ranges.now in let m = layouts.map (type_of data_type.now) r.offsets (layout_of field.now) r.validity in
+        MatchOption result (AreOffsets r.offsets × Fits m) (λ e. FirstError e m) }
 {
     if ranges.end() > field.len() {
-        return Some(Error::OutOfSpec(Spec::OffsetPastChild));
+        return Some(Error::OutOfSpec(SpecError::OffsetPastChild));
     }
     if data_type.to_physical_type() != PhysicalType::Map {
-        return Some(Error::OutOfSpec(Spec::WrongType));
+        return Some(Error::OutOfSpec(SpecError::WrongType));
     }
     if !data_type.has_pairs() {
-        return Some(Error::InvalidArgumentError(Argument::MapInner));
+        return Some(Error::InvalidArgumentError(ArgumentError::MapInner));
     }
     if !has_items(data_type, field.data_type()) {
-        return Some(Error::InvalidArgumentError(Argument::ChildType));
+        return Some(Error::InvalidArgumentError(ArgumentError::ChildType));
     }
     if !validity::fits(&ranges.validity, ranges.len()) {
-        return Some(Error::OutOfSpec(Spec::ValidityLength));
+        return Some(Error::OutOfSpec(SpecError::ValidityLength));
     }
     None
 }

@@ -1,17 +1,18 @@
-//! Arrays of nulls, and arrays without a slot, of any data type: arrow2's `new_null_array` and `new_empty_array`.
-mod fault;
+//! Null and empty arrays of any data type: arrow2's `new_null_array` and `new_empty_array`.
+mod first_error;
 mod none;
 
 ghost use Rattle.std.specs.Prelude.{◌≡◌, IfOk, IsOkUnless, MatchResult, None, IsErrOf, alloc_error};
 ghost use Rattle.nest_memory.specs.TypeOf.{field_list_of};
 ghost use Rattle.nest_memory.specs.declared.datatypes.physical_type.PhysicalType.{PhysicalType as Physical};
-ghost use Rattle.nest_model.specs.Nulls.{Fills, values_below, empty_fault, fault_of, fields_fault, type_fault};
+ghost use Rattle.nest_model.specs.Nulls.{Fills, values_below, empty_error, error_of, fields_error, type_error};
 ghost use Rattle.nest_model.specs.NullLayout.{null_array as nulls_of, null_children};
 ghost use Rattle.nest_flat.specs.AnyPrimitive.{primitive_layout};
+ghost use Rattle.nest_flat.specs.NewArrays.{IsNewArray};
 ghost use Rattle.nest_array.specs.Words.{AcceptsKind, HasNone, HasNulls, Memory, RefusesKind, RefusesType, layout_of, layouts_of, physical_type, type_of};
 
 use crate::any::AnyArray;
-use crate::array::{Slotted, Variant};
+use crate::array::{ArrayParts, ArrayVariant};
 use crate::dictionary::DictionaryArray;
 use crate::fixed_size_binary::FixedSizeBinaryArray;
 use crate::fixed_size_list::FixedSizeListArray;
@@ -21,8 +22,8 @@ use crate::map::MapArray;
 use crate::null::NullArray;
 use crate::struct_::StructArray;
 use crate::union::UnionArray;
-pub(crate) use fault::dictionary_fault;
-use fault::{fault, kind_fault};
+pub(crate) use first_error::dictionary_error;
+use first_error::{first_error, kind_error};
 use nest_flat::any_primitive::AnyPrimitive;
 use nest_flat::binary::BinaryArray;
 use nest_flat::boolean::BooleanArray;
@@ -34,34 +35,47 @@ use nest_memory::error::Error;
 use nest_model::fill::Fill;
 use std::alloc::Global;
 
-/// The array of this type without a slot, whose children have none either. There is no validity in it.
+/// Returns an empty array of this data type. Its children are empty, and no array in it has a validity.
 ///
 /// # Errors
-/// The first of these in the order of the type, a type before its children, these from the left: `NotYetImplemented` of
-/// floats, `ZeroSize`, `MapInner`, `NoFields` of a struct, `TooManyFields`, `IdCount` and `IdRange` of a union. Then `Memory`.
+/// The first in the data type, a type before its children, and these from the left:
+/// - `NotYetImplemented` for a floating-point type.
+/// - `ZeroSize` for a fixed size of 0.
+/// - `MapInner` for a map whose entries are not a struct of two fields.
+/// - `NoFields` for a struct without fields.
+/// - `TooManyFields` for a union of more than 127 fields.
+/// - `IdCount` for a union with another number of ids than fields.
+/// - `IdRange` for a union with an id that is not from 0 to 127.
+///
+/// Then `Memory` if an allocation fails.
 pub fn new_empty_array(alloc: Global, data_type: DataType) -> Result<AnyArray, Error>
     ensures { let t = type_of data_type in MatchResult result
-        (λ a. (empty_fault t ≡ None) × HasNone t (layout_of a))
-        (λ e. RefusesType e (empty_fault t)) }
+        (λ a. (empty_error t ≡ None) × HasNone t (layout_of a))
+        (λ e. RefusesType e (empty_error t)) }
 {
     checked(alloc, data_type, 0, Fill::Nothing)
 }
 
-/// The array of `length` null slots of this type. A union's slots pick a null of the field of its first id, without ids of its
-/// first field. Below a list or a map lies an empty array, below a dictionary one null value.
+/// Returns an array of `length` nulls of this data type.
+///
+/// The slots of a union select a null of the field of its first id, or of its first field if it has no ids.
+/// The child of a list or a map is empty. The values of a dictionary are one null.
 ///
 /// # Errors
-/// As of `new_empty_array`, and where a type has them after those of its own: `UnionType` of a union without a field, `Overflow`
-/// where a number of items, bytes or offsets passes a `usize`, or a dense union's length 2^31. Then `Memory`.
+/// Those of `new_empty_array`, and for each type after its own:
+/// - `UnionType` for a union without fields, if `length` is not 0.
+/// - `Overflow` if a number of items, bytes or offsets overflows `usize`, or the length of a dense union is past 2^31.
+///
+/// Then `Memory` if an allocation fails.
 pub fn new_null_array(alloc: Global, data_type: DataType, length: usize) -> Result<AnyArray, Error>
     ensures { let t = type_of data_type in MatchResult result
-        (λ a. (type_fault t length ≡ None) × HasNulls t length (layout_of a))
-        (λ e. RefusesType e (type_fault t length)) }
+        (λ a. (type_error t length ≡ None) × HasNulls t length (layout_of a))
+        (λ e. RefusesType e (type_error t length)) }
 {
     checked(alloc, data_type, length, Fill::Nulls)
 }
 
-// How many values lie below a dictionary.
+// Returns the number of values of a dictionary array of this fill.
 pub(crate) fn values_below(fill: Fill) -> usize
     ensures { result ≡ values_below fill }
 {
@@ -74,10 +88,10 @@ pub(crate) fn values_below(fill: Fill) -> usize
 fn checked(alloc: Global, data_type: DataType, length: usize, fill: Fill) -> Result<AnyArray, Error>
     requires { Fills fill length }
     ensures { let t = type_of data_type in MatchResult result
-        (λ a. (fault_of t length fill ≡ None) × (layout_of a ≡ nulls_of t length fill))
-        (λ e. RefusesType e (fault_of t length fill)) }
+        (λ a. (error_of t length fill ≡ None) × (layout_of a ≡ nulls_of t length fill))
+        (λ e. RefusesType e (error_of t length fill)) }
 {
-    let array = match fault(&data_type, length, fill) {
+    let array = match first_error(&data_type, length, fill) {
         Some(error) => Err(error),
         None => null_array(alloc, &data_type, length, fill),
     };
@@ -85,13 +99,13 @@ fn checked(alloc: Global, data_type: DataType, length: usize, fill: Fill) -> Res
     array
 }
 
-/// A kind of array, and the array of nulls of that kind.
-pub(crate) trait Nulls: Slotted {
+/// An array type of one physical type, with a constructor of nulls.
+pub(crate) trait Nulls: ArrayParts {
     ghost KIND: { Physical };
 
     const KIND: PhysicalType;
 
-    /// `length` nulls of a type of this kind without a fault.
+    /// Returns `length` nulls of a data type that is already checked.
     fn of_nulls(
         alloc: Global,
         data_type: &DataType,
@@ -99,26 +113,26 @@ pub(crate) trait Nulls: Slotted {
         fill: Fill,
     ) -> Result<Self, Error>
         requires kind { physical_type (type_of data_type.now) ≡ KIND }
-        requires unrefused { fault_of (type_of data_type.now) length fill ≡ None }
+        requires unrefused { error_of (type_of data_type.now) length fill ≡ None }
         requires valid { Fills fill length }
-        ensures ok { IfOk result (λ a. Self.Slotted.parts a ≡ nulls_of (type_of data_type.now) length fill) }
+        ensures ok { IfOk result (λ a. Self.ArrayParts.parts a ≡ nulls_of (type_of data_type.now) length fill) }
         ensures err { IsOkUnless result (Memory alloc_error) };
 }
 
-/// `new_empty` of each kind.
+/// `new_empty` of each array type.
 pub(crate) fn empty<A: Nulls>(alloc: Global, data_type: DataType) -> Result<A, Error>
     ensures { let t = type_of data_type in MatchResult result
-        (λ a. AcceptsKind A.KIND t (empty_fault t) × HasNone t (A.Slotted.parts a))
-        (λ e. RefusesKind e A.KIND t (empty_fault t)) }
+        (λ a. AcceptsKind A.KIND t (empty_error t) × HasNone t (A.ArrayParts.parts a))
+        (λ e. RefusesKind e A.KIND t (empty_error t)) }
 {
     checked_kind(alloc, data_type, 0, Fill::Nothing)
 }
 
-/// `new_null` of each kind.
+/// `new_null` of each array type.
 pub(crate) fn null<A: Nulls>(alloc: Global, data_type: DataType, length: usize) -> Result<A, Error>
     ensures { let t = type_of data_type in MatchResult result
-        (λ a. AcceptsKind A.KIND t (type_fault t length) × HasNulls t length (A.Slotted.parts a))
-        (λ e. RefusesKind e A.KIND t (type_fault t length)) }
+        (λ a. AcceptsKind A.KIND t (type_error t length) × HasNulls t length (A.ArrayParts.parts a))
+        (λ e. RefusesKind e A.KIND t (type_error t length)) }
 {
     checked_kind(alloc, data_type, length, Fill::Nulls)
 }
@@ -131,10 +145,9 @@ fn checked_kind<A: Nulls>(
 ) -> Result<A, Error>
     requires { Fills fill length }
     ensures { let t = type_of data_type in MatchResult result
-        (λ a. AcceptsKind A.KIND t (fault_of t length fill) × (A.Slotted.parts a ≡ nulls_of t length fill))
-        (λ e. RefusesKind e A.KIND t (fault_of t length fill)) }
+        (λ a. IsNewArray A.KIND t length fill (A.ArrayParts.parts a)) (λ e. RefusesKind e A.KIND t (error_of t length fill)) }
 {
-    let array = match kind_fault(&data_type, A::KIND, length, fill) {
+    let array = match kind_error(&data_type, A::KIND, length, fill) {
         Some(error) => Err(error),
         None => A::of_nulls(alloc, &data_type, length, fill),
     };
@@ -142,10 +155,10 @@ fn checked_kind<A: Nulls>(
     array
 }
 
-// An array in its variant, or why there is none.
-fn boxed<A: Variant>(made: Result<A, Error>) -> Result<AnyArray, Error>
+// Returns an array as an `AnyArray`, or the error.
+fn boxed<A: ArrayVariant>(made: Result<A, Error>) -> Result<AnyArray, Error>
     ensures { MatchResult made
-        (λ a. MatchResult result (λ b. layout_of b ≡ A.Slotted.parts a) (λ _. ⊥))
+        (λ a. MatchResult result (λ b. layout_of b ≡ A.ArrayParts.parts a) (λ _. ⊥))
         (λ e. IsErrOf result e) }
 {
     match made {
@@ -165,7 +178,7 @@ fn boxed_primitive(made: Result<AnyPrimitive, Error>) -> Result<AnyArray, Error>
     }
 }
 
-/// `length` nulls of a type without a fault.
+/// Returns `length` nulls of a data type that is already checked.
 #[cycle(nulls)]
 pub(crate) fn null_array(
     alloc: Global,
@@ -173,7 +186,7 @@ pub(crate) fn null_array(
     length: usize,
     fill: Fill,
 ) -> Result<AnyArray, Error>
-    requires unrefused { fault_of (type_of data_type.now) length fill ≡ None }
+    requires unrefused { error_of (type_of data_type.now) length fill ≡ None }
     requires valid { Fills fill length }
     ensures ok { IfOk result (λ a. layout_of a ≡ nulls_of (type_of data_type.now) length fill) }
     ensures err { IsOkUnless result (Memory alloc_error) }
@@ -211,7 +224,7 @@ pub(crate) fn null_array(
     }
 }
 
-/// An array of `length` nulls for each field.
+/// Returns an array of `length` nulls for each field.
 #[cycle(nulls)]
 pub(crate) fn null_fields(
     alloc: Global,
@@ -219,7 +232,7 @@ pub(crate) fn null_fields(
     length: usize,
     fill: Fill,
 ) -> Result<Vec<AnyArray>, Error>
-    requires unrefused { fields_fault (field_list_of fields.now) length fill ≡ None }
+    requires unrefused { fields_error (field_list_of fields.now) length fill ≡ None }
     requires valid { Fills fill length }
     ensures ok { IfOk result (λ v. layouts_of v.items ≡ null_children (field_list_of fields.now) length fill) }
     ensures err { IsOkUnless result (Memory alloc_error) }

@@ -1,4 +1,4 @@
-//! Equality of scalars: equal data types and equal slots. No call takes memory.
+//! Equality of scalars: equal data types and equal slots. It does not allocate.
 ghost use Rattle.std.specs.Prelude.{◌≡◌, ◌↔◌, IsTrue};
 ghost use Rattle.nest_array.specs.ScalarParts.{IsSameScalar, same_scalar, slots_in, types_in};
 
@@ -27,7 +27,7 @@ impl Eq for AnyScalar {
     ghost laws = { same_scalar-equiv };
 }
 
-/// Whether two scalars have the same data type and the same slot.
+/// Returns whether two scalars have the same data type and the same slot.
 #[cycle(same)]
 fn are_same(a: &AnyScalar, b: &AnyScalar) -> bool
     ensures { IsTrue result ↔ IsSameScalar a.now b.now }
@@ -35,7 +35,7 @@ fn are_same(a: &AnyScalar, b: &AnyScalar) -> bool
     a.data_type == b.data_type && same_value(a, b)
 }
 
-/// Whether two scalars of one data type have the same slot.
+/// Returns whether two scalars of one data type have the same slot.
 #[cycle(same)]
 fn same_value(a: &AnyScalar, b: &AnyScalar) -> bool
     requires { a.now.data_type ≡ b.now.data_type }
@@ -54,7 +54,7 @@ fn same_value(a: &AnyScalar, b: &AnyScalar) -> bool
     }
 }
 
-/// Whether scalars of the same data types, in order, have the same slots.
+/// Returns whether scalars of pairwise equal data types have the same slots.
 #[cycle(same)]
 fn same_values(xs: &[AnyScalar], ys: &[AnyScalar]) -> bool
     requires { types_in xs.now ≡ types_in ys.now }

@@ -1,4 +1,4 @@
-//! Scalars: one slot of an array by itself, with the array's data type.
+//! Scalars: one slot of an array, with the array's data type.
 mod equality;
 mod new;
 
@@ -13,7 +13,7 @@ use nest_memory::datatypes::DataType;
 pub use new::{new_scalar, scalars_at};
 use std::marker::Model;
 
-/// A data type and one slot of it. It stands in the place of arrow2's `Box<dyn Scalar>`.
+/// A data type and one slot of it. It replaces arrow2's `Box<dyn Scalar>`.
 #[cycle(scalar)]
 #[derive(Drop)]
 pub struct AnyScalar {
@@ -21,7 +21,7 @@ pub struct AnyScalar {
     value: ScalarValue,
 }
 
-/// What a scalar holds. A key of a dictionary is followed: in its place stands the value that it names.
+/// The value of a scalar. A slot of a dictionary array has the value at its key.
 #[cycle(scalar)]
 #[derive(Drop)]
 pub enum ScalarValue {
@@ -32,9 +32,9 @@ pub enum ScalarValue {
     Bytes(Vec<u8>),
     /// The items of a list of any kind, or the entries of a map.
     List(AnyArray),
-    /// A scalar for each field of a record.
+    /// One scalar per field of a struct.
     Struct(Vec<AnyScalar>),
-    /// What a union picks: a field's position, and the scalar of its slot.
+    /// The pick of a union: the index of a field, and the scalar of its slot.
     Pick(usize, Box<AnyScalar>),
 }
 
@@ -62,14 +62,14 @@ impl Model for AnyScalar {
 }
 
 impl AnyScalar {
-    /// Its data type.
+    /// Returns the data type.
     pub fn data_type(&self) -> &DataType
         ensures { type_of result.now ≡ self.now.data_type }
     {
         &self.data_type
     }
 
-    /// What it holds.
+    /// Returns the value.
     pub fn value(&self) -> &ScalarValue
         ensures slot { slot_of_value result.now ≡ self.now.slot }
         ensures fits { ValueFits self.now.data_type result.now }
@@ -77,7 +77,7 @@ impl AnyScalar {
         &self.value
     }
 
-    /// Whether its slot is not null.
+    /// Returns whether the slot is not null.
     pub fn is_valid(&self) -> bool
         ensures { IsTrue result ↔ (self.now.slot ≡ slots.null → ⊥) }
     {

@@ -1,4 +1,4 @@
-//! The scalar of a place of an array.
+//! Scalars of arrays.
 ghost use Rattle.std.specs.Prelude.{◌≡◌, ◌+◌, ◌<◌, IfOk, IsOkUnless, alloc_error};
 ghost use Rattle.nest_memory.specs.TypeTree.{TypeTree};
 ghost use Rattle.nest_model.specs.Fits.{EachCovers};
@@ -22,7 +22,10 @@ use nest_flat::boolean::BooleanArray;
 use nest_memory::error::Error;
 use std::alloc::Global;
 
-/// Slot i of an array, under the array's data type: arrow2's `new_scalar`. `Memory` alone is refused.
+/// Returns slot `i` of an array as a scalar of the array's data type: arrow2's `new_scalar`.
+///
+/// # Errors
+/// `Memory` if an allocation fails.
 #[cycle(new_scalar)]
 pub fn new_scalar(alloc: Global, array: &AnyArray, i: usize) -> Result<AnyScalar, Error>
     requires { i < len (layout_of array.now) }
@@ -39,7 +42,7 @@ pub fn new_scalar(alloc: Global, array: &AnyArray, i: usize) -> Result<AnyScalar
     }
 }
 
-/// The value of slot i.
+/// Returns the value of slot `i`.
 #[cycle(new_scalar)]
 fn value_at(alloc: Global, array: &AnyArray, i: usize) -> Result<ScalarValue, Error>
     requires { i < len (layout_of array.now) }
@@ -101,7 +104,7 @@ fn bytes_value(alloc: Global, bytes: Option<&[u8]>) -> Result<ScalarValue, Error
 }
 
 fn text_value(alloc: Global, text: Option<&str>) -> Result<ScalarValue, Error>
-    ensures ok { IfOk result (λ v. slot_of_value v ≡ optional (λ x. slots.text x.now) text.entry) }
+    ensures ok { IfOk result (λ v. slot_of_value v ≡ optional (λ x. slots.utf8 x.now) text.entry) }
     ensures fits { IfOk result (λ v. (t : TypeTree) → ValueFits t v) }
     ensures err { IsOkUnless result (Memory alloc_error) }
 {
@@ -139,7 +142,10 @@ fn record_at(alloc: Global, records: &StructArray, i: usize) -> Result<ScalarVal
     }
 }
 
-/// The scalar of slot i of each array, as a record has them. `Memory` alone is refused.
+/// Returns the scalar of slot `i` of each array, as a struct has them.
+///
+/// # Errors
+/// `Memory` if an allocation fails.
 #[cycle(new_scalar)]
 pub fn scalars_at(alloc: Global, arrays: &[AnyArray], i: usize) -> Result<Vec<AnyScalar>, Error>
     requires { EachCovers (layouts_of arrays.now) (i + 1) }
@@ -154,7 +160,7 @@ pub fn scalars_at(alloc: Global, arrays: &[AnyArray], i: usize) -> Result<Vec<An
     Ok(scalars)
 }
 
-/// What slot i of a union picks.
+/// Returns the value of slot `i` of a union.
 #[cycle(new_scalar)]
 fn pick_at(alloc: Global, picks: &UnionArray, i: usize) -> Result<ScalarValue, Error>
     requires { i < len picks.now }
@@ -168,7 +174,7 @@ fn pick_at(alloc: Global, picks: &UnionArray, i: usize) -> Result<ScalarValue, E
     }
 }
 
-/// The value that the key names, null where the key is.
+/// Returns the value at the key of slot `i`, or null if the key is null.
 #[cycle(new_scalar)]
 fn keyed_at(alloc: Global, keyed: &DictionaryArray, i: usize) -> Result<ScalarValue, Error>
     requires { i < len keyed.now }

@@ -1,4 +1,4 @@
-//! Arrays of records.
+//! Struct arrays.
 mod copies;
 mod nulls;
 
@@ -7,12 +7,12 @@ ghost use Rattle.nest_memory.specs.TypeOf.{field_list_of};
 ghost use Rattle.nest_memory.specs.TypeTree.{fields_of};
 ghost use Rattle.nest_memory.specs.declared.datatypes.physical_type.PhysicalType.TheVariants as physical;
 ghost use Rattle.nest_model.specs.Accessors.{children_of};
-ghost use Rattle.nest_model.specs.Cut.{cut_layouts};
+ghost use Rattle.nest_model.specs.Slice.{slice_layouts};
 ghost use Rattle.nest_model.specs.Fits.{EachType, EachLen, EachCovers};
 ghost use Rattle.nest_model.specs.Layout as layouts;
 ghost use Rattle.nest_model.specs.Meaning.{first_len};
 ghost use Rattle.nest_model.specs.Slot as slots;
-ghost use Rattle.nest_array.specs.Words.{FirstFault, Fits, IsCut, Memory, TopFits, cut, cut_layout, is_null_at, layout_type, layouts_of, len, null_count, physical_type, slot, type_of, validity_of};
+ghost use Rattle.nest_array.specs.Words.{FirstError, Fits, IsSlice, Memory, TopFits, sublist, slice_layout, is_null_at, layout_type, layouts_of, len, null_count, physical_type, slot, type_of, validity_of};
 
 use crate::any::AnyArray;
 use nest_flat::validity;
@@ -20,11 +20,11 @@ use nest_memory::bitmap::immutable::Bitmap;
 use nest_memory::datatypes::DataType;
 use nest_memory::datatypes::field::Field;
 use nest_memory::datatypes::physical_type::PhysicalType;
-use nest_memory::error::{Error, Spec};
+use nest_memory::error::{Error, SpecError};
 use std::alloc::Global;
 use std::marker::Model;
 
-/// Records of one child for each field: the Struct Layout of the Arrow format.
+/// An array of structs, with one child per field: the Struct Layout of the Arrow format.
 #[cycle(array)]
 #[derive(Drop)]
 pub struct StructArray {
@@ -61,22 +61,25 @@ impl Model for StructArray {
 }
 
 impl StructArray {
-    /// The array of these parts.
+    /// Returns the array with these parts.
     ///
     /// # Errors
-    /// `WrongType` where the physical type isn't `Struct`, `NoFields` where it has no field, `FieldCount` where there are
-    /// not as many children as fields, `ChildType` where a child has another data type than its field, `ChildLength`
-    /// where a child has another length than the first, `ValidityLength` where the validity has another length: the first
-    /// of these.
+    /// The first that applies:
+    /// - `WrongType` if the physical type is not `Struct`.
+    /// - `NoFields` if the data type has no fields.
+    /// - `FieldCount` if the number of children is not the number of fields.
+    /// - `ChildType` if the data type of a child is not that of its field.
+    /// - `ChildLength` if a child has another length than the first.
+    /// - `ValidityLength` if the validity does not have one bit per slot.
     pub fn try_new(
         data_type: DataType,
         values: Vec<AnyArray>,
         validity: Option<Bitmap>,
     ) -> Result<StructArray, Error>
         ensures { let parts = layouts.struct (type_of data_type) (layouts_of values.items) validity in
-            MatchResult result (λ a. Fits parts × (a ≡ parts)) (λ e. FirstFault e parts) }
+            MatchResult result (λ a. Fits parts × (a ≡ parts)) (λ e. FirstError e parts) }
     {
-        if let Some(error) = fault(&data_type, &values, &validity) {
+        if let Some(error) = first_error(&data_type, &values, &validity) {
             drop(validity);
             drop(values);
             drop(data_type);
@@ -91,7 +94,7 @@ impl StructArray {
         })
     }
 
-    /// The array of parts that fit.
+    /// Returns the array with these parts.
     pub fn new(data_type: DataType, values: Vec<AnyArray>, validity: Option<Bitmap>) -> StructArray
         requires { Fits (layouts.struct (type_of data_type) (layouts_of values.items) validity) }
         ensures { result ≡ layouts.struct (type_of data_type) (layouts_of values.items) validity }
@@ -105,7 +108,7 @@ impl StructArray {
         }
     }
 
-    /// What holds of every such array.
+    /// States the invariant of every such array. It does nothing at run time.
     pub fn known(&self)
         ensures fits { TopFits self.now }
         ensures kind { self.now ≡ layouts.struct (layout_type self.now) (children_of self.now) (validity_of self.now) }
@@ -113,35 +116,35 @@ impl StructArray {
         let _ = &self.data_type;
     }
 
-    /// How many slots it has.
+    /// Returns the number of slots.
     pub fn len(&self) -> usize
         ensures { result ≡ len self.now }
     {
         self.count
     }
 
-    /// Its data type.
+    /// Returns the data type.
     pub fn data_type(&self) -> &DataType
         ensures { type_of result.now ≡ layout_type self.now }
     {
         &self.data_type
     }
 
-    /// Its children, one for each field.
+    /// Returns the children, one per field.
     pub fn values(&self) -> &[AnyArray]
         ensures { layouts_of result.now ≡ children_of self.now }
     {
         &self.values
     }
 
-    /// The fields of its data type.
+    /// Returns the fields of the data type.
     pub fn fields(&self) -> &[Field]
         ensures { field_list_of result.now ≡ fields_of (layout_type self.now) }
     {
         self.data_type.fields()
     }
 
-    /// The fields of a data type of records.
+    /// Returns the fields of a struct type.
     pub fn get_fields(data_type: &DataType) -> &[Field]
         requires { physical_type (type_of data_type.now) ≡ physical.Struct }
         ensures { field_list_of result.now ≡ fields_of (type_of data_type.now) }
@@ -149,7 +152,7 @@ impl StructArray {
         data_type.fields()
     }
 
-    /// Its fields, its children and its validity.
+    /// Returns the fields, the children and the validity.
     pub fn into_data(self) -> (Vec<Field>, Vec<AnyArray>, Option<Bitmap>)
         ensures fields { field_list_of result.0.items ≡ fields_of (layout_type self) }
         ensures children { layouts_of result.1.items ≡ children_of self }
@@ -167,14 +170,14 @@ impl StructArray {
         }
     }
 
-    /// Which slots are valid, a bit a slot; without it all are.
+    /// Returns the validity, one bit per slot. Without a validity all slots are valid.
     pub fn validity(&self) -> Option<&Bitmap>
         ensures { option_map (λ b. b.now) result ≡ validity_of self.now }
     {
         self.validity.as_ref()
     }
 
-    /// Whether slot i is null.
+    /// Returns whether slot `i` is null.
     pub fn is_null(&self, i: usize) -> bool
         requires { i < len self.now }
         ensures slot { IsTrue result ↔ (slot self.now i ≡ slots.null) }
@@ -183,17 +186,17 @@ impl StructArray {
         !validity::is_valid(&self.validity, i)
     }
 
-    /// How many slots are null.
+    /// Returns the number of null slots.
     pub fn null_count(&self) -> usize
         ensures { result ≡ null_count self.now }
     {
         validity::null_count(&self.validity)
     }
 
-    /// Keeps the n slots from place o.
+    /// Keeps `n` slots from index `o`.
     pub fn slice(&mut self, o: usize, n: usize)
         requires { o + n ≤ len self.old }
-        ensures { IsCut self.old o n self.new }
+        ensures { IsSlice self.old o n self.new }
     {
         self.cut(o, n);
     }
@@ -201,17 +204,17 @@ impl StructArray {
     #[cycle(cut)]
     pub(crate) fn cut(&mut self, o: usize, n: usize)
         requires { o + n ≤ len self.old }
-        ensures { self.new ≡ cut_layout self.old o n }
+        ensures { self.new ≡ slice_layout self.old o n }
     {
         cut_all(&mut self.values, o, n);
         self.count = n;
         validity::slice(&mut self.validity, o, n);
     }
 
-    /// The n slots from place o.
+    /// Returns the slice of `n` slots from index `o`.
     pub fn sliced(self, o: usize, n: usize) -> StructArray
         requires { o + n ≤ len self }
-        ensures { IsCut self o n result }
+        ensures { IsSlice self o n result }
     {
         let mut cut = self;
         cut.slice(o, n);
@@ -219,35 +222,39 @@ impl StructArray {
     }
 }
 
-/// The first check of an array's parts that fails.
-fn fault(data_type: &DataType, values: &[AnyArray], validity: &Option<Bitmap>) -> Option<Error>
+/// Returns the error of the first check of the parts that fails.
+fn first_error(
+    data_type: &DataType,
+    values: &[AnyArray],
+    validity: &Option<Bitmap>,
+) -> Option<Error>
     ensures { let parts = layouts.struct (type_of data_type.now) (layouts_of values.now) validity.now in
-        MatchOption result (Fits parts) (λ e. FirstFault e parts) }
+        MatchOption result (Fits parts) (λ e. FirstError e parts) }
 {
     if data_type.to_physical_type() != PhysicalType::Struct {
-        return Some(Error::OutOfSpec(Spec::WrongType));
+        return Some(Error::OutOfSpec(SpecError::WrongType));
     }
     let fields = data_type.fields();
     if fields.is_empty() {
-        return Some(Error::OutOfSpec(Spec::NoFields));
+        return Some(Error::OutOfSpec(SpecError::NoFields));
     }
     if fields.len() != values.len() {
-        return Some(Error::OutOfSpec(Spec::FieldCount));
+        return Some(Error::OutOfSpec(SpecError::FieldCount));
     }
     if !have_types(fields, values) {
-        return Some(Error::OutOfSpec(Spec::ChildType));
+        return Some(Error::OutOfSpec(SpecError::ChildType));
     }
     let count = first_count(values);
     if !have_len(values, count) {
-        return Some(Error::OutOfSpec(Spec::ChildLength));
+        return Some(Error::OutOfSpec(SpecError::ChildLength));
     }
     if !validity::fits(validity, count) {
-        return Some(Error::OutOfSpec(Spec::ValidityLength));
+        return Some(Error::OutOfSpec(SpecError::ValidityLength));
     }
     None
 }
 
-/// Whether the children have the types of the fields, in order.
+/// Returns whether each child has the data type of its field.
 pub(crate) fn have_types(fields: &[Field], children: &[AnyArray]) -> bool
     requires { length fields.now ≡ length children.now }
     ensures { IsTrue result ↔ EachType (field_list_of fields.now) (layouts_of children.now) }
@@ -262,7 +269,7 @@ pub(crate) fn have_types(fields: &[Field], children: &[AnyArray]) -> bool
     true
 }
 
-/// Whether each child has n slots.
+/// Returns whether each child has `n` slots.
 fn have_len(children: &[AnyArray], n: usize) -> bool
     ensures { IsTrue result ↔ EachLen (layouts_of children.now) n }
 {
@@ -274,7 +281,7 @@ fn have_len(children: &[AnyArray], n: usize) -> bool
     true
 }
 
-/// How many slots the first child has.
+/// Returns the number of slots of the first child, or 0 without children.
 fn first_count(children: &[AnyArray]) -> usize
     ensures { result ≡ first_len (layouts_of children.now) }
 {
@@ -284,18 +291,18 @@ fn first_count(children: &[AnyArray]) -> usize
     }
 }
 
-/// Cuts each child.
+/// Keeps `n` slots of each child from index `o`.
 #[cycle(cut)]
 fn cut_all(children: &mut [AnyArray], o: usize, n: usize)
     requires { EachCovers (layouts_of children.old) (o + n) }
-    ensures { layouts_of children.new ≡ cut_layouts (layouts_of children.old) o n }
+    ensures { layouts_of children.new ≡ slice_layouts (layouts_of children.old) o n }
 {
     for i in 0..children.len() {
         children[i].cut(o, n);
     }
 }
 
-/// The same children, on shared memory.
+/// Returns copies of the children that share their memory.
 #[cycle(clone)]
 pub(crate) fn clone_all(alloc: Global, children: &[AnyArray]) -> Result<Vec<AnyArray>, Error>
     ensures ok { IfOk result (λ v. layouts_of v.items ≡ layouts_of children.now) }

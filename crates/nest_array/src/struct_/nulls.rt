@@ -1,7 +1,7 @@
-//! Arrays of records that are null, and such arrays without a slot.
+//! Empty and all-null struct arrays.
 ghost use Rattle.std.specs.Prelude.{◌≡◌, IfOk, IsOkUnless, MatchResult, None, alloc_error};
 ghost use Rattle.nest_memory.specs.declared.datatypes.physical_type.PhysicalType.TheVariants as physical;
-ghost use Rattle.nest_model.specs.Nulls.{Fills, empty_fault, fault_of, type_fault};
+ghost use Rattle.nest_model.specs.Nulls.{Fills, empty_error, error_of, type_error};
 ghost use Rattle.nest_model.specs.NullLayout.{null_array as nulls_of};
 ghost use Rattle.nest_array.specs.Words.{AcceptsKind, HasNone, HasNulls, Memory, RefusesKind, physical_type, type_of};
 
@@ -15,31 +15,31 @@ use nest_model::fill::Fill;
 use std::alloc::Global;
 
 impl StructArray {
-    /// The array without a slot.
+    /// Returns an empty array.
     ///
     /// # Errors
-    /// `WrongType` where the physical type isn't `Struct`, then as `new_empty_array`.
+    /// `WrongType` if the physical type is not `Struct`, then the errors of `new_empty_array`.
     pub fn new_empty(alloc: Global, data_type: DataType) -> Result<StructArray, Error>
         ensures { let t = type_of data_type in MatchResult result
-            (λ a. AcceptsKind physical.Struct t (empty_fault t) × HasNone t a)
-            (λ e. RefusesKind e physical.Struct t (empty_fault t)) }
+            (λ a. AcceptsKind physical.Struct t (empty_error t) × HasNone t a)
+            (λ e. RefusesKind e physical.Struct t (empty_error t)) }
     {
         nulls::empty(alloc, data_type)
     }
 
-    /// The array of `length` null slots.
+    /// Returns an array of `length` nulls.
     ///
     /// # Errors
-    /// `WrongType` where the physical type isn't `Struct`, then as `new_null_array`.
+    /// `WrongType` if the physical type is not `Struct`, then the errors of `new_null_array`.
     pub fn new_null(alloc: Global, data_type: DataType, length: usize) -> Result<StructArray, Error>
         ensures { let t = type_of data_type in MatchResult result
-            (λ a. AcceptsKind physical.Struct t (type_fault t length) × HasNulls t length a)
-            (λ e. RefusesKind e physical.Struct t (type_fault t length)) }
+            (λ a. AcceptsKind physical.Struct t (type_error t length) × HasNulls t length a)
+            (λ e. RefusesKind e physical.Struct t (type_error t length)) }
     {
         nulls::null(alloc, data_type, length)
     }
 
-    /// `length` nulls of a type that was looked at.
+    /// Returns `length` nulls of a data type that is already checked.
     #[cycle(nulls)]
     pub(crate) fn nulls(
         alloc: Global,
@@ -48,7 +48,7 @@ impl StructArray {
         fill: Fill,
     ) -> Result<StructArray, Error>
         requires kind { physical_type (type_of data_type.now) ≡ physical.Struct }
-        requires unrefused { fault_of (type_of data_type.now) length fill ≡ None }
+        requires unrefused { error_of (type_of data_type.now) length fill ≡ None }
         requires valid { Fills fill length }
         ensures ok { IfOk result (λ a. a ≡ nulls_of (type_of data_type.now) length fill) }
         ensures err { IsOkUnless result (Memory alloc_error) }

@@ -1,4 +1,4 @@
-//! Which parts make a union, check by check.
+//! The checks of a union's parts, in order.
 ghost use Rattle.std.specs.Prelude.{◌≡◌, ◌↔◌, ◌≤◌, IsTrue, MatchOption, length};
 ghost use Rattle.std.specs.List.{All};
 ghost use Rattle.nest_memory.specs.TypeTree.{ids_of, is_dense};
@@ -6,7 +6,7 @@ ghost use Rattle.nest_model.specs.Checks.{FailFirst, Pass, most_fields, type_cou
 ghost use Rattle.nest_model.specs.Fits.{EachCovers, IdsCount, IdsInRange, MeansField, Names, OffsetsByMode, OffsetsCount, child_len};
 ghost use Rattle.nest_model.specs.Layout as layouts;
 ghost use Rattle.nest_array.specs.Positions.{EachNamed, SlotsMeant, id_checks, meant};
-ghost use Rattle.nest_array.specs.Words.{FirstFault, Fits, layouts_of, type_of};
+ghost use Rattle.nest_array.specs.Words.{FirstError, Fits, layouts_of, type_of};
 
 use crate::any::AnyArray;
 use crate::struct_::have_types;
@@ -14,42 +14,43 @@ use crate::union::table::{means_field, position, positions};
 use nest_memory::buffer::Buffer;
 use nest_memory::datatypes::physical_type::PhysicalType;
 use nest_memory::datatypes::{DataType, UnionMode};
-use nest_memory::error::{Error, Spec};
+use nest_memory::error::{Error, SpecError};
 
-/// The first check of an array's parts that fails.
-pub(super) fn fault(
+/// Returns the error of the first check of the parts that fails.
+pub(super) fn first_error(
     data_type: &DataType,
     types: &Buffer<i8>,
     fields: &[AnyArray],
     offsets: &Option<Buffer<i32>>,
 ) -> Option<Error>
     ensures { let parts = layouts.union (type_of data_type.now) types.now (layouts_of fields.now) offsets.now 0 in
-        MatchOption result (Fits parts) (λ e. FirstFault e parts) }
+        MatchOption result (Fits parts) (λ e. FirstError e parts) }
 {
     if data_type.to_physical_type() != PhysicalType::Union {
-        return Some(Error::OutOfSpec(Spec::WrongType));
+        return Some(Error::OutOfSpec(SpecError::WrongType));
     }
     let named = data_type.fields();
     if named.len() != fields.len() {
-        return Some(Error::OutOfSpec(Spec::FieldCount));
+        return Some(Error::OutOfSpec(SpecError::FieldCount));
     }
     if fields.len() > 127 {
-        return Some(Error::OutOfSpec(Spec::TooManyFields));
+        return Some(Error::OutOfSpec(SpecError::TooManyFields));
     }
     if !have_types(named, fields) {
-        return Some(Error::OutOfSpec(Spec::ChildType));
+        return Some(Error::OutOfSpec(SpecError::ChildType));
     }
     if !has_each_offset(offsets, types.len()) {
-        return Some(Error::OutOfSpec(Spec::OffsetCount));
+        return Some(Error::OutOfSpec(SpecError::OffsetCount));
     }
     if !has_mode(data_type, offsets) {
-        return Some(Error::OutOfSpec(Spec::UnionMode));
+        return Some(Error::OutOfSpec(SpecError::UnionMode));
     }
-    fault_by_ids(data_type, types, fields, offsets)
+    error_by_ids(data_type, types, fields, offsets)
 }
 
-/// The same of parts that pass the checks before that of the ids. Types are looked up in a table of what each means.
-fn fault_by_ids(
+/// Returns the error of the first check that fails, from the check of the ids on.
+/// A table maps type ids to fields.
+fn error_by_ids(
     data_type: &DataType,
     types: &Buffer<i8>,
     fields: &[AnyArray],
@@ -61,22 +62,22 @@ fn fault_by_ids(
         MatchOption result (Pass checks) (λ e. FailFirst e checks) }
 {
     if !has_each_id(data_type, fields.len()) {
-        return Some(Error::OutOfSpec(Spec::IdCount));
+        return Some(Error::OutOfSpec(SpecError::IdCount));
     }
     if !has_ids_in_range(data_type) {
-        return Some(Error::OutOfSpec(Spec::IdRange));
+        return Some(Error::OutOfSpec(SpecError::IdRange));
     }
     let table = positions(data_type, fields.len());
     if !mean_fields(&table, types.as_slice(), fields.len()) {
-        return Some(Error::OutOfSpec(Spec::UnionType));
+        return Some(Error::OutOfSpec(SpecError::UnionType));
     }
     if !has_slots(&table, types.as_slice(), fields, offsets) {
-        return Some(Error::OutOfSpec(Spec::UnionSlot));
+        return Some(Error::OutOfSpec(SpecError::UnionSlot));
     }
     None
 }
 
-/// Whether there is an offset for each of n types, or none at all.
+/// Returns whether there are `n` offsets or none.
 fn has_each_offset(offsets: &Option<Buffer<i32>>, n: usize) -> bool
     ensures { IsTrue result ↔ OffsetsCount offsets.now n }
 {
@@ -86,7 +87,7 @@ fn has_each_offset(offsets: &Option<Buffer<i32>>, n: usize) -> bool
     }
 }
 
-/// Whether there are offsets exactly where the union is dense.
+/// Returns whether there are offsets exactly if the union is dense.
 fn has_mode(data_type: &DataType, offsets: &Option<Buffer<i32>>) -> bool
     ensures { IsTrue result ↔ OffsetsByMode offsets.now (is_dense (type_of data_type.now)) }
 {
@@ -96,7 +97,7 @@ fn has_mode(data_type: &DataType, offsets: &Option<Buffer<i32>>) -> bool
     }
 }
 
-/// Whether there is an id for each of n fields, or none at all.
+/// Returns whether there are `n` ids or none.
 fn has_each_id(data_type: &DataType, n: usize) -> bool
     ensures { IsTrue result ↔ IdsCount (ids_of (type_of data_type.now)) n }
 {
@@ -106,7 +107,7 @@ fn has_each_id(data_type: &DataType, n: usize) -> bool
     }
 }
 
-/// Whether each id is a type of 8 bits that is not negative.
+/// Returns whether each id is from 0 to 127.
 fn has_ids_in_range(data_type: &DataType) -> bool
     ensures { IsTrue result ↔ IdsInRange (ids_of (type_of data_type.now)) }
 {
@@ -127,7 +128,7 @@ fn are_in_range(ids: &[i32]) -> bool
     true
 }
 
-/// Whether each type means one of n fields.
+/// Returns whether each type id selects one of `n` fields.
 fn mean_fields(table: &[u8; 128], types: &[i8], n: usize) -> bool
     requires { length table.now ≡ type_count }
     ensures { IsTrue result ↔ All (λ k. MeansField (meant table.now k) n) types.now }
@@ -140,7 +141,7 @@ fn mean_fields(table: &[u8; 128], types: &[i8], n: usize) -> bool
     true
 }
 
-/// Whether the slots that the types pick are there.
+/// Returns whether the slots that the type ids select exist.
 fn has_slots(
     table: &[u8; 128],
     types: &[i8],
@@ -157,7 +158,7 @@ fn has_slots(
     }
 }
 
-/// Whether each field has at least n slots.
+/// Returns whether each field has at least `n` slots.
 fn cover(fields: &[AnyArray], n: usize) -> bool
     ensures { IsTrue result ↔ EachCovers (layouts_of fields.now) n }
 {
@@ -169,7 +170,7 @@ fn cover(fields: &[AnyArray], n: usize) -> bool
     true
 }
 
-/// Whether each offset names a slot of the field that its type means.
+/// Returns whether each offset is within the field that its type id selects.
 fn name_slots(table: &[u8; 128], types: &[i8], fields: &[AnyArray], offsets: &[i32]) -> bool
     requires sized { length table.now ≡ type_count }
     requires each_offset { length offsets.now ≡ length types.now }
@@ -183,7 +184,7 @@ fn name_slots(table: &[u8; 128], types: &[i8], fields: &[AnyArray], offsets: &[i
     true
 }
 
-/// Whether an offset names a slot of a field that is there.
+/// Returns whether the field exists and the offset is within it.
 fn names_slot(fields: &[AnyArray], field: Option<usize>, offset: i32) -> bool
     ensures { IsTrue result ↔ Names offset (child_len (layouts_of fields.now) field) }
 {

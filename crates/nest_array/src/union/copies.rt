@@ -1,4 +1,4 @@
-//! Copies of arrays of unions.
+//! Copies of `UnionArray`.
 ghost use Rattle.std.specs.Prelude.{◌≡◌, IfOk, IsOkUnless, alloc_error};
 ghost use Rattle.nest_model.specs.Accessors.{children_of, types_of, union_offsets_of};
 ghost use Rattle.nest_array.specs.Words.{Memory, layout_of, layouts_of};
@@ -12,7 +12,10 @@ use std::alloc::Global;
 use std::rc::Rc;
 
 impl UnionArray {
-    /// The same array, on shared memory.
+    /// Returns a copy of the array that shares its memory.
+    ///
+    /// # Errors
+    /// `Memory` if an allocation fails.
     pub fn clone(&self, alloc: Global) -> Result<UnionArray, Error>
         ensures ok { IfOk result (λ a. a ≡ self.now) }
         ensures err { IsOkUnless result (Memory alloc_error) }
@@ -21,7 +24,7 @@ impl UnionArray {
         self.over(alloc, fields)
     }
 
-    // The array over copies of its fields.
+    // Returns the array with copies of its fields.
     fn over(&self, alloc: Global, fields: Vec<AnyArray>) -> Result<UnionArray, Error>
         requires { layouts_of fields.items ≡ children_of self.now }
         ensures ok { IfOk result (λ a. a ≡ self.now) }
@@ -52,7 +55,7 @@ impl UnionArray {
         }
     }
 
-    // Its types and its offsets, shared.
+    // Returns copies of the types and the offsets that share their memory.
     fn places(&self) -> Result<(Buffer<i8>, Option<Buffer<i32>>), Error>
         ensures ok { IfOk result (λ p. (p.0 ≡ types_of self.now) × (p.1 ≡ union_offsets_of self.now)) }
         ensures err { IsOkUnless result (Memory alloc_error) }
@@ -64,7 +67,7 @@ impl UnionArray {
         }
     }
 
-    /// The same array in its variant, over copies of its fields.
+    /// Returns the array with copies of its fields, as an `AnyArray`.
     pub(crate) fn boxed_over(&self, alloc: Global, fields: Vec<AnyArray>) -> Result<AnyArray, Error>
         requires { layouts_of fields.items ≡ children_of self.now }
         ensures ok { IfOk result (λ a. layout_of a ≡ self.now) }
@@ -76,14 +79,17 @@ impl UnionArray {
         }
     }
 
-    /// The same array in its variant.
+    /// Returns the array as an `AnyArray`.
     pub fn boxed(self) -> AnyArray
         ensures { layout_of result ≡ self }
     {
         AnyArray::Union(self)
     }
 
-    /// The same array, owned by what shares it.
+    /// Returns the array as an `AnyArray` in an `Rc`.
+    ///
+    /// # Errors
+    /// `Memory` if the allocation fails.
     pub fn arced(self, alloc: Global) -> Result<Rc<AnyArray>, Error>
         ensures ok { IfOk result (λ r. layout_of r.value ≡ self) }
         ensures err { IsOkUnless result (Memory alloc_error) }

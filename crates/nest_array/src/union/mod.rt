@@ -1,4 +1,4 @@
-//! Arrays of unions.
+//! Union arrays.
 mod checks;
 mod copies;
 mod nulls;
@@ -9,15 +9,15 @@ ghost use Rattle.nest_memory.specs.TypeOf.{field_list_of};
 ghost use Rattle.nest_memory.specs.TypeTree.{fields_of, ids_of, is_dense};
 ghost use Rattle.nest_memory.specs.declared.datatypes.physical_type.PhysicalType.TheVariants as physical;
 ghost use Rattle.nest_model.specs.Accessors.{child_at, children_of, start_of, types_of, union_offsets_of};
-ghost use Rattle.nest_model.specs.Cut.{cut_offsets as cut_of};
+ghost use Rattle.nest_model.specs.Slice.{slice_offsets as cut_of};
 ghost use Rattle.nest_model.specs.Layout as layouts;
 ghost use Rattle.nest_model.specs.Layout.{count_layouts, weight};
-ghost use Rattle.nest_model.specs.Meaning.{union_place};
+ghost use Rattle.nest_model.specs.Meaning.{union_index};
 ghost use Rattle.nest_model.specs.Part.{field_named};
 ghost use Rattle.nest_model.specs.Slot as slots;
 ghost use Rattle.nest_array.specs.Positions.{OffsetsReach};
 ghost use Rattle.nest_array.specs.ScalarParts.{IsPickOf};
-ghost use Rattle.nest_array.specs.Words.{FirstFault, Fits, IsCut, Memory, TopFits, cut_layout, is_null_at, layout_of, layout_type, layouts_of, len, null_count, physical_type, slot, type_of, validity_of};
+ghost use Rattle.nest_array.specs.Words.{FirstError, Fits, IsSlice, Memory, TopFits, slice_layout, is_null_at, layout_of, layout_type, layouts_of, len, null_count, physical_type, slot, type_of, validity_of};
 
 use crate::any::AnyArray;
 use crate::scalar::{AnyScalar, new_scalar};
@@ -29,10 +29,11 @@ use nest_memory::error::Error;
 use std::alloc::Global;
 use std::marker::Model;
 
-/// Slots that each pick a slot of one of some fields: the Union Layout of the Arrow format. It has no validity.
+/// An array whose slots each select a slot of one of its fields: the Union Layout of the Arrow format.
+/// It has no validity.
 ///
-/// A slot's type means a field: without ids by the field's position, with ids by its id, and of two fields with one id the
-/// later. A dense union reads that field at the slot's offset, a sparse one at the slot's own place.
+/// A type id selects the field with that id; without ids, the field at that index. If two fields have the same id,
+/// it selects the later one. A dense union reads the field at the slot's offset, a sparse one at the slot's own index.
 #[cycle(array)]
 #[derive(Drop)]
 pub struct UnionArray {
@@ -41,7 +42,7 @@ pub struct UnionArray {
     fields: Vec<AnyArray>,
     offsets: Option<Buffer<i32>>,
     start: usize,
-    // Whether each type is known to be the position of the field that it means.
+    // Whether each type id is known to be the index of the field that it selects.
     plain: bool,
 }
 
@@ -73,15 +74,21 @@ impl Model for UnionArray {
 }
 
 impl UnionArray {
-    /// The array of these parts.
+    /// Returns the array with these parts.
     ///
     /// # Errors
-    /// `WrongType` where the physical type isn't `Union`, `FieldCount` where there are not as many fields as the type has,
-    /// `TooManyFields` where there are more than 127, `ChildType` where a field has another data type than the type says,
-    /// `OffsetCount` where there are offsets, but not as many as types, `UnionMode` where a sparse union has offsets or a
-    /// dense one none, `IdCount` where there are ids, but not as many as fields, `IdRange` where an id isn't from 0 to 127,
-    /// `UnionType` where a type means no field, `UnionSlot` where an offset names no slot of its field, or a field of a
-    /// sparse union has fewer slots than there are types: the first of these.
+    /// The first that applies:
+    /// - `WrongType` if the physical type is not `Union`.
+    /// - `FieldCount` if the number of fields is not that of the data type.
+    /// - `TooManyFields` if there are more than 127 fields.
+    /// - `ChildType` if a field has another type than its field in the data type.
+    /// - `OffsetCount` if there are offsets, but not one per slot.
+    /// - `UnionMode` if a sparse union has offsets, or a dense one has none.
+    /// - `IdCount` if there are ids, but not one per field.
+    /// - `IdRange` if an id is not from 0 to 127.
+    /// - `UnionType` if a type id selects no field.
+    /// - `UnionSlot` if an offset is negative or past the end of its field.
+    /// - `UnionSlot` if a field of a sparse union is shorter than the union.
     pub fn try_new(
         data_type: DataType,
         types: Buffer<i8>,
@@ -89,9 +96,9 @@ impl UnionArray {
         offsets: Option<Buffer<i32>>,
     ) -> Result<UnionArray, Error>
         ensures { let parts = layouts.union (type_of data_type) types (layouts_of fields.items) offsets 0 in
-            MatchResult result (λ a. Fits parts × (a ≡ parts)) (λ e. FirstFault e parts) }
+            MatchResult result (λ a. Fits parts × (a ≡ parts)) (λ e. FirstError e parts) }
     {
-        if let Some(error) = checks::fault(&data_type, &types, &fields, &offsets) {
+        if let Some(error) = checks::first_error(&data_type, &types, &fields, &offsets) {
             drop(offsets);
             drop(fields);
             drop(types);
@@ -109,7 +116,7 @@ impl UnionArray {
         })
     }
 
-    /// The array of parts that fit.
+    /// Returns the array with these parts.
     pub fn new(
         data_type: DataType,
         types: Buffer<i8>,
@@ -130,7 +137,7 @@ impl UnionArray {
         }
     }
 
-    /// What holds of every such array.
+    /// States the invariant of every such array. It does nothing at run time.
     pub fn known(&self)
         ensures fits { TopFits self.now }
         ensures kind { self.now ≡ layouts.union (layout_type self.now) (types_of self.now) (children_of self.now) (union_offsets_of self.now) (start_of self.now) }
@@ -138,46 +145,46 @@ impl UnionArray {
         let _ = &self.data_type;
     }
 
-    /// How many slots it has.
+    /// Returns the number of slots.
     pub fn len(&self) -> usize
         ensures { result ≡ len self.now }
     {
         self.types.len()
     }
 
-    /// Its data type.
+    /// Returns the data type.
     pub fn data_type(&self) -> &DataType
         ensures { type_of result.now ≡ layout_type self.now }
     {
         &self.data_type
     }
 
-    /// The type of each slot.
+    /// Returns the type ids, one per slot.
     pub fn types(&self) -> &Buffer<i8>
         ensures { result.now ≡ types_of self.now }
     {
         &self.types
     }
 
-    /// The offset of each slot of a dense union; a sparse one has none.
+    /// Returns the offsets of a dense union, one per slot. A sparse union has none.
     pub fn offsets(&self) -> Option<&Buffer<i32>>
         ensures { option_map (λ b. b.now) result ≡ union_offsets_of self.now }
     {
         self.offsets.as_ref()
     }
 
-    /// Its fields, which no cut changes.
+    /// Returns the fields. Slicing does not change them.
     pub fn fields(&self) -> &[AnyArray]
         ensures { layouts_of result.now ≡ children_of self.now }
     {
         &self.fields
     }
 
-    /// Which field slot i picks, by its position, and which slot of that field.
+    /// Returns the index of the field that slot `i` selects, and the index of the slot in that field.
     pub fn index(&self, i: usize) -> (usize, usize)
         requires { i < len self.now }
         ensures field { field_named (ids_of (layout_type self.now)) (get_or (types_of self.now) i (pos 0)) ≡ Some result.0 }
-        ensures place { result.1 ≡ union_place (union_offsets_of self.now) (start_of self.now) i }
+        ensures place { result.1 ≡ union_index (union_offsets_of self.now) (start_of self.now) i }
         ensures field_there { result.0 < count_layouts (children_of self.now) }
         ensures slot_there { result.1 < len (child_at (children_of self.now) result.0) }
         ensures picks { slot self.now i ≡ slots.pick result.0 (layout_type (child_at (children_of self.now) result.0)) (slot (child_at (children_of self.now) result.0) result.1) }
@@ -186,7 +193,7 @@ impl UnionArray {
         (self.field(i), self.place(i))
     }
 
-    /// One of the fields, by its position.
+    /// Returns the field at index `f`.
     pub(crate) fn field_at(&self, f: usize) -> &AnyArray
         requires { f < count_layouts (children_of self.now) }
         ensures shown { layout_of result.now ≡ child_at (children_of self.now) f }
@@ -197,7 +204,10 @@ impl UnionArray {
         &fields[f]
     }
 
-    /// The scalar of the field's slot that slot i picks. `Memory` alone is refused.
+    /// Returns the scalar of the slot that slot `i` selects.
+    ///
+    /// # Errors
+    /// `Memory` if an allocation fails.
     pub fn value(&self, alloc: Global, i: usize) -> Result<AnyScalar, Error>
         requires { i < len self.now }
         ensures ok { IfOk result (λ s. IsPickOf (slot self.now i) s) }
@@ -207,8 +217,8 @@ impl UnionArray {
         new_scalar(alloc, self.field_at(field), place)
     }
 
-    // The position of the field that slot i picks: its type, but where ids stand in another order, which are gone through.
-    // A table of them would have a place for each of 128 types, in every array of any kind.
+    // Returns the index of the field that slot `i` selects: its type id, or the last index of that id if ids are in
+    // another order. A table of ids would add 128 entries to every array of any type.
     fn field(&self, i: usize) -> usize
         requires { i < len self.now }
         ensures { field_named (ids_of (layout_type self.now)) (get_or (types_of self.now) i (pos 0)) ≡ Some result }
@@ -218,15 +228,15 @@ impl UnionArray {
             return kind as usize;
         }
         match self.data_type.union_ids() {
-            Some(ids) => table::last_place(ids, kind),
+            Some(ids) => table::last_position(ids, kind),
             None => kind as usize,
         }
     }
 
-    // The slot of that field.
+    // Returns the index of slot `i` in its field.
     fn place(&self, i: usize) -> usize
         requires { i < len self.now }
-        ensures { result ≡ union_place (union_offsets_of self.now) (start_of self.now) i }
+        ensures { result ≡ union_index (union_offsets_of self.now) (start_of self.now) i }
     {
         match &self.offsets {
             Some(offsets) => offsets.get(i) as usize,
@@ -234,7 +244,7 @@ impl UnionArray {
         }
     }
 
-    /// The fields of a data type of unions.
+    /// Returns the fields of a union type.
     pub fn get_fields(data_type: &DataType) -> &[Field]
         requires { physical_type (type_of data_type.now) ≡ physical.Union }
         ensures { field_list_of result.now ≡ fields_of (type_of data_type.now) }
@@ -242,7 +252,7 @@ impl UnionArray {
         data_type.fields()
     }
 
-    /// Whether a data type of unions is sparse: each slot is picked at its own place, and there are no offsets.
+    /// Returns whether a union type is sparse: a slot selects its own index of a field, and there are no offsets.
     pub fn is_sparse(data_type: &DataType) -> bool
         requires { physical_type (type_of data_type.now) ≡ physical.Union }
         ensures { result ≡ not (is_dense (type_of data_type.now)) }
@@ -250,7 +260,7 @@ impl UnionArray {
         data_type.union_mode() != Some(UnionMode::Dense)
     }
 
-    /// A union has no validity.
+    /// Returns `None`: a union has no validity.
     pub fn validity(&self) -> Option<&Bitmap>
         ensures { option_map (λ b. b.now) result ≡ validity_of self.now }
     {
@@ -258,7 +268,7 @@ impl UnionArray {
         None
     }
 
-    /// Whether slot i is null, as none is: each is a pick, also of a null slot.
+    /// Returns whether slot `i` is null: always false. Each slot is a pick, possibly of a null slot.
     pub fn is_null(&self, i: usize) -> bool
         requires { i < len self.now }
         ensures slot { IsTrue result ↔ (slot self.now i ≡ slots.null) }
@@ -269,7 +279,7 @@ impl UnionArray {
         false
     }
 
-    /// How many slots are null: none.
+    /// Returns the number of null slots: always 0.
     pub fn null_count(&self) -> usize
         ensures { result ≡ null_count self.now }
     {
@@ -277,27 +287,27 @@ impl UnionArray {
         0
     }
 
-    /// Keeps the n slots from place o. Its fields stay whole.
+    /// Keeps `n` slots from index `o`. The fields are unchanged.
     pub fn slice(&mut self, o: usize, n: usize)
         requires { o + n ≤ len self.old }
-        ensures { IsCut self.old o n self.new }
+        ensures { IsSlice self.old o n self.new }
     {
         self.cut(o, n);
     }
 
     fn cut(&mut self, o: usize, n: usize)
         requires { o + n ≤ len self.old }
-        ensures { self.new ≡ cut_layout self.old o n }
+        ensures { self.new ≡ slice_layout self.old o n }
     {
         self.types.slice(o, n);
-        cut_offsets(&mut self.offsets, o, n);
+        slice_offsets(&mut self.offsets, o, n);
         self.start += o;
     }
 
-    /// The n slots from place o.
+    /// Returns the slice of `n` slots from index `o`.
     pub fn sliced(self, o: usize, n: usize) -> UnionArray
         requires { o + n ≤ len self }
-        ensures { IsCut self o n result }
+        ensures { IsSlice self o n result }
     {
         let mut cut = self;
         cut.slice(o, n);
@@ -305,8 +315,8 @@ impl UnionArray {
     }
 }
 
-/// Keeps n offsets from place o, where there are some.
-fn cut_offsets(offsets: &mut Option<Buffer<i32>>, o: usize, n: usize)
+/// Keeps `n` offsets from index `o`, if there are offsets.
+fn slice_offsets(offsets: &mut Option<Buffer<i32>>, o: usize, n: usize)
     requires { OffsetsReach offsets.old (o + n) }
     ensures { offsets.new ≡ cut_of offsets.old o n }
 {

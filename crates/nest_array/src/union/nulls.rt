@@ -1,11 +1,11 @@
-//! Arrays of unions that are null, and such arrays without a slot.
+//! Empty and all-null union arrays.
 ghost use Rattle.std.specs.Prelude.{◌≡◌, ◌≤◌, IfOk, IsOkUnless, MatchResult, None, Some, alloc_error, false, map, pos, replicate, true};
 ghost use Rattle.nest_memory.specs.declared.datatypes.physical_type.PhysicalType.TheVariants as physical;
 ghost use Rattle.std.specs.List.{range_with_len};
 ghost use Rattle.nest_memory.specs.TypeTree.{ids_of, is_dense, mode_of};
 ghost use Rattle.nest_memory.specs.declared.datatypes.UnionMode.{UnionMode};
 ghost use Rattle.nest_model.specs.Checks.{most_picks};
-ghost use Rattle.nest_model.specs.Nulls.{Fills, empty_fault, fault_of, has_bad_id, type_fault};
+ghost use Rattle.nest_model.specs.Nulls.{Fills, empty_error, error_of, has_bad_id, type_error};
 ghost use Rattle.nest_model.specs.NullLayout.{null_array as nulls_of, null_offsets, null_type};
 ghost use Rattle.nest_array.specs.Words.{AcceptsKind, HasNone, HasNulls, Memory, RefusesKind, physical_type, type_of};
 
@@ -19,31 +19,31 @@ use nest_model::fill::Fill;
 use std::alloc::Global;
 
 impl UnionArray {
-    /// The array without a slot.
+    /// Returns an empty array.
     ///
     /// # Errors
-    /// `WrongType` where the physical type isn't `Union`, then as `new_empty_array`.
+    /// `WrongType` if the physical type is not `Union`, then the errors of `new_empty_array`.
     pub fn new_empty(alloc: Global, data_type: DataType) -> Result<UnionArray, Error>
         ensures { let t = type_of data_type in MatchResult result
-            (λ a. AcceptsKind physical.Union t (empty_fault t) × HasNone t a)
-            (λ e. RefusesKind e physical.Union t (empty_fault t)) }
+            (λ a. AcceptsKind physical.Union t (empty_error t) × HasNone t a)
+            (λ e. RefusesKind e physical.Union t (empty_error t)) }
     {
         nulls::empty(alloc, data_type)
     }
 
-    /// The array of `length` null slots.
+    /// Returns an array of `length` nulls.
     ///
     /// # Errors
-    /// `WrongType` where the physical type isn't `Union`, then as `new_null_array`.
+    /// `WrongType` if the physical type is not `Union`, then the errors of `new_null_array`.
     pub fn new_null(alloc: Global, data_type: DataType, length: usize) -> Result<UnionArray, Error>
         ensures { let t = type_of data_type in MatchResult result
-            (λ a. AcceptsKind physical.Union t (type_fault t length) × HasNulls t length a)
-            (λ e. RefusesKind e physical.Union t (type_fault t length)) }
+            (λ a. AcceptsKind physical.Union t (type_error t length) × HasNulls t length a)
+            (λ e. RefusesKind e physical.Union t (type_error t length)) }
     {
         nulls::null(alloc, data_type, length)
     }
 
-    /// `length` nulls of a type that was looked at.
+    /// Returns `length` nulls of a data type that is already checked.
     #[cycle(nulls)]
     pub(crate) fn nulls(
         alloc: Global,
@@ -52,7 +52,7 @@ impl UnionArray {
         fill: Fill,
     ) -> Result<UnionArray, Error>
         requires kind { physical_type (type_of data_type.now) ≡ physical.Union }
-        requires unrefused { fault_of (type_of data_type.now) length fill ≡ None }
+        requires unrefused { error_of (type_of data_type.now) length fill ≡ None }
         requires valid { Fills fill length }
         ensures ok { IfOk result (λ a. a ≡ nulls_of (type_of data_type.now) length fill) }
         ensures err { IsOkUnless result (Memory alloc_error) }
@@ -89,7 +89,7 @@ impl Nulls for UnionArray {
     }
 }
 
-// The types of slots that are null.
+// Returns the type ids of `length` nulls.
 fn null_types(alloc: Global, data_type: &DataType, length: usize) -> Result<Buffer<i8>, Error>
     requires { has_bad_id (ids_of (type_of data_type.now)) ≡ false }
     ensures ok { IfOk result (λ b. b ≡ replicate length (null_type (ids_of (type_of data_type.now)))) }
@@ -99,7 +99,7 @@ fn null_types(alloc: Global, data_type: &DataType, length: usize) -> Result<Buff
     Buffer::filled(alloc, first, length)
 }
 
-// The type of the slots that are null: the first id, without ids that of the first field.
+// Returns the type id of nulls: the first id, or 0 without ids.
 fn first_type(data_type: &DataType) -> i8
     requires { has_bad_id (ids_of (type_of data_type.now)) ≡ false }
     ensures { result ≡ null_type (ids_of (type_of data_type.now)) }
@@ -110,7 +110,7 @@ fn first_type(data_type: &DataType) -> i8
     }
 }
 
-// The offsets of a dense union's slots, which lie one after another.
+// Returns the offsets of `length` nulls of a dense union: each slot has its own index.
 fn places(alloc: Global, data_type: &DataType, length: usize) -> Result<Option<Buffer<i32>>, Error>
     requires { is_dense (type_of data_type.now) ≡ true → length ≤ most_picks }
     ensures ok { IfOk result (λ b. (m : UnionMode) → mode_of (type_of data_type.now) ≡ Some m → b ≡ null_offsets m length) }
@@ -122,7 +122,7 @@ fn places(alloc: Global, data_type: &DataType, length: usize) -> Result<Option<B
     }
 }
 
-// The numbers below one of at most 2^31.
+// Returns the numbers from 0 up to `length`, which is at most 2^31.
 fn counted(alloc: Global, length: usize) -> Result<Buffer<i32>, Error>
     requires { length ≤ most_picks }
     ensures ok { IfOk result (λ b. b ≡ map (λ i. pos i) (range_with_len 0 length)) }

@@ -1,5 +1,4 @@
-//! Which field of a union each type means: by a table, in which a type of 8 bits that isn't negative has a place of its own,
-//! or by the ids.
+//! The fields that type ids of a union select: by a table with an entry per type id from 0 to 127, or by the ids.
 ghost use Rattle.std.specs.Prelude.{◌≡◌, ◌≢◌, ◌≤◌, ◌↔◌, IsTrue, Some, None, length};
 ghost use Rattle.nest_memory.specs.TypeTree.{ids_of};
 ghost use Rattle.nest_model.specs.Checks.{most_fields, type_count};
@@ -10,10 +9,10 @@ ghost use Rattle.nest_array.specs.Words.{type_of};
 
 use nest_memory::datatypes::DataType;
 
-/// What stands in place of a position where a type means no field: a union has at most 127.
+/// The entry of a type id that selects no field. A union has at most 127 fields.
 const NO_FIELD: u8 = 127;
 
-/// The table of a union of n fields.
+/// Returns the table of a union of `n` fields.
 pub(crate) fn positions(data_type: &DataType, n: usize) -> [u8; 128]
     requires few { n ≤ most_fields }
     requires count { IdsCount (ids_of (type_of data_type.now)) n }
@@ -26,7 +25,7 @@ pub(crate) fn positions(data_type: &DataType, n: usize) -> [u8; 128]
     }
 }
 
-/// Each type means the field at its own position.
+/// Returns the table without ids: a type id selects the field at that index.
 fn by_places() -> [u8; 128]
     ensures { IsTable result None }
 {
@@ -37,7 +36,7 @@ fn by_places() -> [u8; 128]
     table
 }
 
-/// Each type means the last field whose id it is.
+/// Returns the table of ids: a type id selects the last field with that id.
 fn by_ids(ids: &[i32]) -> [u8; 128]
     requires few { length ids.now ≤ most_fields }
     requires range { EachNames ids.now type_count }
@@ -50,7 +49,7 @@ fn by_ids(ids: &[i32]) -> [u8; 128]
     table
 }
 
-/// The position that the table has for a type.
+/// Returns the entry of a type id, or `None` if the type id is negative.
 pub(crate) fn position(table: &[u8; 128], kind: i8) -> Option<usize>
     requires { length table.now ≡ type_count }
     ensures { result ≡ meant table.now kind }
@@ -61,7 +60,7 @@ pub(crate) fn position(table: &[u8; 128], kind: i8) -> Option<usize>
     Some(table[kind as usize] as usize)
 }
 
-/// Whether the table has one of n fields for a type.
+/// Returns whether a type id selects one of `n` fields.
 pub(crate) fn means_field(table: &[u8; 128], kind: i8, n: usize) -> bool
     requires { length table.now ≡ type_count }
     ensures { IsTrue result ↔ MeansField (meant table.now kind) n }
@@ -72,10 +71,10 @@ pub(crate) fn means_field(table: &[u8; 128], kind: i8, n: usize) -> bool
     }
 }
 
-/// The place of the last id that is the type.
-pub(crate) fn last_place(ids: &[i32], kind: i8) -> usize
-    requires { part.last_place ids.now kind ≢ None }
-    ensures { part.last_place ids.now kind ≡ Some result }
+/// Returns the index of the last id that equals the type id.
+pub(crate) fn last_position(ids: &[i32], kind: i8) -> usize
+    requires { part.last_position ids.now kind ≢ None }
+    ensures { part.last_position ids.now kind ≡ Some result }
 {
     let mut place = 0;
     for k in 0..ids.len() {
@@ -86,8 +85,8 @@ pub(crate) fn last_place(ids: &[i32], kind: i8) -> usize
     place
 }
 
-/// Whether a type is the position of the field that it means, as far as is known: there are no ids, or each stands at its
-/// own place.
+/// Returns whether type ids are known to be the indices of the fields that they select.
+/// They are if there are no ids, or each id is its own index.
 pub(crate) fn are_positions(data_type: &DataType) -> bool
     ensures { IsTrue result → ArePositions (ids_of (type_of data_type.now)) }
 {

@@ -1,4 +1,4 @@
-//! The data types of builders of dictionaries.
+//! Data types of dictionary builders.
 ghost use Rattle.std.specs.Prelude.{◌≡◌, ◌↔◌, Some, true, IfOk, IsOkUnless, IsTrue, alloc_error};
 ghost use Rattle.nest_array.specs.Types.{default_dictionary_type};
 ghost use Rattle.nest_memory.specs.TypeTree.{key_type, value_type};
@@ -11,7 +11,7 @@ use nest_memory::error::Error;
 use std::alloc::Global;
 use std::marker::{Model, PhantomData};
 
-/// A data type of dictionaries by such keys.
+/// A dictionary type with keys of type `K`.
 #[derive(Drop)]
 pub(super) struct DictionaryType<K: DictionaryKey> {
     data_type: DataType,
@@ -35,7 +35,7 @@ impl<K: DictionaryKey> Model for DictionaryType<K> {
 }
 
 impl<K: DictionaryKey> DictionaryType<K> {
-    /// Of dictionaries of such values, in no order.
+    /// Returns the type of unordered dictionaries with values of this type.
     pub(super) fn of_values(alloc: Global, values: &DataType) -> Result<DictionaryType<K>, Error>
         ensures ok { IfOk result (λ t. t ≡ default_dictionary_type K.KEY_TYPE (type_of values.now)) }
         ensures memory { IsOkUnless result (Memory alloc_error) }
@@ -48,7 +48,7 @@ impl<K: DictionaryKey> DictionaryType<K> {
         })
     }
 
-    /// That data type.
+    /// Wraps a dictionary type with keys of type `K`.
     pub(super) fn of_type(data_type: DataType) -> DictionaryType<K>
         requires { key_type (type_of data_type) ≡ Some K.KEY_TYPE }
         ensures { result ≡ type_of data_type }
@@ -59,7 +59,7 @@ impl<K: DictionaryKey> DictionaryType<K> {
         }
     }
 
-    /// The data type.
+    /// Returns the data type.
     pub(super) fn get(&self) -> &DataType
         ensures value { type_of result.now ≡ self.now }
         ensures dictionary { IsTrue (is_dictionary self.now) }
@@ -68,7 +68,7 @@ impl<K: DictionaryKey> DictionaryType<K> {
         &self.data_type
     }
 
-    /// Whether it is of dictionaries of values of that logical type.
+    /// Returns whether the logical type of the dictionary values equals that of `values`.
     pub(super) fn has_values(&self, values: &DataType) -> bool
         ensures { IsTrue result ↔ IsLogically (value_type self.now) (type_of values.now) }
     {

@@ -1,4 +1,4 @@
-//! The hash by which a value of a dictionary is found.
+//! The hash of dictionary values.
 ghost use Rattle.std.specs.Prelude.{◌≡◌, fold};
 ghost use Rattle.std.specs.Hash.DefaultHasher as sip;
 ghost use Rattle.nest_flat.specs.AnyNative.{native_kind, native_numbers};
@@ -9,7 +9,7 @@ use nest_flat::any_native::AnyNative;
 use nest_flat::plain::Plain;
 use std::hash::{DefaultHasher, Hash, Hasher};
 
-/// The hash of a value, by std's hasher with its fixed keys.
+/// Returns the hash of a value: std's `DefaultHasher` with its fixed keys.
 #[tactic(auto, unfolding(crate::specs::Hashes::value_hash))]
 pub(super) fn hash_of(value: &Plain<'_>) -> u64
     ensures { result ≡ value_hash (plain_value value.now) }
@@ -24,7 +24,7 @@ pub(super) fn hash_of(value: &Plain<'_>) -> u64
     state.finish()
 }
 
-// The numbers of a native value, one after another.
+// Feeds the integers of a native value to the hasher, in order.
 fn feed(number: &AnyNative, state: &mut DefaultHasher)
     ensures { state.new ≡ fold sip.write state.old (native_writes (native_kind number.now) (native_numbers number.now)) }
 {

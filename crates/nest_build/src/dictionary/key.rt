@@ -1,4 +1,4 @@
-//! What the keys of a builder of dictionaries freeze to.
+//! Key types of dictionary builders.
 ghost use Rattle.std.specs.Prelude.{◌≡◌, length, map, IfOk, IsOkUnless, alloc_error};
 ghost use Rattle.nest_memory.specs.Physical.{primitive_tree};
 ghost use Rattle.nest_model.specs.Layout as layouts;
@@ -13,19 +13,19 @@ use nest_memory::datatypes::DataType;
 use nest_memory::error::Error;
 use nest_memory::types::NativeType;
 
-/// A key of which a builder of dictionaries has an array.
+/// A key type for which a dictionary builder exists.
 pub trait BuilderKey: DictionaryKey {
-    /// The array of these raw keys, in the variant of their width.
+    /// Returns the array of these raw keys, in the variant of their width.
     ///
     /// # Errors
-    /// `Memory`.
+    /// `Memory` if an allocation fails.
     fn any_keys(keys: &Buffer<Self>, validity: Option<Bitmap>) -> Result<AnyKeys, Error>
         requires { ValidityFits validity (length keys.now) }
         ensures ok { IfOk result (λ a. keys_layout a ≡ layouts.primitive Self.NativeType.PRIMITIVE (primitive_tree Self.NativeType.PRIMITIVE) (map Self.NativeType.numbers keys.now) validity) }
         ensures memory { IsOkUnless result (Memory alloc_error) };
 }
 
-/// The array of these keys, under the data type that stands for them.
+/// Returns the array of these keys, with the data type of their native type.
 fn array_of<K: NativeType>(
     keys: &Buffer<K>,
     validity: Option<Bitmap>,

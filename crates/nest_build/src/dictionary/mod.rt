@@ -1,4 +1,4 @@
-//! The builder of dictionaries: its rows, its values, and the table by which it finds them.
+//! The builder of dictionary arrays: its rows, its values, and the hash table of the values.
 
 mod data_type;
 mod hash;

@@ -1,22 +1,22 @@
-//! The builder of arrays of dictionaries, over any builder of their values.
+//! The builder of dictionary arrays over any builder of the values.
 ghost use Rattle.std.specs.Prelude.{◌≡◌, ◌≢◌, ◌<◌, ◌≤◌, ◌⊎◌, ◌↔◌, [], ℕ, ⊤, pos, false, IfErr, IfOk, IsErrOf, IsNone, IsOk, IsOkUnless, IsTrue, None, OnErr, OnOk, Some, alloc_error, option_map};
 ghost use Rattle.nest_array.specs.Types.{default_dictionary_type};
-ghost use Rattle.nest_model.specs.Accessors.{whole};
-ghost use Rattle.nest_model.specs.BuilderFreeze.{SpellsKeys};
-ghost use Rattle.nest_model.specs.BuilderItem.{Lacks, Stands, plain, takes};
+ghost use Rattle.nest_model.specs.Accessors.{as_integer};
+ghost use Rattle.nest_model.specs.BuilderFreeze.{EncodesKeys};
+ghost use Rattle.nest_model.specs.BuilderItem.{Lacks, IsValueAt, plain, takes};
 ghost use Rattle.nest_model.specs.BuilderRefusals.{value_refusal};
 ghost use Rattle.nest_model.specs.BuilderRow.{values_needed};
 ghost use Rattle.nest_model.specs.BuilderTree as builders;
 ghost use Rattle.nest_model.specs.BuilderTree.{key_count};
-ghost use Rattle.nest_model.specs.BuilderWhole.{AreDifferent};
+ghost use Rattle.nest_model.specs.BuilderComplete.{AreDifferent};
 ghost use Rattle.nest_model.specs.Fits.{is_dictionary};
 ghost use Rattle.nest_model.specs.Layout as layouts;
 ghost use Rattle.nest_memory.specs.TypeTree.{key_type};
 ghost use Rattle.nest_array.specs.SeenKeys.{keys_layout};
 ghost use Rattle.nest_build.specs.Hashes.{value_hash};
-ghost use Rattle.nest_build.specs.Keys.{dictionary_child, told_keys};
+ghost use Rattle.nest_build.specs.Keys.{dictionary_child, builder_keys};
 ghost use Rattle.nest_build.specs.Lists.{RefusesChild};
-ghost use Rattle.nest_build.specs.Words.{Accepted, ChildNotEmpty, Fits, InvalidArgumentError, IsWhole, ItemType, Memory, Overflow, ReadsValue, Unfinished, builder_len, builder_type, emptied, layout_of, layout_type, own_slots, plain_refusal, plain_value, slots_of, type_of, validity_of};
+ghost use Rattle.nest_build.specs.Words.{Accepted, ChildNotEmpty, Fits, InvalidArgumentError, IsComplete, ItemType, Memory, Overflow, ReadsValue, Incomplete, builder_len, builder_type, emptied, layout_of, layout_type, own_slots, plain_refusal, plain_value, slots_of, type_of, validity_of};
 
 use crate::array::{MutableArray, shared};
 use crate::dictionary::data_type::DictionaryType;
@@ -25,19 +25,21 @@ use crate::dictionary::key::BuilderKey;
 use crate::dictionary::rows::DictionaryRows;
 use crate::dictionary::values::KeyedValues;
 use crate::push::{TryExtend, TryPush, extend_by_push};
-use nest_array::array::Variant;
+use nest_array::array::ArrayVariant;
 use nest_array::{AnyArray, AnyKeys, DictionaryArray};
 use nest_flat::plain::{AsPlain, Plain};
 use nest_flat::primitive::mutable::MutablePrimitiveArray;
 use nest_memory::bitmap::mutable::MutableBitmap;
 use nest_memory::datatypes::DataType;
-use nest_memory::error::{Argument, Error};
+use nest_memory::error::{ArgumentError, Error};
 use std::alloc::Global;
 use std::rc::Rc;
 
-/// Values that are pushed one after another, each of them once, over a builder of them, and a key for each row: arrow2's
-/// `MutableDictionaryArray`. Values are compared, not their hashes alone; they are pairwise different, in the order in
-/// which they were first accepted.
+/// A builder of dictionary arrays: a key per row, over a builder of the distinct values. arrow2's
+/// `MutableDictionaryArray`.
+///
+/// The values are pairwise different, in the order in which they were first pushed. Values with equal hashes are
+/// compared.
 #[derive(Drop)]
 pub struct MutableDictionaryArray<K: BuilderKey, M: MutableArray> {
     data_type: DictionaryType<K>,
@@ -49,12 +51,12 @@ pub struct MutableDictionaryArray<K: BuilderKey, M: MutableArray> {
 }
 
 impl<K: BuilderKey, M: MutableArray> MutableDictionaryArray<K, M> {
-    /// No row, over an empty child.
+    /// Returns a builder without rows. `values` must be empty.
     ///
     /// # Errors
-    /// `Memory`.
+    /// `Memory` if an allocation fails.
     pub fn new(alloc: Global, values: M) -> Result<MutableDictionaryArray<K, M>, Error>
-        requires whole { IsWhole (M.model values) }
+        requires complete { IsComplete (M.model values) }
         requires empty { builder_len (M.model values) ≡ 0 }
         ensures ok { IfOk result (λ b. ⟦<MutableDictionaryArray<K, M> as MutableArray>⟧.model b ≡ builders.dictionary K.KEY_TYPE (default_dictionary_type K.KEY_TYPE (builder_type (M.model values))) [] (M.model values)) }
         ensures memory { IsOkUnless result (Memory alloc_error) }
@@ -68,7 +70,7 @@ impl<K: BuilderKey, M: MutableArray> MutableDictionaryArray<K, M> {
         })
     }
 
-    /// No row of a data type of dictionaries by such keys, over an empty child.
+    /// Returns a builder without rows, of a dictionary type with keys of type `K`. `values` must be empty.
     pub fn of_type(alloc: Global, data_type: DataType, values: M) -> MutableDictionaryArray<K, M>
         requires keys { key_type (type_of data_type) ≡ Some K.KEY_TYPE }
         requires empty { builder_len (M.model values) ≡ 0 }
@@ -82,38 +84,38 @@ impl<K: BuilderKey, M: MutableArray> MutableDictionaryArray<K, M> {
         }
     }
 
-    /// No row, over a child that is looked at.
+    /// Returns a builder without rows, after checking that `values` is empty.
     ///
     /// # Errors
-    /// `ChildNotEmpty` where the child has rows, `Memory`.
+    /// `ChildNotEmpty` if `values` has rows, `Memory` if an allocation fails.
     pub fn try_from_values(alloc: Global, values: M) -> Result<MutableDictionaryArray<K, M>, Error>
-        requires { IsWhole (M.model values) }
+        requires { IsComplete (M.model values) }
         ensures ok { IfOk result (λ b. ⟦<MutableDictionaryArray<K, M> as MutableArray>⟧.model b ≡ builders.dictionary K.KEY_TYPE (default_dictionary_type K.KEY_TYPE (builder_type (M.model values))) [] (M.model values)) }
         ensures empty { IfOk result (λ b. builder_len (M.model values) ≡ 0) }
         ensures cause { IfErr result (RefusesChild (M.model values)) }
     {
         if !values.is_empty() {
-            return Err(Error::InvalidArgumentError(Argument::ChildNotEmpty));
+            return Err(Error::InvalidArgumentError(ArgumentError::ChildNotEmpty));
         }
         MutableDictionaryArray::new(alloc, values)
     }
 
-    /// What holds of every such builder: its data type is one of dictionaries.
+    /// Shows the prover that the data type is a dictionary type. Does nothing at run time.
     pub fn known(&self)
         ensures { IsTrue (is_dictionary (builder_type (⟦<MutableDictionaryArray<K, M> as MutableArray>⟧.model self.now))) }
     {
         let _type = self.data_type.get();
     }
 
-    /// The keys, one for each row.
+    /// Returns the keys, one per row.
     pub fn keys(&self) -> &MutablePrimitiveArray<K>
-        ensures spelled { SpellsKeys result.now (told_keys (⟦<MutableDictionaryArray<K, M> as MutableArray>⟧.model self.now)) }
-        ensures bare { told_keys (⟦<MutableDictionaryArray<K, M> as MutableArray>⟧.model self.now) ≡ [] → validity_of result.now ≡ None }
+        ensures spelled { EncodesKeys result.now (builder_keys (⟦<MutableDictionaryArray<K, M> as MutableArray>⟧.model self.now)) }
+        ensures bare { builder_keys (⟦<MutableDictionaryArray<K, M> as MutableArray>⟧.model self.now) ≡ [] → validity_of result.now ≡ None }
     {
         self.rows.keys()
     }
 
-    /// The values.
+    /// Returns the values.
     pub fn values(&self) -> &M
         ensures value { M.model result.now ≡ dictionary_child (⟦<MutableDictionaryArray<K, M> as MutableArray>⟧.model self.now) }
         ensures different { AreDifferent (own_slots (M.model result.now)) }
@@ -121,9 +123,9 @@ impl<K: BuilderKey, M: MutableArray> MutableDictionaryArray<K, M> {
         self.values.get()
     }
 
-    /// The key of a value, `None` where none of the values is it. No memory is taken.
+    /// Returns the key of a value, `None` if no value is equal to it. Does not allocate.
     pub fn key_of<T: AsPlain>(&self, value: &T) -> Option<K>
-        ensures place { (k : ℕ) → (option_map (λ key. whole (K.numbers key)) result ≡ Some (pos k)) ↔ Stands (dictionary_child (⟦<MutableDictionaryArray<K, M> as MutableArray>⟧.model self.now)) (T.value value.now) k }
+        ensures place { (k : ℕ) → (option_map (λ key. as_integer (K.numbers key)) result ≡ Some (pos k)) ↔ IsValueAt (dictionary_child (⟦<MutableDictionaryArray<K, M> as MutableArray>⟧.model self.now)) (T.value value.now) k }
         ensures absent { IsNone result ↔ Lacks (dictionary_child (⟦<MutableDictionaryArray<K, M> as MutableArray>⟧.model self.now)) (T.value value.now) }
     {
         let value = value.as_plain();
@@ -133,16 +135,16 @@ impl<K: BuilderKey, M: MutableArray> MutableDictionaryArray<K, M> {
         }
     }
 
-    // Whether there is a key for a value more.
+    // Whether a key is left for one more value.
     fn has_key(&self) -> bool
         ensures { IsTrue result ↔ (builder_len (dictionary_child (⟦<MutableDictionaryArray<K, M> as MutableArray>⟧.model self.now)) < key_count K.KEY_TYPE) }
     {
         K::from_index(self.values.get().len()).is_some()
     }
 
-    // Adds a row of the value, which is added to the values where none of them is it.
+    // Appends a row with the value. Appends the value to the values if it is new.
     fn push_value(&mut self, value: &Plain<'_>) -> Result<(), Error>
-        requires { IsWhole (⟦<MutableDictionaryArray<K, M> as MutableArray>⟧.model self.old) }
+        requires { IsComplete (⟦<MutableDictionaryArray<K, M> as MutableArray>⟧.model self.old) }
         ensures accepted { let tree = ⟦<MutableDictionaryArray<K, M> as MutableArray>⟧.model in OnOk result (Accepted (plain (plain_value value.now)) (tree self.old) (tree self.new)) }
         ensures unrefused { OnOk result (value_refusal (plain_value value.now) (⟦<MutableDictionaryArray<K, M> as MutableArray>⟧.model self.old) ≡ None) }
         ensures err { let tree = ⟦<MutableDictionaryArray<K, M> as MutableArray>⟧.model in OnErr result (tree self.new ≡ tree self.old) }
@@ -160,9 +162,9 @@ impl<K: BuilderKey, M: MutableArray> MutableDictionaryArray<K, M> {
         }
     }
 
-    // The same, but a value of another kind is refused first.
+    // Appends a row with the value. Refuses a value of another kind first.
     fn push_kind(&mut self, value: &Plain<'_>) -> Result<(), Error>
-        requires { IsWhole (⟦<MutableDictionaryArray<K, M> as MutableArray>⟧.model self.old) }
+        requires { IsComplete (⟦<MutableDictionaryArray<K, M> as MutableArray>⟧.model self.old) }
         ensures accepted { let tree = ⟦<MutableDictionaryArray<K, M> as MutableArray>⟧.model in OnOk result (Accepted (plain (plain_value value.now)) (tree self.old) (tree self.new)) }
         ensures unrefused { OnOk result (plain_refusal (plain_value value.now) (⟦<MutableDictionaryArray<K, M> as MutableArray>⟧.model self.old) ≡ None) }
         ensures err { let tree = ⟦<MutableDictionaryArray<K, M> as MutableArray>⟧.model in OnErr result (tree self.new ≡ tree self.old) }
@@ -181,10 +183,10 @@ impl<K: BuilderKey, M: MutableArray> MutableDictionaryArray<K, M> {
         }
     }
 
-    // Adds a row of a value that stands there among the values.
+    // Appends a row with the existing value at an index.
     fn push_known(&mut self, _value: &Plain<'_>, number: usize) -> Result<(), Error>
-        requires whole { IsWhole (⟦<MutableDictionaryArray<K, M> as MutableArray>⟧.model self.old) }
-        requires known { Stands (dictionary_child (⟦<MutableDictionaryArray<K, M> as MutableArray>⟧.model self.old)) (plain_value _value.now) number }
+        requires complete { IsComplete (⟦<MutableDictionaryArray<K, M> as MutableArray>⟧.model self.old) }
+        requires known { IsValueAt (dictionary_child (⟦<MutableDictionaryArray<K, M> as MutableArray>⟧.model self.old)) (plain_value _value.now) number }
         ensures accepted { let tree = ⟦<MutableDictionaryArray<K, M> as MutableArray>⟧.model in OnOk result (Accepted (plain (plain_value _value.now)) (tree self.old) (tree self.new)) }
         ensures unrefused { OnOk result (value_refusal (plain_value _value.now) (⟦<MutableDictionaryArray<K, M> as MutableArray>⟧.model self.old) ≡ None) }
         ensures err { let tree = ⟦<MutableDictionaryArray<K, M> as MutableArray>⟧.model in OnErr result (tree self.new ≡ tree self.old) }
@@ -197,10 +199,10 @@ impl<K: BuilderKey, M: MutableArray> MutableDictionaryArray<K, M> {
         Ok(())
     }
 
-    // Adds a row of a value of that hash that none of the values is, and for which there is a key.
+    // Appends a row with a new value of this hash. A key is left for it.
     fn push_new(&mut self, value: &Plain<'_>, hash: u64) -> Result<(), Error>
         requires hash { hash ≡ value_hash (plain_value value.now) }
-        requires whole { IsWhole (⟦<MutableDictionaryArray<K, M> as MutableArray>⟧.model self.old) }
+        requires complete { IsComplete (⟦<MutableDictionaryArray<K, M> as MutableArray>⟧.model self.old) }
         requires unknown { Lacks (dictionary_child (⟦<MutableDictionaryArray<K, M> as MutableArray>⟧.model self.old)) (plain_value value.now) }
         requires room { builder_len (dictionary_child (⟦<MutableDictionaryArray<K, M> as MutableArray>⟧.model self.old)) < key_count K.KEY_TYPE }
         ensures accepted { let tree = ⟦<MutableDictionaryArray<K, M> as MutableArray>⟧.model in OnOk result (Accepted (plain (plain_value value.now)) (tree self.old) (tree self.new)) }
@@ -223,10 +225,10 @@ impl<K: BuilderKey, M: MutableArray> MutableDictionaryArray<K, M> {
         }
     }
 
-    // What refuses a new value where no key is left. What the child takes is learned by asking it.
+    // The error of pushing a new value where no key is left. A push to the child shows whether it accepts the value.
     fn refusal(&mut self, value: &Plain<'_>, hash: u64) -> Error
         requires hash { hash ≡ value_hash (plain_value value.now) }
-        requires whole { IsWhole (⟦<MutableDictionaryArray<K, M> as MutableArray>⟧.model self.old) }
+        requires complete { IsComplete (⟦<MutableDictionaryArray<K, M> as MutableArray>⟧.model self.old) }
         requires unknown { Lacks (dictionary_child (⟦<MutableDictionaryArray<K, M> as MutableArray>⟧.model self.old)) (plain_value value.now) }
         requires full { key_count K.KEY_TYPE ≤ builder_len (dictionary_child (⟦<MutableDictionaryArray<K, M> as MutableArray>⟧.model self.old)) }
         ensures same { let tree = ⟦<MutableDictionaryArray<K, M> as MutableArray>⟧.model in tree self.new ≡ tree self.old }
@@ -241,22 +243,22 @@ impl<K: BuilderKey, M: MutableArray> MutableDictionaryArray<K, M> {
         Error::Overflow
     }
 
-    /// The array of the rows. The builder keeps its data type and has no row, no value and no validity then, also after
-    /// `Memory`.
+    /// Freezes the builder: returns the array of its rows. The builder keeps its data type; it has no rows, no values
+    /// and no validity afterwards, also after `Memory`.
     ///
     /// # Errors
-    /// `Unfinished` where it isn't whole; then nothing changes. `Memory`.
+    /// `Incomplete` if the builder is not complete; then nothing changes. `Memory` if an allocation fails.
     pub fn freeze(&mut self) -> Result<DictionaryArray, Error>
         ensures slots { IfOk result (λ a. slots_of a ≡ own_slots (⟦<MutableDictionaryArray<K, M> as MutableArray>⟧.model self.old)) }
         ensures same_type { IfOk result (λ a. layout_type a ≡ builder_type (⟦<MutableDictionaryArray<K, M> as MutableArray>⟧.model self.old)) }
-        ensures unfinished { IsErrOf result (InvalidArgumentError Unfinished) ↔ ¬ IsWhole (⟦<MutableDictionaryArray<K, M> as MutableArray>⟧.model self.old) }
-        ensures unchanged { let tree = ⟦<MutableDictionaryArray<K, M> as MutableArray>⟧.model in ¬ IsWhole (tree self.old) → tree self.new ≡ tree self.old }
-        ensures emptied { let tree = ⟦<MutableDictionaryArray<K, M> as MutableArray>⟧.model in IsWhole (tree self.old) → tree self.new ≡ emptied (tree self.old) }
-        ensures validity { IsWhole (⟦<MutableDictionaryArray<K, M> as MutableArray>⟧.model self.old) → ⟦<MutableDictionaryArray<K, M> as MutableArray>⟧.bare self.new }
-        ensures errors { IfErr result (λ e. (e ≡ InvalidArgumentError Unfinished) ⊎ (e ≡ Memory alloc_error)) }
+        ensures incomplete { IsErrOf result (InvalidArgumentError Incomplete) ↔ ¬ IsComplete (⟦<MutableDictionaryArray<K, M> as MutableArray>⟧.model self.old) }
+        ensures unchanged { let tree = ⟦<MutableDictionaryArray<K, M> as MutableArray>⟧.model in ¬ IsComplete (tree self.old) → tree self.new ≡ tree self.old }
+        ensures emptied { let tree = ⟦<MutableDictionaryArray<K, M> as MutableArray>⟧.model in IsComplete (tree self.old) → tree self.new ≡ emptied (tree self.old) }
+        ensures validity { IsComplete (⟦<MutableDictionaryArray<K, M> as MutableArray>⟧.model self.old) → ⟦<MutableDictionaryArray<K, M> as MutableArray>⟧.bare self.new }
+        ensures errors { IfErr result (λ e. (e ≡ InvalidArgumentError Incomplete) ⊎ (e ≡ Memory alloc_error)) }
     {
-        if !self.is_whole() {
-            return Err(Error::InvalidArgumentError(Argument::Unfinished));
+        if !self.is_complete() {
+            return Err(Error::InvalidArgumentError(ArgumentError::Incomplete));
         }
         let keys = self.rows.freeze();
         match self.values.freeze(self.alloc, self.data_type.get()) {
@@ -268,15 +270,15 @@ impl<K: BuilderKey, M: MutableArray> MutableDictionaryArray<K, M> {
         }
     }
 
-    /// The array of the rows.
+    /// Freezes the builder and consumes it.
     ///
     /// # Errors
-    /// `Unfinished` where the builder isn't whole, `Memory`. The builder is dropped.
+    /// `Incomplete` if the builder is not complete, `Memory` if an allocation fails. The builder is dropped.
     pub fn into_box(self) -> Result<AnyArray, Error>
         ensures slots { IfOk result (λ a. slots_of (layout_of a) ≡ own_slots (⟦<MutableDictionaryArray<K, M> as MutableArray>⟧.model self)) }
         ensures same_type { IfOk result (λ a. layout_type (layout_of a) ≡ builder_type (⟦<MutableDictionaryArray<K, M> as MutableArray>⟧.model self)) }
-        ensures unfinished { IsErrOf result (InvalidArgumentError Unfinished) ↔ ¬ IsWhole (⟦<MutableDictionaryArray<K, M> as MutableArray>⟧.model self) }
-        ensures errors { IfErr result (λ e. (e ≡ InvalidArgumentError Unfinished) ⊎ (e ≡ Memory alloc_error)) }
+        ensures incomplete { IsErrOf result (InvalidArgumentError Incomplete) ↔ ¬ IsComplete (⟦<MutableDictionaryArray<K, M> as MutableArray>⟧.model self) }
+        ensures errors { IfErr result (λ e. (e ≡ InvalidArgumentError Incomplete) ⊎ (e ≡ Memory alloc_error)) }
     {
         let mut rows = self;
         let array = rows.as_box();
@@ -284,15 +286,15 @@ impl<K: BuilderKey, M: MutableArray> MutableDictionaryArray<K, M> {
         array
     }
 
-    /// The same array, owned by what shares it.
+    /// Freezes the builder, consumes it and returns the array in an `Rc`.
     ///
     /// # Errors
     /// As `into_box`.
     pub fn into_arc(self, alloc: Global) -> Result<Rc<AnyArray>, Error>
         ensures slots { IfOk result (λ r. slots_of (layout_of r.value) ≡ own_slots (⟦<MutableDictionaryArray<K, M> as MutableArray>⟧.model self)) }
         ensures same_type { IfOk result (λ r. layout_type (layout_of r.value) ≡ builder_type (⟦<MutableDictionaryArray<K, M> as MutableArray>⟧.model self)) }
-        ensures unfinished { IsErrOf result (InvalidArgumentError Unfinished) ↔ ¬ IsWhole (⟦<MutableDictionaryArray<K, M> as MutableArray>⟧.model self) }
-        ensures errors { IfErr result (λ e. (e ≡ InvalidArgumentError Unfinished) ⊎ (e ≡ Memory alloc_error)) }
+        ensures incomplete { IsErrOf result (InvalidArgumentError Incomplete) ↔ ¬ IsComplete (⟦<MutableDictionaryArray<K, M> as MutableArray>⟧.model self) }
+        ensures errors { IfErr result (λ e. (e ≡ InvalidArgumentError Incomplete) ⊎ (e ≡ Memory alloc_error)) }
     {
         let mut rows = self;
         let array = rows.as_arc(alloc);
@@ -301,20 +303,20 @@ impl<K: BuilderKey, M: MutableArray> MutableDictionaryArray<K, M> {
     }
 }
 
-// What a child refuses a value by, where no key is left for it: its kind, else that.
+// The error where no key is left: `ItemType` if the child returned it, else `Overflow`.
 fn kind_first(refusal: Error) -> Error
     ensures kind { (result ≡ InvalidArgumentError ItemType) ↔ (refusal ≡ InvalidArgumentError ItemType) }
     ensures other { refusal ≢ InvalidArgumentError ItemType → result ≡ Overflow }
 {
     match refusal {
-        Error::InvalidArgumentError(Argument::ItemType) => {
-            Error::InvalidArgumentError(Argument::ItemType)
+        Error::InvalidArgumentError(ArgumentError::ItemType) => {
+            Error::InvalidArgumentError(ArgumentError::ItemType)
         }
         _ => Error::Overflow,
     }
 }
 
-// The array of keys and values that fit, where there are keys.
+// The array of these keys and values, or the error of the keys.
 fn over(
     alloc: Global,
     data_type: DataType,
@@ -362,9 +364,9 @@ impl<K: BuilderKey, M: MutableArray> MutableArray for MutableDictionaryArray<K, 
         self.rows.is_valid(i)
     }
 
-    fn is_whole(&self) -> bool {
+    fn is_complete(&self) -> bool {
         let values = self.values.get();
-        values.is_whole()
+        values.is_complete()
             && self.data_type.has_values(values.data_type())
             && values.len() == self.rows.needed()
     }

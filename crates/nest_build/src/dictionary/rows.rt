@@ -1,15 +1,15 @@
-//! The rows of a builder of dictionaries, without their values.
+//! The rows of a dictionary builder, without the values.
 ghost use Rattle.std.specs.Prelude.{◌≡◌, ◌+◌, ◌≤◌, ◌<◌, ◌⊎◌, ◌^◌, ◌++◌, ◌∷◌, [], ℕ, take, get_or, length, map, is_some, OnOk, OnErr, IfOk, IfErr, IfSome, IsNone, IsOkUnless, None, Some, option_map, alloc_error};
 ghost use Rattle.nest_memory.specs.Physical.{primitive_tree};
 ghost use Rattle.nest_array.specs.SeenKeys.{keys_layout};
 ghost use Rattle.nest_model.specs.Accessors.{key_type_of, natives_of, raw_keys};
-ghost use Rattle.nest_model.specs.BuilderFreeze.{SpellsKeys};
+ghost use Rattle.nest_model.specs.BuilderFreeze.{EncodesKeys};
 ghost use Rattle.nest_model.specs.BuilderRow.{values_needed};
 ghost use Rattle.nest_model.specs.BuilderTree.{key_count};
 ghost use Rattle.nest_model.specs.Fits.{KeysInRange};
 ghost use Rattle.nest_model.specs.Layout as layouts;
-ghost use Rattle.nest_build.specs.Keys.{keys_told, raw_key};
-ghost use Rattle.nest_build.specs.Words.{Memory, Overflow, SpellsBits, largest_length, len, validity_of};
+ghost use Rattle.nest_build.specs.Keys.{encoded_keys, raw_key};
+ghost use Rattle.nest_build.specs.Words.{Memory, Overflow, EncodesBits, largest_length, len, validity_of};
 
 use crate::dictionary::key::BuilderKey;
 use nest_array::AnyKeys;
@@ -20,31 +20,31 @@ use nest_memory::error::Error;
 use std::alloc::Global;
 use std::marker::Model;
 
-/// The keys of rows: the Dictionary-encoded Layout of the Arrow format, without the values. A row without a key is null. A
-/// validity is made at the first null row, and there is none without a row.
+/// The keys of rows: Dictionary-encoded Layout of the Arrow format, without the values. A row without a key is null.
+/// The validity is created at the first null row; without rows there is none.
 ///
-/// A call that answers `Err` changes no row, but for `freeze`.
+/// A call that returns an error changes no row, except `freeze`.
 #[derive(Drop)]
 pub struct DictionaryRows<K: BuilderKey> {
     keys: MutablePrimitiveArray<K>,
-    // how many values the keys need
+    // the number of values the keys need
     needed: usize,
     alloc: Global,
 }
 
 impl<K: BuilderKey> Model for DictionaryRows<K> {
     ghost use Rattle.std.specs.Prelude.{List, Option, ℕ};
-    ghost use Rattle.nest_build.specs.Keys.{AreKept, keys_told};
+    ghost use Rattle.nest_build.specs.Keys.{AreKept, encoded_keys};
 
     ghost Value = { List (Option ℕ) };
 
-    ghost view = { λ r. keys_told r.keys };
+    ghost view = { λ r. encoded_keys r.keys };
 
     ghost invariant = { λ r. AreKept r.keys r.needed };
 }
 
 impl<K: BuilderKey> DictionaryRows<K> {
-    /// No row.
+    /// Returns no rows.
     pub fn new(alloc: Global) -> DictionaryRows<K>
         ensures { result ≡ [] }
     {
@@ -55,30 +55,30 @@ impl<K: BuilderKey> DictionaryRows<K> {
         }
     }
 
-    /// How many rows there are.
+    /// Returns the number of rows.
     pub fn len(&self) -> usize
         ensures { result ≡ length self.now }
     {
         self.keys.len()
     }
 
-    /// The keys, one for each row.
+    /// Returns the keys, one per row.
     pub fn keys(&self) -> &MutablePrimitiveArray<K>
-        ensures spelled { SpellsKeys result.now self.now }
+        ensures spelled { EncodesKeys result.now self.now }
         ensures bare { self.now ≡ [] → validity_of result.now ≡ None }
     {
         self.keys.known();
         &self.keys
     }
 
-    /// How many values the keys need: one more than the greatest.
+    /// Returns the number of values the keys need: the greatest key plus one.
     pub fn needed(&self) -> usize
         ensures { result ≡ values_needed self.now }
     {
         self.needed
     }
 
-    /// The key of row i.
+    /// Returns the key of row `i`.
     pub fn key(&self, i: usize) -> Option<usize>
         requires { i < length self.now }
         ensures { result ≡ get_or self.now i None }
@@ -86,16 +86,16 @@ impl<K: BuilderKey> DictionaryRows<K> {
         key_of(&self.keys, i)
     }
 
-    /// Which rows are valid, a bit a row; without it all are.
+    /// Returns the validity, one bit per row. Without it all rows are valid.
     pub fn validity(&self) -> Option<&MutableBitmap>
-        ensures bits { SpellsBits (option_map (λ b. b.now) result) (map is_some self.now) }
+        ensures bits { EncodesBits (option_map (λ b. b.now) result) (map is_some self.now) }
         ensures none { self.now ≡ [] → IsNone result }
     {
         self.keys.known();
         self.keys.validity()
     }
 
-    /// Whether row i is valid.
+    /// Returns whether row `i` is valid.
     pub fn is_valid(&self, i: usize) -> bool
         requires { i < length self.now }
         ensures { result ≡ is_some (get_or self.now i None) }
@@ -103,10 +103,11 @@ impl<K: BuilderKey> DictionaryRows<K> {
         self.key(i).is_some()
     }
 
-    /// Adds a row: the value of that key, or null.
+    /// Appends a row with a key, or a null row.
     ///
     /// # Errors
-    /// `Overflow` where no key of this type is that number, or the values would be more than a length can be; `Memory`.
+    /// `Overflow` if the key type cannot represent the key, or the keys need more values than a length can be. `Memory`
+    /// if an allocation fails.
     pub fn push(&mut self, key: Option<usize>) -> Result<(), Error>
         ensures ok { OnOk result (self.new ≡ self.old ++ key ∷ []) }
         ensures within { OnOk result (length self.old + 1 ≤ largest_length) }
@@ -156,7 +157,7 @@ impl<K: BuilderKey> DictionaryRows<K> {
         Ok(())
     }
 
-    /// Keeps the first n rows. No memory is taken.
+    /// Keeps the first `n` rows. Does not allocate.
     pub fn truncate(&mut self, n: usize)
         requires { n ≤ length self.old }
         ensures { self.new ≡ take n self.old }
@@ -172,7 +173,7 @@ impl<K: BuilderKey> DictionaryRows<K> {
         self.needed = needed_by(&self.keys);
     }
 
-    // Leaves no row, and no validity.
+    // Removes all rows and the validity.
     fn clear(&mut self)
         ensures { self.new ≡ [] }
     {
@@ -180,10 +181,10 @@ impl<K: BuilderKey> DictionaryRows<K> {
         self.needed = 0;
     }
 
-    /// Room for so many rows more.
+    /// Reserves capacity for at least `additional` more rows.
     ///
     /// # Errors
-    /// `Memory`.
+    /// `Memory` if an allocation fails.
     pub fn reserve(&mut self, additional: usize) -> Result<(), Error>
         ensures same { self.new ≡ self.old }
         ensures memory { IsOkUnless result (Memory alloc_error) }
@@ -191,19 +192,19 @@ impl<K: BuilderKey> DictionaryRows<K> {
         self.keys.reserve(additional)
     }
 
-    /// Gives back memory that holds no row, where a smaller block is there.
+    /// Shrinks the capacity to the rows as far as the allocator can.
     pub fn shrink_to_fit(&mut self)
         ensures { self.new ≡ self.old }
     {
         self.keys.shrink_to_fit();
     }
 
-    /// The keys, in the variant of their width. No row and no validity is left, also after `Memory`.
+    /// Returns the keys, in the variant of their width. No rows and no validity are left, also after `Memory`.
     ///
     /// # Errors
-    /// `Memory`.
+    /// `Memory` if an allocation fails.
     pub fn freeze(&mut self) -> Result<AnyKeys, Error>
-        ensures ok { IfOk result (λ keys. SpellsKeys (keys_layout keys) self.old) }
+        ensures ok { IfOk result (λ keys. EncodesKeys (keys_layout keys) self.old) }
         ensures key_type { IfOk result (λ keys. key_type_of (keys_layout keys) ≡ Some K.KEY_TYPE) }
         ensures in_range { IfOk result (λ keys. KeysInRange (keys_layout keys) (values_needed self.old)) }
         ensures memory { IsOkUnless result (Memory alloc_error) }
@@ -216,7 +217,7 @@ impl<K: BuilderKey> DictionaryRows<K> {
     }
 }
 
-// The same keys in the variant of their width.
+// The keys in the variant of their width.
 fn wrapped<K: BuilderKey>(keys: PrimitiveArray<K>) -> Result<AnyKeys, Error>
     ensures ok { IfOk result (λ a. keys_layout a ≡ layouts.primitive K.PRIMITIVE (primitive_tree K.PRIMITIVE) (natives_of keys) (validity_of keys)) }
     ensures memory { IsOkUnless result (Memory alloc_error) }
@@ -240,9 +241,9 @@ fn any_keys<K: BuilderKey>(keys: &PrimitiveArray<K>) -> Result<AnyKeys, Error>
 
 // The key of row i.
 fn key_of<K: BuilderKey>(keys: &MutablePrimitiveArray<K>, i: usize) -> Option<usize>
-    requires raw { raw_keys keys.now ≡ map raw_key (keys_told keys.now) }
-    requires within { i < length (keys_told keys.now) }
-    ensures { result ≡ get_or (keys_told keys.now) i None }
+    requires raw { raw_keys keys.now ≡ map raw_key (encoded_keys keys.now) }
+    requires within { i < length (encoded_keys keys.now) }
+    ensures { result ≡ get_or (encoded_keys keys.now) i None }
 {
     keys.known();
     if !keys.is_valid(i) {
@@ -251,11 +252,11 @@ fn key_of<K: BuilderKey>(keys: &MutablePrimitiveArray<K>, i: usize) -> Option<us
     keys.values()[i].to_index()
 }
 
-// How many values keys need.
+// The number of values the keys need.
 fn needed_by<K: BuilderKey>(keys: &MutablePrimitiveArray<K>) -> usize
-    requires raw { raw_keys keys.now ≡ map raw_key (keys_told keys.now) }
-    requires fits { values_needed (keys_told keys.now) < 2 ^ 64 }
-    ensures { result ≡ values_needed (keys_told keys.now) }
+    requires raw { raw_keys keys.now ≡ map raw_key (encoded_keys keys.now) }
+    requires fits { values_needed (encoded_keys keys.now) < 2 ^ 64 }
+    ensures { result ≡ values_needed (encoded_keys keys.now) }
 {
     let mut needed: usize = 0;
     for i in 0..keys.len() {

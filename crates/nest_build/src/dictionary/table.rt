@@ -1,4 +1,4 @@
-//! Which numbers have a hash: what the builders of dictionaries find their values by.
+//! The hash table of dictionary builders: indices by hash.
 ghost use Rattle.std.specs.Prelude.{◌≡◌, ℕ, ◌+◌, ◌-◌, ◌*◌, ◌<◌, ◌≤◌, ◌++◌, ◌∷◌, [], true, false, get_or, length, take, slice_get, Some, IfOk, IfSome, IfNone, OnOk, OnErr, IsOkUnless, alloc_error};
 ghost use Rattle.nest_build.specs.Seats.{AreSeats, IsFree, IsSeated, free_places, place_on};
 ghost use Rattle.nest_build.specs.Words.{Memory};
@@ -7,12 +7,12 @@ use nest_memory::error::{Error, Result};
 use std::alloc::{AllocError, Global};
 use std::marker::Model;
 
-/// Hashes by number, in order. Numbers are found by their hash: an open table, at most half full, has each number at
-/// the first place that was free from the home of its hash on. Memory is taken in `push` alone.
+/// The hashes of values by index, and a hash table of the indices: open addressing with linear probing, at most half
+/// full. Only `push` allocates.
 #[derive(Drop)]
 pub struct KeyTable {
     hashes: Vec<u64>,
-    // one more than the number, 0 where there is none
+    // a table entry is an index plus one, or 0 if it is free
     places: Vec<usize>,
 }
 
@@ -28,7 +28,7 @@ impl Model for KeyTable {
 }
 
 impl KeyTable {
-    /// No hash, and no memory taken.
+    /// Returns a table without hashes. Does not allocate.
     pub fn new(alloc: Global) -> KeyTable
         ensures { result ≡ [] }
     {
@@ -38,17 +38,17 @@ impl KeyTable {
         }
     }
 
-    /// How many hashes there are.
+    /// Returns the number of hashes.
     pub fn len(&self) -> usize
         ensures { result ≡ length self.now }
     {
         self.hashes.len()
     }
 
-    /// A hash more.
+    /// Appends a hash.
     ///
     /// # Errors
-    /// `Memory`; then nothing changes.
+    /// `Memory` if an allocation fails; then nothing changes.
     pub fn push(&mut self, hash: u64) -> Result<()>
         ensures ok { OnOk result (self.new ≡ self.old ++ hash ∷ []) }
         ensures err { OnErr result (self.new ≡ self.old) }
@@ -65,7 +65,7 @@ impl KeyTable {
         }
     }
 
-    /// A number whose hash this is, and which passes the test.
+    /// Returns an index with this hash that passes the test.
     pub fn find<F: Fn(usize) -> bool>(&self, hash: u64, test: F) -> Option<usize>
         requires { (k : ℕ) → k < length self.now → F.pre test k }
         ensures some { IfSome result (λ k. (slice_get self.now k ≡ Some hash) × F.post test k true) }
@@ -74,7 +74,7 @@ impl KeyTable {
         find_number(self.hashes.as_slice(), self.places.as_slice(), hash, test)
     }
 
-    /// Keeps the first n hashes. No memory is taken.
+    /// Keeps the first `n` hashes. Does not allocate.
     pub fn truncate(&mut self, n: usize)
         requires { n ≤ length self.old }
         ensures { self.new ≡ take n self.old }
@@ -84,7 +84,7 @@ impl KeyTable {
         }
     }
 
-    /// Leaves no hash.
+    /// Removes all hashes.
     pub fn clear(&mut self)
         ensures { self.new ≡ [] }
     {
@@ -92,7 +92,7 @@ impl KeyTable {
         self.places.clear();
     }
 
-    // Takes the last hash off.
+    // Removes the last hash.
     fn pop(&mut self)
         requires { 0 < length self.old }
         ensures { self.new ≡ take (length self.old - 1) self.old }
@@ -104,7 +104,7 @@ impl KeyTable {
     }
 }
 
-// A number whose hash this is, and which passes the test.
+// An index with this hash that passes the test.
 fn find_number<F: Fn(usize) -> bool>(
     hashes: &[u64],
     places: &[usize],
@@ -131,7 +131,7 @@ fn find_number<F: Fn(usize) -> bool>(
     None
 }
 
-// Places for a hash more, so many that at most half of them have a number then.
+// Grows the table so that it is at most half full with one more hash.
 fn make_room(places: &mut Vec<usize>, hashes: &[u64]) -> Result<()>
     requires seats { AreSeats hashes.now places.old.items }
     requires half { 2 * length hashes.now ≤ length places.old.items }
@@ -152,7 +152,7 @@ fn make_room(places: &mut Vec<usize>, hashes: &[u64]) -> Result<()>
     Ok(())
 }
 
-// So many places without a number.
+// A table of free entries.
 fn free_table(alloc: Global, count: usize) -> Result<Vec<usize>>
     ensures ok { IfOk result (λ places. AreSeats [] places.items × (length places.items ≡ count)) }
     ensures memory { IsOkUnless result (Memory alloc_error) }
@@ -162,7 +162,7 @@ fn free_table(alloc: Global, count: usize) -> Result<Vec<usize>>
     Ok(places)
 }
 
-// Gives each hash's number its place in a table that has none yet.
+// Inserts the index of each hash into a table of free entries.
 fn seat_all(places: &mut Vec<usize>, hashes: &[u64])
     requires empty { AreSeats [] places.old.items }
     requires room { length hashes.now < length places.old.items }
@@ -175,7 +175,7 @@ fn seat_all(places: &mut Vec<usize>, hashes: &[u64])
     }
 }
 
-// The first place without a number that a search for the hash comes by.
+// The first free entry on the probe sequence of a hash.
 fn free_place(places: &[usize], hash: u64) -> usize
     requires { 0 < free_places places.now }
     ensures { IsFree places.now hash result }
@@ -187,7 +187,7 @@ fn free_place(places: &[usize], hash: u64) -> usize
     place_at(hash, step, places.len())
 }
 
-// The place of a number, by its hash.
+// The table entry of an index, by its hash.
 fn place_of(places: &[usize], hash: u64, number: usize) -> usize
     requires { IsSeated places.now hash number }
     ensures within { result < length places.now }
@@ -200,7 +200,7 @@ fn place_of(places: &[usize], hash: u64, number: usize) -> usize
     place_at(hash, step, places.len())
 }
 
-// The place to which a search for a hash comes after so many steps, around the end of 2^n places.
+// The table position that a probe for the hash visits at this step. The table length is a power of two.
 #[inline]
 fn place_at(hash: u64, step: usize, places: usize) -> usize
     requires { step < places }

@@ -1,9 +1,9 @@
-//! The values of a builder of dictionaries.
+//! The values of a dictionary builder.
 ghost use Rattle.std.specs.Prelude.{◌≡◌, ◌≤◌, ◌<◌, ◌⊎◌, ◌↔◌, false, IfOk, IfErr, IsErrOf, IsOkUnless, IsTrue, MatchOption, None, OnErr, OnOk, Some, alloc_error};
-ghost use Rattle.nest_model.specs.BuilderItem.{Lacks, Stands, plain, takes};
+ghost use Rattle.nest_model.specs.BuilderItem.{Lacks, IsValueAt, plain, takes};
 ghost use Rattle.nest_build.specs.Hashes.{value_hash};
 ghost use Rattle.nest_build.specs.Keyed.{AreKeyed};
-ghost use Rattle.nest_build.specs.Words.{Accepted, Holds, InvalidArgumentError, IsWhole, ItemType, Memory, builder_len, builder_type, cut_builder, emptied, layout_of, layout_type, own_slots, plain_refusal, plain_value, slots_of, type_of};
+ghost use Rattle.nest_build.specs.Words.{Accepted, Holds, InvalidArgumentError, IsComplete, ItemType, Memory, builder_len, builder_type, truncate_builder, emptied, layout_of, layout_type, own_slots, plain_refusal, plain_value, slots_of, type_of};
 
 use crate::array::MutableArray;
 use crate::child::frozen_parts;
@@ -14,7 +14,7 @@ use nest_memory::datatypes::DataType;
 use nest_memory::error::Error;
 use std::alloc::Global;
 
-/// Values that are pairwise different, over a builder of them.
+/// Pairwise different values, over a builder of them.
 #[derive(Drop)]
 pub(super) struct KeyedValues<M: MutableArray> {
     values: M,
@@ -24,7 +24,7 @@ pub(super) struct KeyedValues<M: MutableArray> {
 }
 
 impl<M: MutableArray> KeyedValues<M> {
-    /// No value, over an empty builder.
+    /// Returns no values, over an empty builder.
     pub(super) fn new(alloc: Global, values: M) -> KeyedValues<M>
         requires { builder_len (M.model values) ≡ 0 }
         ensures { M.model result.values ≡ M.model values }
@@ -35,17 +35,17 @@ impl<M: MutableArray> KeyedValues<M> {
         }
     }
 
-    /// The values.
+    /// Returns the builder of the values.
     pub(super) fn get(&self) -> &M
         ensures { M.model result.now ≡ M.model self.now.values }
     {
         &self.values
     }
 
-    /// Where the value of that hash stands.
+    /// Returns the index of a value with this hash.
     pub(super) fn find(&self, value: &Plain<'_>, hash: u64) -> Option<usize>
         requires { hash ≡ value_hash (plain_value value.now) }
-        ensures { MatchOption result (Lacks (M.model self.now.values) (plain_value value.now)) (Stands (M.model self.now.values) (plain_value value.now)) }
+        ensures { MatchOption result (Lacks (M.model self.now.values) (plain_value value.now)) (IsValueAt (M.model self.now.values) (plain_value value.now)) }
     {
         let values = &self.values;
         self.table.find(
@@ -57,13 +57,13 @@ impl<M: MutableArray> KeyedValues<M> {
         )
     }
 
-    /// Adds a value that none of the values is, by its hash.
+    /// Appends a new value with its hash.
     ///
     /// # Errors
-    /// Those of the builder of the values; then no value is added.
+    /// The errors of the builder of the values; then no value is added.
     pub(super) fn push(&mut self, value: Plain<'_>, hash: u64) -> Result<(), Error>
         requires hash { hash ≡ value_hash (plain_value value) }
-        requires whole { IsWhole (M.model self.old.values) }
+        requires complete { IsComplete (M.model self.old.values) }
         requires unknown { Lacks (M.model self.old.values) (plain_value value) }
         ensures accepted { OnOk result (Accepted (plain (plain_value value.entry)) (M.model self.old.values) (M.model self.new.values)) }
         ensures unrefused { OnOk result (plain_refusal (plain_value value.entry) (M.model self.old.values) ≡ None) }
@@ -84,26 +84,27 @@ impl<M: MutableArray> KeyedValues<M> {
         }
     }
 
-    /// Keeps the first n values. No memory is taken.
+    /// Keeps the first `n` values. Does not allocate.
     pub(super) fn truncate(&mut self, n: usize)
-        requires whole { IsWhole (M.model self.old.values) }
+        requires complete { IsComplete (M.model self.old.values) }
         requires within { n ≤ builder_len (M.model self.old.values) }
-        ensures { M.model self.new.values ≡ cut_builder (M.model self.old.values) n }
+        ensures { M.model self.new.values ≡ truncate_builder (M.model self.old.values) n }
     {
         self.table.truncate(n);
         self.values.truncate(n);
     }
 
-    /// The array of the values, under it the data type of their dictionaries. No value is left, also after `Memory`.
+    /// Returns the array of the values. `data_type` is the type of their dictionary. No values are left, also after
+    /// `Memory`.
     ///
     /// # Errors
-    /// `Memory`.
+    /// `Memory` if an allocation fails.
     pub(super) fn freeze(
         &mut self,
         alloc: Global,
         data_type: &DataType,
     ) -> Result<(DataType, AnyArray), Error>
-        requires { IsWhole (M.model self.old.values) }
+        requires { IsComplete (M.model self.old.values) }
         ensures same_type { IfOk result (λ parts. type_of parts.0 ≡ type_of data_type.now) }
         ensures slots { IfOk result (λ parts. slots_of (layout_of parts.1) ≡ own_slots (M.model self.old.values)) }
         ensures child_type { IfOk result (λ parts. layout_type (layout_of parts.1) ≡ builder_type (M.model self.old.values)) }
@@ -114,10 +115,10 @@ impl<M: MutableArray> KeyedValues<M> {
         frozen_parts(alloc, data_type, &mut self.values)
     }
 
-    /// Gives back memory that holds no value, where a smaller block is there.
+    /// Shrinks the capacity to the values as far as the allocator can.
     ///
     /// # Errors
-    /// `Memory`.
+    /// `Memory` if an allocation fails.
     pub(super) fn shrink_to_fit(&mut self) -> Result<(), Error>
         ensures same { M.model self.new.values ≡ M.model self.old.values }
         ensures memory { IsOkUnless result (Memory alloc_error) }

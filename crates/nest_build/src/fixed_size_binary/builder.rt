@@ -1,8 +1,8 @@
-//! The builder of byte strings of one size as a builder of flat arrays.
+//! `FlatBuilder` for fixed-size binary.
 ghost use Rattle.std.specs.Prelude.{◌≡◌, ◌⊎◌, None, Some, OnOk, OnErr, IfErr, option_map, alloc_error};
 ghost use Rattle.std.specs.Option.{option_copied};
 ghost use Rattle.nest_model.specs.BuilderItem as items;
-ghost use Rattle.nest_build.specs.Words.{Accepted, InvalidArgumentError, ItemSize, Memory, asked_item, asked_refusal, flat_tree};
+ghost use Rattle.nest_build.specs.Words.{Accepted, InvalidArgumentError, ItemSize, Memory, required_item, requirement_refusal, flat_tree};
 
 use crate::fixed_size_binary::MutableFixedSizeBinaryArray;
 use crate::flat::{FlatBuilder, TakesValue};
@@ -10,14 +10,14 @@ use nest_array::{AnyArray, FixedSizeBinaryValues};
 use nest_flat::plain::Plain;
 use nest_memory::bitmap::mutable::MutableBitmap;
 use nest_memory::datatypes::DataType;
-use nest_memory::error::{Argument, Error};
+use nest_memory::error::{ArgumentError, Error};
 
-/// Adds bytes, or a null. `ItemSize` where the bytes have another size.
+/// Appends bytes or a null. `ItemSize` if the bytes have another size.
 fn push_sized(values: &mut MutableFixedSizeBinaryArray, item: Option<&[u8]>) -> Result<(), Error>
-    ensures accepted { OnOk result (Accepted (asked_item (option_map items.bytes (option_copied item.entry))) (flat_tree values.old) (flat_tree values.new)) }
-    ensures unrefused { OnOk result (asked_refusal (option_map items.bytes (option_copied item.entry)) (flat_tree values.old) ≡ None) }
+    ensures accepted { OnOk result (Accepted (required_item (option_map items.bytes (option_copied item.entry))) (flat_tree values.old) (flat_tree values.new)) }
+    ensures unrefused { OnOk result (requirement_refusal (option_map items.bytes (option_copied item.entry)) (flat_tree values.old) ≡ None) }
     ensures err { OnErr result (values.new ≡ values.old) }
-    ensures cause { IfErr result (λ e. (e ≡ Memory alloc_error) ⊎ ((e ≡ InvalidArgumentError ItemSize) × (asked_refusal (option_map items.bytes (option_copied item.entry)) (flat_tree values.old) ≡ Some e))) }
+    ensures cause { IfErr result (λ e. (e ≡ Memory alloc_error) ⊎ ((e ≡ InvalidArgumentError ItemSize) × (requirement_refusal (option_map items.bytes (option_copied item.entry)) (flat_tree values.old) ≡ Some e))) }
 {
     values.known();
     if let Err(error) = values.try_push(item) {
@@ -64,7 +64,7 @@ impl FlatBuilder for MutableFixedSizeBinaryArray {
         match value {
             None => push_sized(self, None),
             Some(Plain::Bytes(bytes)) => push_sized(self, Some(bytes)),
-            Some(_) => Err(Error::InvalidArgumentError(Argument::ItemType)),
+            Some(_) => Err(Error::InvalidArgumentError(ArgumentError::ItemType)),
         }
     }
 

@@ -1,4 +1,4 @@
-//! Equality of builders of byte strings of one size: equal slots, whatever their data types.
+//! Equality of fixed-size binary builders: equal slots; the data types are not compared.
 ghost use Rattle.std.specs.Prelude.{◌≡◌, ◌↔◌, ◌<◌, IsTrue};
 ghost use Rattle.nest_model.specs.Nullness.{is_null_at, null_count};
 ghost use Rattle.nest_model.specs.Slot as slots;
@@ -65,7 +65,7 @@ impl<'a> FlatArray for &'a MutableFixedSizeBinaryArray {
     }
 }
 
-/// Whether two builders have the same slots.
+/// Returns whether two builders have equal slots.
 fn same_rows(a: &MutableFixedSizeBinaryArray, b: &MutableFixedSizeBinaryArray) -> bool
     ensures { IsTrue result ↔ (slots_of a.now ≡ slots_of b.now) }
 {

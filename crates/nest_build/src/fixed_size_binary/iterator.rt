@@ -1,4 +1,4 @@
-//! The slots and the raw values of a builder of byte strings of one size, from both ends.
+//! Double-ended iterators of fixed-size binary builders.
 ghost use Rattle.std.specs.Prelude.{◌≡◌, None};
 ghost use Rattle.nest_model.specs.Slot as slots;
 ghost use Rattle.nest_build.specs.Words.{optional, slots_of, with_validity};
@@ -6,13 +6,13 @@ ghost use Rattle.nest_build.specs.Words.{optional, slots_of, with_validity};
 use crate::fixed_size_binary::MutableFixedSizeBinaryArray;
 use nest_flat::iterator::{SlotItems, SlotsIter};
 
-/// The items of a builder's slots, `None` where one is null.
+/// An iterator of the slots of a builder, `None` for a null slot.
 pub type MutableFixedSizeBinaryIter<'a> = SlotsIter<BuilderSlots<'a>>;
 
-/// The raw values of a builder, also those under nulls.
+/// An iterator of the raw values of a builder, including those of null slots.
 pub type MutableFixedSizeBinaryValuesIter<'a> = SlotsIter<BuilderValues<'a>>;
 
-/// The slots of a builder of byte strings of one size, `None` where one is null.
+/// The slots of a fixed-size binary builder, `None` for a null slot.
 #[derive(Clone, Copy)]
 pub struct BuilderSlots<'a>(pub &'a MutableFixedSizeBinaryArray);
 
@@ -32,7 +32,7 @@ impl<'a> SlotItems for BuilderSlots<'a> {
     }
 }
 
-/// The raw values of a builder of byte strings of one size, also those under nulls.
+/// The raw values of a fixed-size binary builder, including those of null slots.
 #[derive(Clone, Copy)]
 pub struct BuilderValues<'a>(pub &'a MutableFixedSizeBinaryArray);
 
@@ -54,14 +54,14 @@ impl<'a> SlotItems for BuilderValues<'a> {
 }
 
 impl MutableFixedSizeBinaryArray {
-    /// The items of its slots, from both ends.
+    /// Returns an iterator of the slots.
     pub fn iter(&self) -> MutableFixedSizeBinaryIter<'_>
         ensures { result ≡ slots_of self.now }
     {
         SlotsIter::new(BuilderSlots(self))
     }
 
-    /// Its raw values, from both ends.
+    /// Returns an iterator of the raw values.
     pub fn iter_values(&self) -> MutableFixedSizeBinaryValuesIter<'_>
         ensures { result ≡ slots_of (with_validity self.now None) }
     {

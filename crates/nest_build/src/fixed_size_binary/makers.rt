@@ -1,20 +1,20 @@
-//! Builders of byte strings of one size from parts and from items.
+//! Constructors of fixed-size binary builders, from parts and from items.
 ghost use Rattle.std.specs.Prelude.{◌≡◌, ◌*◌, ◌<◌, ◌↔◌, ◌⊎◌, ◌++◌, ◌∷◌, ◌||◌, [], false, not, is_some, IfOk, IfErr, IsErrOf, OnOk, IsOkUnless, IsTrue, MatchResult, MatchOption, None, ℕ, List, Option, length, map, alloc_error};
 ghost use Rattle.std.specs.Borrow.{Bor};
 ghost use Rattle.std.specs.Option.{option_copied};
 ghost use Rattle.nest_memory.specs.TypeTree as types;
 ghost use Rattle.nest_model.specs.Layout as layouts;
 ghost use Rattle.nest_model.specs.Slot as slots;
-ghost use Rattle.nest_build.specs.Words.{CanDrain, FirstFault, Fits, Gives, GivesOtherSize, InvalidArgumentError, IsMadeOf, IsOtherSize, IsPast, ItemSize, Memory, OutOfSpec, Overflow, ValidityFits, ZeroSize, has_null, is_masked, layout_type, optional, size_of, slots_of, type_of};
+ghost use Rattle.nest_build.specs.Words.{CanDrain, FirstError, Fits, YieldsAll, GivesOtherSize, InvalidArgumentError, IsMadeOf, IsOtherSize, IsPast, ItemSize, Memory, OutOfSpec, Overflow, ValidityFits, ZeroSize, has_null, is_masked, layout_type, optional, size_of, slots_of, type_of};
 
 use crate::fixed_size_binary::MutableFixedSizeBinaryArray;
 use nest_memory::bitmap::mutable::MutableBitmap;
 use nest_memory::datatypes::DataType;
 use nest_memory::datatypes::physical_type::PhysicalType;
-use nest_memory::error::{Error, Spec};
+use nest_memory::error::{Error, SpecError};
 use std::alloc::Global;
 
-/// Whether a validity has a bit for each of n slots.
+/// Returns whether a validity has a bit for each of `n` slots.
 fn has_bits(validity: &Option<MutableBitmap>, n: usize) -> bool
     ensures { IsTrue result ↔ ValidityFits validity.now n }
 {
@@ -24,28 +24,32 @@ fn has_bits(validity: &Option<MutableBitmap>, n: usize) -> bool
     }
 }
 
-/// The first check of a builder's parts that fails.
-fn fault(data_type: &DataType, values: &Vec<u8>, validity: &Option<MutableBitmap>) -> Option<Error>
+/// Returns the first failed check of a builder's parts.
+fn first_error(
+    data_type: &DataType,
+    values: &Vec<u8>,
+    validity: &Option<MutableBitmap>,
+) -> Option<Error>
     ensures { let parts = layouts.fixed_size_binary (type_of data_type.now) values.now.items validity.now in
-        MatchOption result (Fits parts) (λ e. FirstFault e parts) }
+        MatchOption result (Fits parts) (λ e. FirstError e parts) }
 {
     if data_type.to_physical_type() != PhysicalType::FixedSizeBinary {
-        return Some(Error::OutOfSpec(Spec::WrongType));
+        return Some(Error::OutOfSpec(SpecError::WrongType));
     }
     let size = data_type.size().unwrap_or(0);
     if size == 0 {
-        return Some(Error::OutOfSpec(Spec::ZeroSize));
+        return Some(Error::OutOfSpec(SpecError::ZeroSize));
     }
     if values.len() % size != 0 {
-        return Some(Error::OutOfSpec(Spec::NotMultiple));
+        return Some(Error::OutOfSpec(SpecError::NotMultiple));
     }
     if !has_bits(validity, values.len() / size) {
-        return Some(Error::OutOfSpec(Spec::ValidityLength));
+        return Some(Error::OutOfSpec(SpecError::ValidityLength));
     }
     None
 }
 
-/// The bytes of a row.
+/// Returns the bytes of a row.
 fn bytes_of_row<const N: usize>(row: &[u8; N]) -> &[u8]
     ensures bytes { result.now ≡ row.now }
     ensures count { length result.now ≡ N }
@@ -53,7 +57,7 @@ fn bytes_of_row<const N: usize>(row: &[u8; N]) -> &[u8]
     row.as_slice()
 }
 
-/// Adds a slot: the row, or null.
+/// Appends a slot: the row, or null.
 fn push_row<const N: usize>(
     builder: &mut MutableFixedSizeBinaryArray,
     item: &Option<[u8; N]>,
@@ -71,7 +75,7 @@ fn push_row<const N: usize>(
     }
 }
 
-/// Adds a slot for each item, until one finds no memory.
+/// Appends a slot per item, until an allocation fails.
 fn push_rows<const N: usize>(
     builder: &mut MutableFixedSizeBinaryArray,
     items: &[Option<[u8; N]>],
@@ -90,7 +94,7 @@ fn push_rows<const N: usize>(
     Ok(())
 }
 
-/// Adds a slot: bytes of its size, or null.
+/// Appends a slot: bytes of the builder's size, or null.
 fn push_item(builder: &mut MutableFixedSizeBinaryArray, item: Option<&[u8]>) -> Result<(), Error>
     ensures slots { OnOk result (slots_of builder.new ≡ slots_of builder.old ++ optional slots.bytes (option_copied item.entry) ∷ []) }
     ensures masked { OnOk result (is_masked builder.new ≡ (is_masked builder.old || not (is_some (option_copied item.entry)))) }
@@ -102,14 +106,14 @@ fn push_item(builder: &mut MutableFixedSizeBinaryArray, item: Option<&[u8]>) -> 
     builder.try_push(item)
 }
 
-/// Adds a slot for each item, until one is refused.
+/// Appends a slot per item, until one is refused.
 fn push_items<'a, I: IntoIterator<Item = Option<&'a [u8]>>>(
     builder: &mut MutableFixedSizeBinaryArray,
     items: I,
 ) -> Result<(), Error>
     requires can { CanDrain I.into_iter_gives I.IntoIter.can_next I.IntoIter.remaining items }
     requires empty { IsMadeOf (size_of (layout_type builder.old)) [] builder.old }
-    ensures ok { OnOk result ((xs : List (Option (Bor (List ℕ)))) × Gives I.into_iter_gives I.IntoIter.next_gives items xs
+    ensures ok { OnOk result ((xs : List (Option (Bor (List ℕ)))) × YieldsAll I.into_iter_gives I.IntoIter.next_gives items xs
         × IsMadeOf (size_of (layout_type builder.old)) (map option_copied xs) builder.new) }
     ensures cause { IfErr result (λ e. (e ≡ Memory alloc_error)
         ⊎ ((e ≡ InvalidArgumentError ItemSize) × GivesOtherSize I.into_iter_gives I.IntoIter.next_gives (size_of (layout_type builder.old)) items)) }
@@ -123,29 +127,30 @@ fn push_items<'a, I: IntoIterator<Item = Option<&'a [u8]>>>(
 }
 
 impl MutableFixedSizeBinaryArray {
-    /// The builder of these parts.
+    /// Returns the builder of these parts.
     ///
     /// # Errors
-    /// `WrongType` where the physical type isn't `FixedSizeBinary`, `ZeroSize` where its size is 0, `NotMultiple` where the
-    /// number of bytes is no multiple of it, `ValidityLength` where the validity has another length: the first of these.
+    /// The first of: `WrongType` if the physical type is not `FixedSizeBinary`; `ZeroSize` if its size is 0;
+    /// `NotMultiple` if the number of bytes is not a multiple of the size; `ValidityLength` if the validity has another
+    /// length.
     pub fn try_new(
         data_type: DataType,
         values: Vec<u8>,
         validity: Option<MutableBitmap>,
     ) -> Result<MutableFixedSizeBinaryArray, Error>
         ensures { let parts = layouts.fixed_size_binary (type_of data_type) values.items validity in
-            MatchResult result (λ b. Fits parts × (b ≡ parts)) (λ e. FirstFault e parts) }
+            MatchResult result (λ b. Fits parts × (b ≡ parts)) (λ e. FirstError e parts) }
     {
-        if let Some(error) = fault(&data_type, &values, &validity) {
+        if let Some(error) = first_error(&data_type, &values, &validity) {
             return Err(error);
         }
         Ok(MutableFixedSizeBinaryArray::of_parts(data_type, values, validity))
     }
 
-    /// No slot, of the type of byte strings of this size, with room for so many of them.
+    /// Returns a builder without slots, of items of this size in bytes, with capacity for `capacity` of them.
     ///
     /// # Errors
-    /// `Overflow` where they have more bytes than a `usize` counts; `Memory`.
+    /// `Overflow` if the capacity in bytes exceeds a `usize`. `Memory` if an allocation fails.
     pub fn with_capacity(
         alloc: Global,
         size: usize,
@@ -166,10 +171,10 @@ impl MutableFixedSizeBinaryArray {
         }
     }
 
-    /// The builder of these items, of the type of byte strings of their size. It has a validity where one is null.
+    /// Returns the builder of these items, whose size is `N` bytes. It has a validity if one is null.
     ///
     /// # Errors
-    /// `Memory`.
+    /// `Memory` if an allocation fails.
     pub fn from<const N: usize>(
         alloc: Global,
         items: &[Option<[u8; N]>],
@@ -190,23 +195,23 @@ impl MutableFixedSizeBinaryArray {
         }
     }
 
-    /// The builder of these items, of the type of byte strings of this size. It has a validity where one is null.
+    /// Returns the builder of these items, of this size in bytes. It has a validity if one is null.
     ///
     /// # Errors
-    /// `ZeroSize` where the size is 0; `ItemSize` at the first item of another size; `Memory`.
+    /// `ZeroSize` if the size is 0; `ItemSize` at the first item of another size; `Memory` if an allocation fails.
     pub fn try_from_iter<'a, I: IntoIterator<Item = Option<&'a [u8]>> + Drop>(
         alloc: Global,
         items: I,
         size: usize,
     ) -> Result<MutableFixedSizeBinaryArray, Error>
         requires { CanDrain I.into_iter_gives I.IntoIter.can_next I.IntoIter.remaining items }
-        ensures ok { IfOk result (λ b. (xs : List (Option (Bor (List ℕ)))) × Gives I.into_iter_gives I.IntoIter.next_gives items xs × IsMadeOf size (map option_copied xs) b) }
+        ensures ok { IfOk result (λ b. (xs : List (Option (Bor (List ℕ)))) × YieldsAll I.into_iter_gives I.IntoIter.next_gives items xs × IsMadeOf size (map option_copied xs) b) }
         ensures zero { IsErrOf result (OutOfSpec ZeroSize) ↔ (size ≡ 0) }
         ensures cause { IfErr result (λ e. ((e ≡ OutOfSpec ZeroSize) × (size ≡ 0)) ⊎ ((e ≡ Memory alloc_error)
             ⊎ ((e ≡ InvalidArgumentError ItemSize) × GivesOtherSize I.into_iter_gives I.IntoIter.next_gives size items))) }
     {
         if size == 0 {
-            return Err(Error::OutOfSpec(Spec::ZeroSize));
+            return Err(Error::OutOfSpec(SpecError::ZeroSize));
         }
         let mut builder = MutableFixedSizeBinaryArray::new(alloc, size);
         match push_items(&mut builder, items) {

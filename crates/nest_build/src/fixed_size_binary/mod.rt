@@ -1,4 +1,4 @@
-//! Arrays of byte strings of one size that are built row by row.
+//! Builders of fixed-size binary arrays.
 mod builder;
 mod equality;
 pub mod iterator;

@@ -1,29 +1,28 @@
-//! The builder of arrays of byte strings of one size.
+//! The builder of fixed-size binary arrays.
 ghost use Rattle.std.specs.Prelude.{◌≡◌, ◌≢◌, ◌+◌, ◌-◌, ◌*◌, ◌≤◌, ◌<◌, ◌↔◌, ◌⊎◌, ◌++◌, ◌∷◌, [], IsTrue, OnOk, OnErr, IfOk, IfErr, IsErrOf, IsOkUnless, None, option_map, get_or, take, alloc_error};
 ghost use Rattle.std.specs.Option.{option_copied};
 ghost use Rattle.nest_memory.specs.TypeTree as types;
 ghost use Rattle.nest_model.specs.Layout as layouts;
 ghost use Rattle.nest_model.specs.Slot as slots;
-ghost use Rattle.nest_build.specs.Words.{Fits, InvalidArgumentError, IsOtherSize, IsPast, ItemSize, ItemType, Memory, Overflow, TopFits, bytes_of, cut, cut_layout, joined_bytes, layout_type, len, optional, pushed_bytes, size_of, sized_bytes, slot, slots_of, type_of, valid_at, validity_of, where_valid, with_bytes, with_validity};
+ghost use Rattle.nest_build.specs.Words.{Fits, InvalidArgumentError, IsOtherSize, IsPast, ItemSize, ItemType, Memory, Overflow, TopFits, bytes_of, sublist, slice_layout, joined_bytes, layout_type, len, optional, pushed_bytes, size_of, sized_bytes, slot, slots_of, type_of, valid_at, validity_of, where_valid, with_bytes, with_validity};
 
 use nest_array::FixedSizeBinaryArray;
 use nest_flat::growth::validity;
 use nest_memory::bitmap::mutable::MutableBitmap;
 use nest_memory::buffer::Buffer;
 use nest_memory::datatypes::DataType;
-use nest_memory::error::{Argument, Error};
+use nest_memory::error::{ArgumentError, Error};
 use std::alloc::Global;
 use std::marker::Model;
 use std::mem;
 
-/// Byte strings of one size, at least 1, and nulls that are pushed one after another, and then frozen into a
-/// `FixedSizeBinaryArray`. arrow2's `MutableFixedSizeBinaryArray`.
+/// A builder of fixed-size binary arrays, of a size of at least 1 byte. arrow2's `MutableFixedSizeBinaryArray`.
 ///
-/// Under a null lie zeros. A validity is made at the first null. A call that answers `Err` changes nothing, but for
-/// `freeze`, which empties the builder either way.
+/// The bytes of a null slot are zeros. The validity is created at the first null. A call that returns an error changes
+/// nothing, except `freeze`, which always empties the builder.
 #[derive(Drop)]
 pub struct MutableFixedSizeBinaryArray {
-    // The data type's, which may lie below extensions.
+    // The size in the data type, which may be nested in extension types.
     size: usize,
     data_type: DataType,
     values: Vec<u8>,
@@ -49,7 +48,7 @@ impl Model for MutableFixedSizeBinaryArray {
     ghost invariant = { λ b. TopFits (layouts.fixed_size_binary (type_of b.data_type) b.values.items b.validity) × (b.size ≡ size_of (type_of b.data_type)) };
 }
 
-/// Adds the bytes of one slot more: zeros for a null.
+/// Appends the bytes of one slot, zeros for a null.
 fn push_bytes(values: &mut Vec<u8>, size: usize, item: Option<&[u8]>) -> Result<(), Error>
     ensures ok { OnOk result (values.new.items ≡ values.old.items ++ sized_bytes size (option_copied item.entry)) }
     ensures err { OnErr result (values.new.items ≡ values.old.items) }
@@ -71,7 +70,7 @@ impl MutableFixedSizeBinaryArray {
     ghost use Rattle.std.specs.Borrow.{Array, Lends, sem, u8 as byte};
     ghost use Rattle.nest_build.specs.contracts.fixed_size_binary.mutable.MutableFixedSizeBinaryArray.{the_row};
 
-    /// No slot, of the type of byte strings of this size, and no memory taken.
+    /// Returns a builder without slots, of items of this size in bytes. Does not allocate.
     pub fn new(alloc: Global, size: usize) -> MutableFixedSizeBinaryArray
         requires { 0 < size }
         ensures { result ≡ layouts.fixed_size_binary (types.fixed_size_binary size) [] None }
@@ -84,7 +83,7 @@ impl MutableFixedSizeBinaryArray {
         }
     }
 
-    /// The builder of parts that fit.
+    /// Returns the builder of valid parts.
     pub(crate) fn of_parts(
         data_type: DataType,
         values: Vec<u8>,
@@ -101,7 +100,7 @@ impl MutableFixedSizeBinaryArray {
         }
     }
 
-    /// What holds of every such builder.
+    /// Shows the prover the invariants of a builder. Does nothing at run time.
     pub fn known(&self)
         ensures fits { TopFits self.now }
         ensures kind { self.now ≡ layouts.fixed_size_binary (layout_type self.now) (bytes_of self.now) (validity_of self.now) }
@@ -109,28 +108,28 @@ impl MutableFixedSizeBinaryArray {
         let _ = &self.data_type;
     }
 
-    /// How many slots it has.
+    /// Returns the number of slots.
     pub fn len(&self) -> usize
         ensures { result ≡ len self.now }
     {
         self.values.len() / self.size
     }
 
-    /// Whether it has no slot.
+    /// Returns whether there are no slots.
     pub fn is_empty(&self) -> bool
         ensures { IsTrue result ↔ (len self.now ≡ 0) }
     {
         self.len() == 0
     }
 
-    /// Its data type.
+    /// Returns the data type.
     pub fn data_type(&self) -> &DataType
         ensures { type_of result.now ≡ layout_type self.now }
     {
         &self.data_type
     }
 
-    /// How many bytes each slot has.
+    /// Returns the number of bytes per slot.
     pub fn size(&self) -> usize
         ensures typed { result ≡ size_of (layout_type self.now) }
         ensures some { 0 < result }
@@ -138,28 +137,28 @@ impl MutableFixedSizeBinaryArray {
         self.size
     }
 
-    /// For how many slots there is room.
+    /// Returns the capacity in slots.
     pub fn capacity(&self) -> usize
         ensures { len self.now ≤ result }
     {
         self.values.capacity() / self.size
     }
 
-    /// Which slots are valid, a bit a slot; without it all are.
+    /// Returns the validity, one bit per slot. Without it all slots are valid.
     pub fn validity(&self) -> Option<&MutableBitmap>
         ensures { option_map (λ b. b.now) result ≡ validity_of self.now }
     {
         self.validity.as_ref()
     }
 
-    /// The bytes of all slots, one after another, also those under nulls.
+    /// Returns the bytes of all slots, including those of null slots.
     pub fn values(&self) -> &Vec<u8>
         ensures { result.now.items ≡ bytes_of self.now }
     {
         &self.values
     }
 
-    /// The same, to be written over.
+    /// Returns the bytes of all slots as a mutable slice.
     pub fn values_mut_slice(&mut self) -> &mut [u8]
         ensures* writes_back { sem 𝓛 (Lends the_row (Array byte 0) self.entry result (with_bytes self.entry.now)) }
         ensures value { result.now ≡ bytes_of self.old }
@@ -167,14 +166,14 @@ impl MutableFixedSizeBinaryArray {
         self.values.as_mut_slice()
     }
 
-    /// How many bytes its slots have together.
+    /// Returns the number of bytes of all slots.
     pub(crate) fn byte_count(&self) -> usize
         ensures { result ≡ len self.now * size_of (layout_type self.now) }
     {
         self.values.len()
     }
 
-    /// Whether slot i is not null.
+    /// Returns whether slot `i` is valid.
     pub fn is_valid(&self, i: usize) -> bool
         requires { i < len self.now }
         ensures { result ≡ valid_at (validity_of self.now) i }
@@ -182,10 +181,10 @@ impl MutableFixedSizeBinaryArray {
         validity::is_valid(&self.validity, i)
     }
 
-    /// The bytes of slot i, zeros where it was pushed as a null.
+    /// Returns the bytes of slot `i`, zeros if it was pushed as a null.
     pub fn value(&self, i: usize) -> &[u8]
         requires { i < len self.now }
-        ensures raw { result.now ≡ cut (bytes_of self.now) (i * size_of (layout_type self.now)) (size_of (layout_type self.now)) }
+        ensures raw { result.now ≡ sublist (bytes_of self.now) (i * size_of (layout_type self.now)) (size_of (layout_type self.now)) }
         ensures slot { slot self.now i ≡ where_valid (validity_of self.now) i (slots.bytes result.now) }
         ensures unmasked { slot (with_validity self.now None) i ≡ slots.bytes result.now }
     {
@@ -195,7 +194,7 @@ impl MutableFixedSizeBinaryArray {
         &values.as_slice()[start..start + self.size]
     }
 
-    /// The bytes of slot i, `None` where it is null.
+    /// Returns the bytes of slot `i`, `None` if it is null.
     pub fn get(&self, i: usize) -> Option<&[u8]>
         requires { i < len self.now }
         ensures { optional (λ x. slots.bytes x.now) result ≡ slot self.now i }
@@ -207,10 +206,10 @@ impl MutableFixedSizeBinaryArray {
         }
     }
 
-    /// Adds a slot: bytes of its size, or null.
+    /// Appends a slot: bytes of the builder's size, or null.
     ///
     /// # Errors
-    /// `ItemSize` where the bytes have another size; `Memory`.
+    /// `ItemSize` if the bytes have another size; `Memory` if an allocation fails.
     pub fn try_push(&mut self, item: Option<&[u8]>) -> Result<(), Error>
         ensures parts { OnOk result (self.new ≡ pushed_bytes self.old (option_copied item.entry)) }
         ensures slots { OnOk result (slots_of self.new ≡ slots_of self.old ++ optional slots.bytes (option_copied item.entry) ∷ []) }
@@ -221,16 +220,16 @@ impl MutableFixedSizeBinaryArray {
     {
         if let Some(bytes) = item {
             if bytes.len() != self.size {
-                return Err(Error::InvalidArgumentError(Argument::ItemSize));
+                return Err(Error::InvalidArgumentError(ArgumentError::ItemSize));
             }
         }
         self.push(item)
     }
 
-    /// Adds a slot: bytes of its size, or null.
+    /// Appends a slot: bytes of the builder's size, or null.
     ///
     /// # Errors
-    /// `Memory`.
+    /// `Memory` if an allocation fails.
     pub fn push(&mut self, item: Option<&[u8]>) -> Result<(), Error>
         requires { ¬ IsOtherSize (size_of (layout_type self.old)) (option_copied item) }
         ensures parts { OnOk result (self.new ≡ pushed_bytes self.old (option_copied item.entry)) }
@@ -251,10 +250,10 @@ impl MutableFixedSizeBinaryArray {
         Ok(())
     }
 
-    /// Adds the slots of another builder, all of them or none.
+    /// Appends the slots of another builder, all of them or none.
     ///
     /// # Errors
-    /// `ItemType` where the data types differ; `Memory`.
+    /// `ItemType` if the data types differ; `Memory` if an allocation fails.
     pub fn try_extend_from_self(&mut self, other: &MutableFixedSizeBinaryArray) -> Result<(), Error>
         ensures slots { OnOk result (slots_of self.new ≡ slots_of self.old ++ slots_of other.now) }
         ensures err { OnErr result (self.new ≡ self.old) }
@@ -264,7 +263,7 @@ impl MutableFixedSizeBinaryArray {
     {
         let same_type = *self.data_type() == *other.data_type();
         if !same_type {
-            return Err(Error::InvalidArgumentError(Argument::ItemType));
+            return Err(Error::InvalidArgumentError(ArgumentError::ItemType));
         }
         self.append(other)
     }
@@ -289,7 +288,7 @@ impl MutableFixedSizeBinaryArray {
         Ok(())
     }
 
-    /// The bytes of the last slot, copied; `None` where it is null or there is none.
+    /// Returns a copy of the bytes of the last slot, `None` if it is null or there is none.
     fn last(&self) -> Result<Option<Vec<u8>>, Error>
         ensures ok { IfOk result (λ item. optional (λ bytes. slots.bytes bytes.items) item ≡ get_or (slots_of self.now) (len self.now - 1) slots.null) }
         ensures memory { IsOkUnless result (Memory alloc_error) }
@@ -305,13 +304,13 @@ impl MutableFixedSizeBinaryArray {
         }
     }
 
-    /// Takes the last slot away: its bytes, or `None` where it was null or there is none.
+    /// Removes the last slot and returns its bytes, `None` if it was null or there is none.
     ///
     /// # Errors
-    /// `Memory`, and then nothing changes.
+    /// `Memory` if an allocation fails; then nothing changes.
     pub fn pop(&mut self) -> Result<Option<Vec<u8>>, Error>
         ensures value { IfOk result (λ item. optional (λ bytes. slots.bytes bytes.items) item ≡ get_or (slots_of self.old) (len self.old - 1) slots.null) }
-        ensures rest { OnOk result (self.new ≡ cut_layout self.old 0 (len self.old - 1)) }
+        ensures rest { OnOk result (self.new ≡ slice_layout self.old 0 (len self.old - 1)) }
         ensures slots { OnOk result (slots_of self.new ≡ take (len self.old - 1) (slots_of self.old)) }
         ensures err { OnErr result (self.new ≡ self.old) }
         ensures memory { IsOkUnless result (Memory alloc_error) }
@@ -322,10 +321,10 @@ impl MutableFixedSizeBinaryArray {
         Ok(last)
     }
 
-    /// Keeps the first n slots.
+    /// Keeps the first `n` slots.
     pub fn truncate(&mut self, n: usize)
         requires { n ≤ len self.old }
-        ensures parts { self.new ≡ cut_layout self.old 0 n }
+        ensures parts { self.new ≡ slice_layout self.old 0 n }
         ensures slots { slots_of self.new ≡ take n (slots_of self.old) }
         ensures same_type { layout_type self.new ≡ layout_type self.old }
     {
@@ -333,10 +332,10 @@ impl MutableFixedSizeBinaryArray {
         validity::truncate(&mut self.validity, n);
     }
 
-    /// Room for so many slots more.
+    /// Reserves capacity for at least `additional` more slots.
     ///
     /// # Errors
-    /// `Overflow` where they have more bytes than a `usize` counts; `Memory`.
+    /// `Overflow` if the capacity in bytes exceeds a `usize`. `Memory` if an allocation fails.
     pub fn reserve(&mut self, additional: usize) -> Result<(), Error>
         ensures same { self.new ≡ self.old }
         ensures overflow { IsErrOf result Overflow ↔ IsPast (additional * size_of (layout_type self.old)) }
@@ -351,7 +350,7 @@ impl MutableFixedSizeBinaryArray {
         }
     }
 
-    /// Gives back memory that holds no slot, where a smaller block is there.
+    /// Shrinks the capacity to the slots as far as the allocator can.
     pub fn shrink_to_fit(&mut self)
         ensures { self.new ≡ self.old }
     {
@@ -359,11 +358,11 @@ impl MutableFixedSizeBinaryArray {
         validity::shrink_to_fit(&mut self.validity);
     }
 
-    /// The array of the slots. The builder keeps its data type and has no slot and no validity then, also where this
-    /// answers `Err`.
+    /// Freezes the builder: returns the array of its slots. The builder keeps its data type; it has no slots and no
+    /// validity afterwards, also after an error.
     ///
     /// # Errors
-    /// `Memory`.
+    /// `Memory` if an allocation fails.
     pub fn freeze(&mut self) -> Result<FixedSizeBinaryArray, Error>
         ensures ok { IfOk result (λ a. a ≡ self.old) }
         ensures emptied { self.new ≡ layouts.fixed_size_binary (layout_type self.old) [] None }

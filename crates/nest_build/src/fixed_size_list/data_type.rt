@@ -1,4 +1,4 @@
-//! The data types of builders of lists of one size.
+//! Data types of fixed-size list builders.
 ghost use Rattle.std.specs.Prelude.{◌≡◌, ◌<◌, ◌⊎◌, Some, IfOk, IfErr, MatchResult, alloc_error};
 ghost use Rattle.nest_memory.specs.TypeTree as types;
 ghost use Rattle.nest_memory.specs.TypeOf.{field_of};
@@ -10,11 +10,11 @@ use crate::child::has_items;
 use nest_memory::datatypes::DataType;
 use nest_memory::datatypes::field::Field;
 use nest_memory::datatypes::physical_type::PhysicalType;
-use nest_memory::error::{Error, Spec};
+use nest_memory::error::{Error, SpecError};
 use std::alloc::Global;
 use std::marker::Model;
 
-/// A data type of lists of one size.
+/// A fixed-size list type.
 #[derive(Drop)]
 pub struct FixedType {
     data_type: DataType,
@@ -39,14 +39,14 @@ impl Model for FixedType {
 }
 
 impl FixedType {
-    /// Of lists of so many such items.
+    /// Returns the type of lists of `size` such items.
     pub fn of_field(alloc: Global, items: Field, size: usize) -> Result<FixedType, Error>
         ensures ok { IfOk result (λ t. t ≡ types.fixed_size_list (field_of items) size) }
         ensures some { IfOk result (λ _. 0 < size) }
         ensures cause { IfErr result (λ e. (e ≡ Memory alloc_error) ⊎ ((e ≡ OutOfSpec ZeroSize) × (size ≡ 0))) }
     {
         if size == 0 {
-            return Err(Error::OutOfSpec(Spec::ZeroSize));
+            return Err(Error::OutOfSpec(SpecError::ZeroSize));
         }
         Ok(FixedType {
             data_type: DataType::FixedSizeList(Box::new(alloc, items)?, size),
@@ -54,7 +54,7 @@ impl FixedType {
         })
     }
 
-    /// A data type whose lists have so many items of that type.
+    /// Wraps a type of lists of `size` items of this type.
     pub fn of_type(data_type: DataType, items: &DataType, size: usize) -> Result<FixedType, Error>
         ensures { let checks = fixed_type_checks size (type_of data_type) (type_of items.now) in
             MatchResult result (λ t. Pass checks × (t ≡ type_of data_type)) (λ e. FailFirst e checks) }
@@ -62,15 +62,15 @@ impl FixedType {
         let is_fixed = data_type.to_physical_type() == PhysicalType::FixedSizeList;
         if !is_fixed || data_type.size().unwrap_or(0) != size {
             drop(data_type);
-            return Err(Error::OutOfSpec(Spec::WrongType));
+            return Err(Error::OutOfSpec(SpecError::WrongType));
         }
         if size == 0 {
             drop(data_type);
-            return Err(Error::OutOfSpec(Spec::ZeroSize));
+            return Err(Error::OutOfSpec(SpecError::ZeroSize));
         }
         if !has_items(&data_type, items) {
             drop(data_type);
-            return Err(Error::OutOfSpec(Spec::ChildType));
+            return Err(Error::OutOfSpec(SpecError::ChildType));
         }
         Ok(FixedType { data_type, size })
     }
@@ -82,7 +82,7 @@ impl FixedType {
         &self.data_type
     }
 
-    /// How many items each list has.
+    /// Returns the number of items per list.
     pub fn size(&self) -> usize
         ensures value { result ≡ size_of self.now }
         ensures some { 0 < result }

@@ -1,4 +1,4 @@
-//! The builder of arrays of lists of one size.
+//! The builder of fixed-size list arrays.
 
 pub mod data_type;
 mod mutable;

@@ -1,4 +1,4 @@
-//! The builder of arrays of lists of one size, over any builder of their items.
+//! The builder of fixed-size list arrays over any builder of the items.
 ghost use Rattle.std.specs.Prelude.{◌≡◌, ◌≢◌, ◌<◌, ◌⊎◌, ◌↔◌, [], true, OnOk, OnErr, IfOk, IfErr, IsErrOf, IsOkUnless, MatchOption, ◌+◌, ◌*◌, Some, length, alloc_error};
 ghost use Rattle.std.specs.Borrow.{sem, Lends};
 ghost use Rattle.nest_memory.specs.TypeTree as types;
@@ -6,7 +6,7 @@ ghost use Rattle.nest_memory.specs.TypeTree.{field};
 ghost use Rattle.nest_memory.specs.declared.datatypes.physical_type.PhysicalType.TheVariants as physical;
 ghost use Rattle.nest_model.specs.BuilderTree as builders;
 ghost use Rattle.nest_build.specs.Lists.{RefusesFixed, new_fixed_checks, no_fixed_lists};
-ghost use Rattle.nest_build.specs.Words.{CanReadList, ChildNotEmpty, FailFirst, HasWholeChildren, InvalidArgumentError, IsWhole, Memory, OutOfSpec, Pass, ReadsList, Told, Unfinished, ZeroSize, builder_len, builder_type, default_field, emptied, item_type, largest_length, layout_of, layout_type, len, list_child, own_slots, physical_type, row_checks, rows_of_size, size_of, slots_of, type_of};
+ghost use Rattle.nest_build.specs.Words.{CanReadList, ChildNotEmpty, FailFirst, HasCompleteChildren, InvalidArgumentError, IsComplete, Memory, OutOfSpec, Pass, ReadsList, RowAdded, Incomplete, ZeroSize, builder_len, builder_type, default_field, emptied, item_type, largest_length, layout_of, layout_type, len, list_child, own_slots, physical_type, row_checks, rows_of_size, size_of, slots_of, type_of};
 
 use crate::array::{MutableArray, shared};
 use crate::child::{OverChild, frozen_parts, has_items, same_types};
@@ -18,12 +18,12 @@ use nest_flat::plain::Plain;
 use nest_memory::bitmap::mutable::MutableBitmap;
 use nest_memory::datatypes::DataType;
 use nest_memory::datatypes::field::Field;
-use nest_memory::error::{Argument, Error};
+use nest_memory::error::{ArgumentError, Error};
 use std::alloc::Global;
 use std::rc::Rc;
 
-/// Lists of one size that are pushed one after another, over a builder of their items: arrow2's
-/// `MutableFixedSizeListArray`. Items that are pushed into the child wait there until a row of them is told.
+/// A builder of fixed-size list arrays over a builder of the items: arrow2's `MutableFixedSizeListArray`. Items pushed
+/// into the child are pending until a row of them is added.
 #[derive(Drop)]
 pub struct MutableFixedSizeListArray<M> {
     data_type: FixedType,
@@ -35,12 +35,12 @@ pub struct MutableFixedSizeListArray<M> {
 impl<M: MutableArray> MutableFixedSizeListArray<M> {
     ghost use Rattle.nest_build.specs.contracts.fixed_size_list.mutable.MutableFixedSizeListArray.{the_row};
 
-    /// No row, over an empty child: lists of so many items, which are named "item" and nullable.
+    /// Returns a builder without rows over an empty child. The items are named "item" and nullable.
     ///
     /// # Errors
-    /// `ChildNotEmpty` where the child has rows, then `ZeroSize`; `Memory`.
+    /// `ChildNotEmpty` if the child has rows, then `ZeroSize` if `size` is 0; `Memory` if an allocation fails.
     pub fn new(alloc: Global, values: M, size: usize) -> Result<MutableFixedSizeListArray<M>, Error>
-        requires { IsWhole (M.model values) }
+        requires { IsComplete (M.model values) }
         ensures ok { IfOk result (λ b. ⟦<MutableFixedSizeListArray<M> as MutableArray>⟧.model b ≡ no_fixed_lists (default_field (builder_type (M.model values))) size (M.model values)) }
         ensures passed { IfOk result (λ b. (builder_len (M.model values) ≡ 0) × (0 < size)) }
         ensures cause { IfErr result (RefusesFixed size (M.model values)) }
@@ -48,7 +48,7 @@ impl<M: MutableArray> MutableFixedSizeListArray<M> {
         MutableFixedSizeListArray::new_with_field(alloc, values, "item", true, size)
     }
 
-    /// The same, whose items have that name and may be null or not.
+    /// As `new`, with the name and the nullability of the items.
     ///
     /// # Errors
     /// As `new`.
@@ -59,13 +59,13 @@ impl<M: MutableArray> MutableFixedSizeListArray<M> {
         nullable: bool,
         size: usize,
     ) -> Result<MutableFixedSizeListArray<M>, Error>
-        requires { IsWhole (M.model values) }
+        requires { IsComplete (M.model values) }
         ensures ok { IfOk result (λ b. ⟦<MutableFixedSizeListArray<M> as MutableArray>⟧.model b ≡ no_fixed_lists (field name.now (builder_type (M.model values)) nullable []) size (M.model values)) }
         ensures passed { IfOk result (λ b. (builder_len (M.model values) ≡ 0) × (0 < size)) }
         ensures cause { IfErr result (RefusesFixed size (M.model values)) }
     {
         if !values.is_empty() {
-            return Err(Error::InvalidArgumentError(Argument::ChildNotEmpty));
+            return Err(Error::InvalidArgumentError(ArgumentError::ChildNotEmpty));
         }
         let items = values.data_type().clone(alloc)?;
         let items = Field::new(alloc, name, items, nullable)?;
@@ -75,25 +75,25 @@ impl<M: MutableArray> MutableFixedSizeListArray<M> {
         }
     }
 
-    /// No row of that data type, over an empty child.
+    /// Returns a builder without rows of a data type, over an empty child.
     ///
     /// # Errors
-    /// `ChildNotEmpty` where the child has rows, `WrongType` where the physical type isn't that of lists of so many items,
-    /// `ZeroSize`, `ChildType` where the child is of another type than its field: the first of these.
+    /// The first of: `ChildNotEmpty` if the child has rows; `WrongType` if the physical type is not a list of `size`
+    /// items; `ZeroSize` if `size` is 0; `ChildType` if the types of the child and of its field differ.
     pub fn new_from(
         alloc: Global,
         values: M,
         data_type: DataType,
         size: usize,
     ) -> Result<MutableFixedSizeListArray<M>, Error>
-        requires { IsWhole (M.model values) }
+        requires { IsComplete (M.model values) }
         ensures ok { IfOk result (λ b. ⟦<MutableFixedSizeListArray<M> as MutableArray>⟧.model b ≡ builders.fixed_size_list (type_of data_type) [] (M.model values)) }
         ensures passed { IfOk result (λ b. Pass (new_fixed_checks size (type_of data_type) (M.model values))) }
         ensures cause { IfErr result (λ e. FailFirst e (new_fixed_checks size (type_of data_type) (M.model values))) }
     {
         if !values.is_empty() {
             drop(data_type);
-            return Err(Error::InvalidArgumentError(Argument::ChildNotEmpty));
+            return Err(Error::InvalidArgumentError(ArgumentError::ChildNotEmpty));
         }
         match FixedType::of_type(data_type, values.data_type(), size) {
             Ok(data_type) => Ok(MutableFixedSizeListArray::over(alloc, data_type, values)),
@@ -101,7 +101,7 @@ impl<M: MutableArray> MutableFixedSizeListArray<M> {
         }
     }
 
-    // No row over a child.
+    // A builder without rows over a child.
     fn over(alloc: Global, data_type: FixedType, values: M) -> MutableFixedSizeListArray<M>
         ensures { ⟦<MutableFixedSizeListArray<M> as MutableArray>⟧.model result ≡ builders.fixed_size_list data_type [] (M.model values) }
     {
@@ -113,7 +113,7 @@ impl<M: MutableArray> MutableFixedSizeListArray<M> {
         }
     }
 
-    /// How many items each row has.
+    /// Returns the number of items per row.
     pub fn size(&self) -> usize
         ensures value { result ≡ size_of (builder_type (⟦<MutableFixedSizeListArray<M> as MutableArray>⟧.model self.now)) }
         ensures some { 0 < result }
@@ -121,14 +121,15 @@ impl<M: MutableArray> MutableFixedSizeListArray<M> {
         self.data_type.size()
     }
 
-    /// The child.
+    /// Returns the child.
     pub fn values(&self) -> &M
         ensures { M.model result.now ≡ list_child (⟦<MutableFixedSizeListArray<M> as MutableArray>⟧.model self.now) }
     {
         &self.values
     }
 
-    /// The child, into which the items of a row may be pushed before the row is told. The builder is over what is left there.
+    /// Returns the child, to push the items of a row before the row is added. The builder keeps what is left in the
+    /// child.
     pub fn mut_values(&mut self) -> &mut M
         ensures* writes_back { sem 𝓛 (Lends (the_row M.row) M.row self.entry result (λ v. ⟦<MutableFixedSizeListArray<M> as OverChild>⟧.over self.entry.now v)) }
         ensures value { M.model result.now ≡ list_child (⟦<MutableFixedSizeListArray<M> as MutableArray>⟧.model self.old) }
@@ -136,14 +137,14 @@ impl<M: MutableArray> MutableFixedSizeListArray<M> {
         &mut self.values
     }
 
-    /// Tells a row of the items that wait in the child.
+    /// Appends a valid row of the pending items.
     ///
     /// # Errors
-    /// `Unfinished` where the child is of another type, or fewer items wait than a row has; then `ItemSize` where more do;
-    /// `Memory`. No row is added then, and the items go on waiting.
+    /// `Incomplete` if the child has another type or fewer items are pending than a row has; then `ItemSize` if more
+    /// are; `Memory` if an allocation fails. After an error no row is added and the items stay pending.
     pub fn try_push_valid(&mut self) -> Result<(), Error>
-        requires { HasWholeChildren (⟦<MutableFixedSizeListArray<M> as MutableArray>⟧.model self.old) }
-        ensures ok { let tree = ⟦<MutableFixedSizeListArray<M> as MutableArray>⟧.model in OnOk result (Told true (tree self.old) (tree self.new)) }
+        requires { HasCompleteChildren (⟦<MutableFixedSizeListArray<M> as MutableArray>⟧.model self.old) }
+        ensures ok { let tree = ⟦<MutableFixedSizeListArray<M> as MutableArray>⟧.model in OnOk result (RowAdded true (tree self.old) (tree self.new)) }
         ensures passed { OnOk result (Pass (row_checks (⟦<MutableFixedSizeListArray<M> as MutableArray>⟧.model self.old))) }
         ensures err { let tree = ⟦<MutableFixedSizeListArray<M> as MutableArray>⟧.model in OnErr result (tree self.new ≡ tree self.old) }
         ensures cause { IfErr result (λ e. (e ≡ Memory alloc_error) ⊎ FailFirst e (row_checks (⟦<MutableFixedSizeListArray<M> as MutableArray>⟧.model self.old))) }
@@ -152,18 +153,18 @@ impl<M: MutableArray> MutableFixedSizeListArray<M> {
         let typed = has_items(self.data_type.get(), self.values.data_type());
         let _size = self.data_type.size();
         let Some(end) = self.end_of_next() else {
-            return Err(Error::InvalidArgumentError(Argument::Unfinished));
+            return Err(Error::InvalidArgumentError(ArgumentError::Incomplete));
         };
         if !typed || items < end {
-            return Err(Error::InvalidArgumentError(Argument::Unfinished));
+            return Err(Error::InvalidArgumentError(ArgumentError::Incomplete));
         }
         if items > end {
-            return Err(Error::InvalidArgumentError(Argument::ItemSize));
+            return Err(Error::InvalidArgumentError(ArgumentError::ItemSize));
         }
         self.rows.push(true)
     }
 
-    // How many items the rows and one more have; `None` where no length can be so much.
+    // The number of items of the rows and one more, `None` if no length can be as large.
     fn end_of_next(&self) -> Option<usize>
         ensures { let end = (length self.now.rows + 1) * size_of self.now.data_type in MatchOption result
             (largest_length < end)
@@ -176,13 +177,13 @@ impl<M: MutableArray> MutableFixedSizeListArray<M> {
         }
     }
 
-    /// As `try_push_valid`.
+    /// Appends a valid row of the pending items, as `try_push_valid`.
     ///
     /// # Errors
     /// As `try_push_valid`.
     pub fn push_valid(&mut self) -> Result<(), Error>
-        requires { HasWholeChildren (⟦<MutableFixedSizeListArray<M> as MutableArray>⟧.model self.old) }
-        ensures ok { let tree = ⟦<MutableFixedSizeListArray<M> as MutableArray>⟧.model in OnOk result (Told true (tree self.old) (tree self.new)) }
+        requires { HasCompleteChildren (⟦<MutableFixedSizeListArray<M> as MutableArray>⟧.model self.old) }
+        ensures ok { let tree = ⟦<MutableFixedSizeListArray<M> as MutableArray>⟧.model in OnOk result (RowAdded true (tree self.old) (tree self.new)) }
         ensures passed { OnOk result (Pass (row_checks (⟦<MutableFixedSizeListArray<M> as MutableArray>⟧.model self.old))) }
         ensures err { let tree = ⟦<MutableFixedSizeListArray<M> as MutableArray>⟧.model in OnErr result (tree self.new ≡ tree self.old) }
         ensures cause { IfErr result (λ e. (e ≡ Memory alloc_error) ⊎ FailFirst e (row_checks (⟦<MutableFixedSizeListArray<M> as MutableArray>⟧.model self.old))) }
@@ -190,22 +191,22 @@ impl<M: MutableArray> MutableFixedSizeListArray<M> {
         self.try_push_valid()
     }
 
-    /// The array of the rows. The builder keeps its data type and has no row at any level and no validity then, also
-    /// after `Memory`.
+    /// Freezes the builder: returns the array of its rows. The builder keeps its data type; all its levels are empty
+    /// and without validity afterwards, also after `Memory`.
     ///
     /// # Errors
-    /// `Unfinished` where it isn't whole; then nothing changes. `Memory`.
+    /// `Incomplete` if the builder is not complete; then nothing changes. `Memory` if an allocation fails.
     pub fn freeze(&mut self) -> Result<FixedSizeListArray, Error>
         ensures slots { IfOk result (λ a. slots_of a ≡ own_slots (⟦<MutableFixedSizeListArray<M> as MutableArray>⟧.model self.old)) }
         ensures same_type { IfOk result (λ a. layout_type a ≡ builder_type (⟦<MutableFixedSizeListArray<M> as MutableArray>⟧.model self.old)) }
-        ensures unfinished { IsErrOf result (InvalidArgumentError Unfinished) ↔ ¬ IsWhole (⟦<MutableFixedSizeListArray<M> as MutableArray>⟧.model self.old) }
-        ensures unchanged { let tree = ⟦<MutableFixedSizeListArray<M> as MutableArray>⟧.model in ¬ IsWhole (tree self.old) → tree self.new ≡ tree self.old }
-        ensures emptied { let tree = ⟦<MutableFixedSizeListArray<M> as MutableArray>⟧.model in IsWhole (tree self.old) → tree self.new ≡ emptied (tree self.old) }
-        ensures validity { IsWhole (⟦<MutableFixedSizeListArray<M> as MutableArray>⟧.model self.old) → ⟦<MutableFixedSizeListArray<M> as MutableArray>⟧.bare self.new }
-        ensures errors { IfErr result (λ e. (e ≡ InvalidArgumentError Unfinished) ⊎ (e ≡ Memory alloc_error)) }
+        ensures incomplete { IsErrOf result (InvalidArgumentError Incomplete) ↔ ¬ IsComplete (⟦<MutableFixedSizeListArray<M> as MutableArray>⟧.model self.old) }
+        ensures unchanged { let tree = ⟦<MutableFixedSizeListArray<M> as MutableArray>⟧.model in ¬ IsComplete (tree self.old) → tree self.new ≡ tree self.old }
+        ensures emptied { let tree = ⟦<MutableFixedSizeListArray<M> as MutableArray>⟧.model in IsComplete (tree self.old) → tree self.new ≡ emptied (tree self.old) }
+        ensures validity { IsComplete (⟦<MutableFixedSizeListArray<M> as MutableArray>⟧.model self.old) → ⟦<MutableFixedSizeListArray<M> as MutableArray>⟧.bare self.new }
+        ensures errors { IfErr result (λ e. (e ≡ InvalidArgumentError Incomplete) ⊎ (e ≡ Memory alloc_error)) }
     {
-        if !self.is_whole() {
-            return Err(Error::InvalidArgumentError(Argument::Unfinished));
+        if !self.is_complete() {
+            return Err(Error::InvalidArgumentError(ArgumentError::Incomplete));
         }
         let _size = self.data_type.size();
         match frozen_parts(self.alloc, self.data_type.get(), &mut self.values) {
@@ -218,7 +219,7 @@ impl<M: MutableArray> MutableFixedSizeListArray<M> {
     }
 }
 
-/// The array of rows over their items. No row and no validity is left, also after `Memory`.
+/// Returns the array of rows over their items. No rows and no validity are left, also after `Memory`.
 pub fn freeze_over(
     alloc: Global,
     data_type: DataType,
@@ -279,13 +280,13 @@ impl<M: MutableArray> MutableArray for MutableFixedSizeListArray<M> {
         self.rows.is_valid(i)
     }
 
-    fn is_whole(&self) -> bool {
+    fn is_complete(&self) -> bool {
         let items = self.values.len();
         let size = self.data_type.size();
         match self.rows.len().checked_mul(size) {
             None => false,
             Some(end) => {
-                self.values.is_whole()
+                self.values.is_complete()
                     && has_items(self.data_type.get(), self.values.data_type())
                     && items == end
             }
@@ -314,7 +315,7 @@ impl<M: MutableArray> MutableArray for MutableFixedSizeListArray<M> {
     fn try_push_plain(&mut self, value: Option<Plain<'_>>) -> Result<(), Error> {
         match value {
             None => self.push_null(),
-            Some(_) => Err(Error::InvalidArgumentError(Argument::ItemType)),
+            Some(_) => Err(Error::InvalidArgumentError(ArgumentError::ItemType)),
         }
     }
 
@@ -369,7 +370,7 @@ impl<M: TryExtend<Option<T>>, I: IntoIterator<Item = Option<T>>, T> TryPush<Opti
                 let size = self.data_type.size();
                 if end - len != size {
                     self.values.truncate(len);
-                    return Err(Error::InvalidArgumentError(Argument::ItemSize));
+                    return Err(Error::InvalidArgumentError(ArgumentError::ItemSize));
                 }
                 match self.rows.push(true) {
                     Ok(()) => Ok(()),
@@ -397,7 +398,7 @@ impl<M: TryExtend<Option<T>>, I: IntoIterator<Item = Option<T>>, T> TryExtend<Op
 impl<M: TryExtendFromSelf> TryExtendFromSelf for MutableFixedSizeListArray<M> {
     fn try_extend_from_self(&mut self, other: &MutableFixedSizeListArray<M>) -> Result<(), Error> {
         if !same_types(self.data_type.get(), other.data_type.get()) {
-            return Err(Error::InvalidArgumentError(Argument::ItemType));
+            return Err(Error::InvalidArgumentError(ArgumentError::ItemType));
         }
         let len = self.values.len();
         let _size = self.data_type.size();

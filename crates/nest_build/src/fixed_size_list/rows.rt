@@ -1,6 +1,6 @@
-//! The rows of a builder of lists of one size, without their items.
+//! The rows of a fixed-size list builder, without the items.
 ghost use Rattle.std.specs.Prelude.{◌≡◌, ◌+◌, ◌≤◌, ◌<◌, ◌⊎◌, ◌++◌, ◌∷◌, [], true, take, get_or, length, IsNone, OnOk, OnErr, IfOk, IfErr, IsOkUnless, option_map, alloc_error};
-ghost use Rattle.nest_build.specs.Words.{Memory, Overflow, SpellsBits, ValidityFits, bits_told, largest_length};
+ghost use Rattle.nest_build.specs.Words.{Memory, Overflow, EncodesBits, ValidityFits, encoded_bits, largest_length};
 
 use crate::list::rows::of_rows;
 use nest_flat::growth::validity;
@@ -10,10 +10,10 @@ use nest_memory::error::Error;
 use std::alloc::Global;
 use std::marker::Model;
 
-/// How many rows there are, and whether they are valid: the Fixed-Size List Layout of the Arrow format, without the
-/// items. A validity is made at the first null row, and there is none without a row.
+/// The number of rows and their validity: Fixed-Size List Layout of the Arrow format, without the child array. The
+/// validity is created at the first null row; without rows there is none.
 ///
-/// A call that answers `Err` changes no row, but for `freeze`.
+/// A call that returns an error changes no row, except `freeze`.
 #[derive(Drop)]
 pub struct FixedRows {
     len: usize,
@@ -23,17 +23,17 @@ pub struct FixedRows {
 
 impl Model for FixedRows {
     ghost use Rattle.std.specs.Prelude.{Bool, List};
-    ghost use Rattle.nest_build.specs.Rows.{IsOfRows, bits_told};
+    ghost use Rattle.nest_build.specs.Rows.{IsOfRows, encoded_bits};
 
     ghost Value = { List Bool };
 
-    ghost view = { λ a. bits_told a.len a.validity };
+    ghost view = { λ a. encoded_bits a.len a.validity };
 
     ghost invariant = { λ a. IsOfRows a.validity a.len };
 }
 
 impl FixedRows {
-    /// No row.
+    /// Returns no rows.
     pub fn new(alloc: Global) -> FixedRows
         ensures { result ≡ [] }
     {
@@ -44,10 +44,10 @@ impl FixedRows {
         }
     }
 
-    /// So many rows, by such bits.
+    /// Returns `len` rows with this validity.
     pub fn of(alloc: Global, len: usize, validity: Option<MutableBitmap>) -> FixedRows
         requires { ValidityFits validity len }
-        ensures { result ≡ bits_told len validity }
+        ensures { result ≡ encoded_bits len validity }
     {
         FixedRows {
             len,
@@ -56,9 +56,9 @@ impl FixedRows {
         }
     }
 
-    /// The bits, where there are some.
+    /// Returns the validity and drops the rest.
     pub fn into_validity(self) -> Option<MutableBitmap>
-        ensures bits { SpellsBits result self }
+        ensures bits { EncodesBits result self }
         ensures none { self ≡ [] → IsNone result }
     {
         let FixedRows {
@@ -69,22 +69,22 @@ impl FixedRows {
         validity
     }
 
-    /// How many rows there are.
+    /// Returns the number of rows.
     pub fn len(&self) -> usize
         ensures { result ≡ length self.now }
     {
         self.len
     }
 
-    /// Which rows are valid, a bit a row; without it all are.
+    /// Returns the validity, one bit per row. Without it all rows are valid.
     pub fn validity(&self) -> Option<&MutableBitmap>
-        ensures bits { SpellsBits (option_map (λ b. b.now) result) self.now }
+        ensures bits { EncodesBits (option_map (λ b. b.now) result) self.now }
         ensures none { self.now ≡ [] → IsNone result }
     {
         self.validity.as_ref()
     }
 
-    /// Whether row i is valid.
+    /// Returns whether row `i` is valid.
     pub fn is_valid(&self, i: usize) -> bool
         requires { i < length self.now }
         ensures { result ≡ get_or self.now i true }
@@ -92,10 +92,10 @@ impl FixedRows {
         validity::is_valid(&self.validity, i)
     }
 
-    /// Adds a row.
+    /// Appends a row.
     ///
     /// # Errors
-    /// `Overflow` where so many rows are more than a length can be, `Memory`.
+    /// `Overflow` if the number of rows would exceed the largest length, `Memory` if an allocation fails.
     #[inline]
     pub fn push(&mut self, valid: bool) -> Result<(), Error>
         ensures ok { OnOk result (self.new ≡ self.old ++ valid ∷ []) }
@@ -111,10 +111,10 @@ impl FixedRows {
         Ok(())
     }
 
-    /// Adds another's rows; all of them or none.
+    /// Appends the rows of `other`, all of them or none.
     ///
     /// # Errors
-    /// `Overflow` where so many rows are more than a length can be, `Memory`.
+    /// `Overflow` if the number of rows would exceed the largest length, `Memory` if an allocation fails.
     pub fn append(&mut self, other: &FixedRows) -> Result<(), Error>
         ensures ok { OnOk result (self.new ≡ self.old ++ other.now) }
         ensures within { OnOk result (length self.old + length other.now ≤ largest_length) }
@@ -135,7 +135,7 @@ impl FixedRows {
         Ok(())
     }
 
-    /// Keeps the first n rows. No memory is taken.
+    /// Keeps the first `n` rows. Does not allocate.
     pub fn truncate(&mut self, n: usize)
         requires { n ≤ length self.old }
         ensures { self.new ≡ take n self.old }
@@ -147,10 +147,10 @@ impl FixedRows {
         self.len = n;
     }
 
-    /// Room for so many rows more.
+    /// Reserves capacity for at least `additional` more rows.
     ///
     /// # Errors
-    /// `Memory`.
+    /// `Memory` if an allocation fails.
     pub fn reserve(&mut self, additional: usize) -> Result<(), Error>
         ensures same { self.new ≡ self.old }
         ensures memory { IsOkUnless result (Memory alloc_error) }
@@ -158,14 +158,14 @@ impl FixedRows {
         validity::reserve(&mut self.validity, additional)
     }
 
-    /// Gives back memory that holds no row, where a smaller block is there.
+    /// Shrinks the capacity to the rows as far as the allocator can.
     pub fn shrink_to_fit(&mut self)
         ensures { self.new ≡ self.old }
     {
         validity::shrink_to_fit(&mut self.validity);
     }
 
-    /// Leaves no row, and no validity.
+    /// Removes all rows and the validity.
     pub fn clear(&mut self)
         ensures { self.new ≡ [] }
     {
@@ -173,13 +173,13 @@ impl FixedRows {
         self.len = 0;
     }
 
-    /// The number of rows and the validity. No row and no validity is left, also after `Memory`.
+    /// Returns the number of rows and the validity. No rows and no validity are left, also after `Memory`.
     ///
     /// # Errors
-    /// `Memory`.
+    /// `Memory` if an allocation fails.
     pub fn freeze(&mut self) -> Result<(usize, Option<Bitmap>), Error>
         ensures count { IfOk result (λ parts. parts.0 ≡ length self.old) }
-        ensures bits { IfOk result (λ parts. SpellsBits parts.1 self.old × ValidityFits parts.1 parts.0) }
+        ensures bits { IfOk result (λ parts. EncodesBits parts.1 self.old × ValidityFits parts.1 parts.0) }
         ensures none { self.old ≡ [] → IfOk result (λ parts. IsNone parts.1) }
         ensures memory { IsOkUnless result (Memory alloc_error) }
         ensures emptied { self.new ≡ [] }

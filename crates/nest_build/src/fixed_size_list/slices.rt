@@ -1,7 +1,7 @@
-//! Rows of values that lie in a slice.
+//! Rows of a fixed-size list builder from slices of values.
 ghost use Rattle.std.specs.Prelude.{◌≡◌, ◌⊎◌, None, Some, OnOk, OnErr, IfErr, alloc_error};
 ghost use Rattle.std.specs.Option.{option_copied};
-ghost use Rattle.nest_build.specs.Words.{Accepted, IsWhole, Memory, item_refusal, row_item};
+ghost use Rattle.nest_build.specs.Words.{Accepted, IsComplete, Memory, item_refusal, row_item};
 
 use crate::array::MutableArray;
 use crate::fixed_size_list::mutable::MutableFixedSizeListArray;
@@ -11,18 +11,18 @@ use nest_flat::plain::AsPlain;
 use nest_memory::error::Error;
 
 impl<M: FlatBuilder> MutableFixedSizeListArray<M> {
-    /// Adds a row: null, or the list of the values of a slice. It is `try_push` of the slice's iterator.
+    /// Appends a row: null, or the list of the values of a slice. Equivalent to `try_push` of the slice's iterator.
     ///
     /// # Errors
-    /// The refusal of the first value that the child refuses; else `ItemSize` where there are not as many values as the size;
-    /// `Overflow` where no length can stand for the rows; `Memory`.
+    /// The error of the first value that the child refuses; else `ItemSize` if the number of values is not the size;
+    /// `Overflow` if the number of rows would exceed the largest length; `Memory` if an allocation fails.
     pub fn try_push_slice<A: AsPlain + Copy + Drop>(
         &mut self,
         row: Option<&[Option<A>]>,
     ) -> Result<(), Error>
     where
         M: TakesValue<A>,
-        requires { IsWhole (⟦<MutableFixedSizeListArray<M> as MutableArray>⟧.model self.old) }
+        requires { IsComplete (⟦<MutableFixedSizeListArray<M> as MutableArray>⟧.model self.old) }
         ensures accepted { let tree = ⟦<MutableFixedSizeListArray<M> as MutableArray>⟧.model in OnOk result (Accepted (row_item A.value (option_copied row.entry)) (tree self.old) (tree self.new)) }
         ensures unrefused { OnOk result (item_refusal (row_item A.value (option_copied row.entry)) (⟦<MutableFixedSizeListArray<M> as MutableArray>⟧.model self.old) ≡ None) }
         ensures err { let tree = ⟦<MutableFixedSizeListArray<M> as MutableArray>⟧.model in OnErr result (tree self.new ≡ tree self.old) }

@@ -1,4 +1,4 @@
-//! The builder of native values of any kind.
+//! `FlatBuilder` for primitive builders of any native type.
 ghost use Rattle.std.specs.Prelude.{◌≡◌};
 ghost use Rattle.nest_memory.specs.declared.datatypes.physical_type.PhysicalType.TheVariants as physical;
 ghost use Rattle.nest_build.specs.Words.{built_kind, built_layout, layout_type, physical_type};
@@ -12,9 +12,9 @@ use nest_flat::plain::Plain;
 use nest_flat::primitive::mutable::MutablePrimitiveArray;
 use nest_memory::bitmap::mutable::MutableBitmap;
 use nest_memory::datatypes::DataType;
-use nest_memory::error::{Argument, Error};
+use nest_memory::error::{ArgumentError, Error};
 
-// What is the same for each kind.
+// Evaluates an expression with the builder of any native type.
 macro_rules! each_kind {
     ($any:expr, $builder:ident => $body:expr) => {
         match $any {
@@ -34,7 +34,7 @@ macro_rules! each_kind {
     };
 }
 
-// What is the same for two builders of each kind.
+// Evaluates an expression with two builders of the same native type.
 macro_rules! each_pair {
     ($any:expr, $other:expr, $builder:ident, $more:ident => $body:expr) => {
         match $any {
@@ -90,14 +90,14 @@ macro_rules! each_pair {
     };
 }
 
-// The data type of a builder is of its kind.
+// The data type of a builder has the physical type of its native type.
 fn typed<T: Native>(builder: &MutablePrimitiveArray<T>)
     ensures { physical_type (layout_type builder.now) ≡ physical.Primitive T.PRIMITIVE }
 {
     builder.known();
 }
 
-/// What holds of every such builder: its data type is of its kind.
+/// Shows the prover that the data type has the physical type of the variant. Does nothing at run time.
 pub fn known(any: &AnyMutablePrimitive)
     ensures { physical_type (layout_type (built_layout any.now)) ≡ physical.Primitive (built_kind any.now) }
 {
@@ -137,7 +137,7 @@ impl FlatBuilder for AnyMutablePrimitive {
 
     fn join(&mut self, other: &AnyMutablePrimitive) -> Result<(), Error> {
         if !same_types(self.data_type(), other.data_type()) {
-            return Err(Error::InvalidArgumentError(Argument::ItemType));
+            return Err(Error::InvalidArgumentError(ArgumentError::ItemType));
         }
         known(self);
         known(other);

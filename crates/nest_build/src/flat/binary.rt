@@ -1,29 +1,29 @@
-//! The builder of bytes.
+//! `FlatBuilder` for binary.
 ghost use Rattle.std.specs.Prelude.{◌≡◌, ◌⊎◌, None, Some, OnOk, OnErr, IfErr, option_map, alloc_error};
 ghost use Rattle.std.specs.Option.{option_copied};
 ghost use Rattle.nest_model.specs.BuilderItem as items;
-ghost use Rattle.nest_build.specs.Words.{Accepted, Memory, Overflow, asked_item, asked_refusal, flat_tree};
+ghost use Rattle.nest_build.specs.Words.{Accepted, Memory, Overflow, required_item, requirement_refusal, flat_tree};
 
 use crate::flat::{FlatBuilder, TakesValue};
 use nest_array::AnyArray;
-use nest_array::array::Variant;
+use nest_array::array::ArrayVariant;
 use nest_flat::binary::BinaryArray;
 use nest_flat::binary::mutable::MutableBinaryArray;
 use nest_flat::plain::Plain;
 use nest_memory::bitmap::mutable::MutableBitmap;
 use nest_memory::datatypes::DataType;
-use nest_memory::error::{Argument, Error};
+use nest_memory::error::{ArgumentError, Error};
 use nest_memory::offset::Offset;
 
-/// Adds bytes, or a null. `Overflow` where no offset can stand for their end.
+/// Appends bytes or a null. `Overflow` if their end exceeds the largest offset.
 fn push_bytes<O: Offset>(
     values: &mut MutableBinaryArray<O>,
     item: Option<&[u8]>,
 ) -> Result<(), Error>
-    ensures accepted { OnOk result (Accepted (asked_item (option_map items.bytes (option_copied item.entry))) (flat_tree values.old) (flat_tree values.new)) }
-    ensures unrefused { OnOk result (asked_refusal (option_map items.bytes (option_copied item.entry)) (flat_tree values.old) ≡ None) }
+    ensures accepted { OnOk result (Accepted (required_item (option_map items.bytes (option_copied item.entry))) (flat_tree values.old) (flat_tree values.new)) }
+    ensures unrefused { OnOk result (requirement_refusal (option_map items.bytes (option_copied item.entry)) (flat_tree values.old) ≡ None) }
     ensures err { OnErr result (values.new ≡ values.old) }
-    ensures cause { IfErr result (λ e. (e ≡ Memory alloc_error) ⊎ ((e ≡ Overflow) × (asked_refusal (option_map items.bytes (option_copied item.entry)) (flat_tree values.old) ≡ Some e))) }
+    ensures cause { IfErr result (λ e. (e ≡ Memory alloc_error) ⊎ ((e ≡ Overflow) × (requirement_refusal (option_map items.bytes (option_copied item.entry)) (flat_tree values.old) ≡ Some e))) }
 {
     values.known();
     if let Err(error) = values.try_push(item) {
@@ -35,7 +35,7 @@ fn push_bytes<O: Offset>(
 
 impl<O: Offset> FlatBuilder for MutableBinaryArray<O>
 where
-    BinaryArray<O>: Variant,
+    BinaryArray<O>: ArrayVariant,
 {
     ghost parts = { λ b. b };
 
@@ -72,7 +72,7 @@ where
         match value {
             None => push_bytes(self, None),
             Some(Plain::Bytes(bytes)) => push_bytes(self, Some(bytes)),
-            Some(_) => Err(Error::InvalidArgumentError(Argument::ItemType)),
+            Some(_) => Err(Error::InvalidArgumentError(ArgumentError::ItemType)),
         }
     }
 

@@ -1,7 +1,7 @@
-//! The builder of booleans.
+//! `FlatBuilder` for booleans.
 ghost use Rattle.std.specs.Prelude.{◌≡◌, ◌⊎◌, None, Some, OnOk, OnErr, IfErr, option_map, alloc_error};
 ghost use Rattle.nest_model.specs.BuilderItem as items;
-ghost use Rattle.nest_build.specs.Words.{Accepted, Memory, Overflow, asked_item, asked_refusal, flat_tree};
+ghost use Rattle.nest_build.specs.Words.{Accepted, Memory, Overflow, required_item, requirement_refusal, flat_tree};
 
 use crate::flat::{FlatBuilder, TakesValue};
 use nest_array::AnyArray;
@@ -9,14 +9,14 @@ use nest_flat::boolean::mutable::MutableBooleanArray;
 use nest_flat::plain::Plain;
 use nest_memory::bitmap::mutable::MutableBitmap;
 use nest_memory::datatypes::DataType;
-use nest_memory::error::{Argument, Error};
+use nest_memory::error::{ArgumentError, Error};
 
-/// Adds a boolean, or a null. `Overflow` where the length would pass a `usize`.
-fn push_truth(values: &mut MutableBooleanArray, item: Option<bool>) -> Result<(), Error>
-    ensures accepted { OnOk result (Accepted (asked_item (option_map items.truth item)) (flat_tree values.old) (flat_tree values.new)) }
-    ensures unrefused { OnOk result (asked_refusal (option_map items.truth item) (flat_tree values.old) ≡ None) }
+/// Appends a boolean or a null. `Overflow` if the length would exceed a `usize`.
+fn push_boolean(values: &mut MutableBooleanArray, item: Option<bool>) -> Result<(), Error>
+    ensures accepted { OnOk result (Accepted (required_item (option_map items.boolean item)) (flat_tree values.old) (flat_tree values.new)) }
+    ensures unrefused { OnOk result (requirement_refusal (option_map items.boolean item) (flat_tree values.old) ≡ None) }
     ensures err { OnErr result (values.new ≡ values.old) }
-    ensures cause { IfErr result (λ e. (e ≡ Memory alloc_error) ⊎ ((e ≡ Overflow) × (asked_refusal (option_map items.truth item) (flat_tree values.old) ≡ Some e))) }
+    ensures cause { IfErr result (λ e. (e ≡ Memory alloc_error) ⊎ ((e ≡ Overflow) × (requirement_refusal (option_map items.boolean item) (flat_tree values.old) ≡ Some e))) }
 {
     values.known();
     if let Err(error) = values.try_push(item) {
@@ -60,9 +60,9 @@ impl FlatBuilder for MutableBooleanArray {
     fn push_plain(&mut self, value: Option<Plain<'_>>) -> Result<(), Error> {
         self.known();
         match value {
-            None => push_truth(self, None),
-            Some(Plain::Boolean(truth)) => push_truth(self, Some(truth)),
-            Some(_) => Err(Error::InvalidArgumentError(Argument::ItemType)),
+            None => push_boolean(self, None),
+            Some(Plain::Boolean(truth)) => push_boolean(self, Some(truth)),
+            Some(_) => Err(Error::InvalidArgumentError(ArgumentError::ItemType)),
         }
     }
 

@@ -1,4 +1,4 @@
-//! The builders of flat arrays as builders of arrays: what they do alike is said once, for every `FlatBuilder`.
+//! `MutableArray` for all flat builders, through the trait `FlatBuilder`.
 pub mod any_primitive;
 mod binary;
 mod boolean;
@@ -8,7 +8,7 @@ mod utf8;
 ghost use Rattle.std.specs.Prelude.{◌≡◌, ◌≤◌, ◌<◌, ◌↔◌, ◌⊎◌, ⊤, [], true, false, IsTrue, OnOk, OnErr, IfOk, IfErr, IsErrOf, IsOkUnless, None, Some, take, option_map, alloc_error};
 ghost use Rattle.nest_model.specs.BuilderTree as builders;
 ghost use Rattle.nest_flat.specs.NullSlots.{NullsByValidity};
-ghost use Rattle.nest_build.specs.Words.{Accepted, FailFirst, Holds, InvalidArgumentError, IsOfOtherKind, ItemType, Joined, Layout, Memory, Overflow, Pass, ReadsValue, Refused, TopFits, Took, asked_item, asked_refusal, flat_tree, join_checks, layout_of, layout_type, len, plain_value, plain_values, reserve_passes, slots_of, type_of, valid_at, validity_of};
+ghost use Rattle.nest_build.specs.Words.{Accepted, FailFirst, Holds, InvalidArgumentError, IsOfOtherKind, ItemType, Joined, Layout, Memory, Overflow, Pass, ReadsValue, Refused, TopFits, Consumed, required_item, requirement_refusal, flat_tree, join_checks, layout_of, layout_type, len, plain_value, plain_values, reserve_passes, slots_of, type_of, valid_at, validity_of};
 
 use crate::array::{MutableArray, shared};
 use crate::push::{TryExtend, TryExtendFromSelf, TryPush, extend_by_push};
@@ -20,13 +20,12 @@ use nest_memory::error::Error;
 use std::alloc::Global;
 use std::rc::Rc;
 
-/// A builder of a flat array: what each kind tells of its slots, and how it takes a plain value. `MutableArray` follows
-/// for all of them; callers needn't name it.
+/// A builder of a flat array. Every `FlatBuilder` is a `MutableArray`; callers need not name this trait.
 pub trait FlatBuilder: Drop {
-    /// The parts of the array so far.
+    /// The layout of the array so far.
     ghost parts: { Self → Layout };
 
-    /// What holds of every such builder.
+    /// Shows the prover the invariants of a flat builder. Does nothing at run time.
     fn facts(&self)
         ensures fits { TopFits (parts self.now) }
         ensures nulls { NullsByValidity (parts self.now) };
@@ -44,42 +43,42 @@ pub trait FlatBuilder: Drop {
         requires { i < len (parts self.now) }
         ensures { result ≡ valid_at (validity_of (parts self.now)) i };
 
-    /// Whether slot i is this value, and of its kind.
+    /// Returns whether slot `i` is this value, of the builder's kind.
     fn is_value(&self, i: usize, value: &Plain<'_>) -> bool
         requires { i < len (parts self.now) }
         ensures { IsTrue result ↔ Holds (flat_tree (parts self.now)) i (plain_value value.now) };
 
-    /// Adds a slot: the value, or null.
+    /// Appends a slot: the value, or null.
     fn push_plain(&mut self, value: Option<Plain<'_>>) -> Result<(), Error>
-        ensures accepted { OnOk result (Accepted (asked_item (plain_values value.entry)) (flat_tree (parts self.old)) (flat_tree (parts self.new))) }
-        ensures unrefused { OnOk result (asked_refusal (plain_values value.entry) (flat_tree (parts self.old)) ≡ None) }
+        ensures accepted { OnOk result (Accepted (required_item (plain_values value.entry)) (flat_tree (parts self.old)) (flat_tree (parts self.new))) }
+        ensures unrefused { OnOk result (requirement_refusal (plain_values value.entry) (flat_tree (parts self.old)) ≡ None) }
         ensures err { OnErr result (parts self.new ≡ parts self.old) }
         ensures kind { IsErrOf result (InvalidArgumentError ItemType) ↔ IsOfOtherKind (plain_values value.entry) (flat_tree (parts self.old)) }
-        ensures cause { IfErr result (λ e. (e ≡ Memory alloc_error) ⊎ (asked_refusal (plain_values value.entry) (flat_tree (parts self.old)) ≡ Some e)) };
+        ensures cause { IfErr result (λ e. (e ≡ Memory alloc_error) ⊎ (requirement_refusal (plain_values value.entry) (flat_tree (parts self.old)) ≡ Some e)) };
 
-    /// Adds the slots of another builder, all of them or none.
+    /// Appends the slots of another builder, all of them or none.
     fn join(&mut self, other: &Self) -> Result<(), Error>
         ensures joined { OnOk result (Joined (flat_tree (parts other.now)) (flat_tree (parts self.old)) (flat_tree (parts self.new))) }
         ensures unrefused { OnOk result (Pass (join_checks (flat_tree (parts self.old)) (flat_tree (parts other.now)))) }
         ensures err { OnErr result (parts self.new ≡ parts self.old) }
         ensures cause { IfErr result (λ e. (e ≡ Memory alloc_error) ⊎ FailFirst e (join_checks (flat_tree (parts self.old)) (flat_tree (parts other.now)))) };
 
-    /// Keeps the first n slots.
+    /// Keeps the first `n` slots.
     fn cut(&mut self, n: usize)
         requires { n ≤ len (parts self.old) }
         ensures { flat_tree (parts self.new) ≡ builders.flat (layout_type (parts self.old)) (take n (slots_of (parts self.old))) };
 
-    /// Room for so many slots more.
+    /// Reserves capacity for at least `additional` more slots.
     fn room(&mut self, additional: usize) -> Result<(), Error>
         ensures same { parts self.new ≡ parts self.old }
         ensures room { OnOk result (reserve_passes additional (flat_tree (parts self.old)) ≡ false) }
         ensures cause { IfErr result (λ e. (e ≡ Memory alloc_error) ⊎ ((e ≡ Overflow) × (reserve_passes additional (flat_tree (parts self.old)) ≡ true))) };
 
-    /// Gives back memory that holds no slot.
+    /// Shrinks the capacity to the slots as far as the allocator can.
     fn shrink(&mut self)
         ensures { parts self.new ≡ parts self.old };
 
-    /// The array of the slots; the builder has none then, and no validity, also after `Memory`.
+    /// Returns the array of the slots. The builder has no slots and no validity afterwards, also after `Memory`.
     fn frozen(&mut self) -> Result<AnyArray, Error>
         ensures ok { IfOk result (λ a. layout_of a ≡ parts self.old) }
         ensures emptied { flat_tree (parts self.new) ≡ builders.flat (layout_type (parts self.old)) [] }
@@ -87,7 +86,7 @@ pub trait FlatBuilder: Drop {
         ensures memory { IsOkUnless result (Memory alloc_error) };
 }
 
-/// A builder of a flat array whose items are values of this type.
+/// A builder of a flat array with items of type `A`.
 pub trait TakesValue<A: AsPlain> {}
 
 impl<B: FlatBuilder> MutableArray for B {
@@ -118,7 +117,7 @@ impl<B: FlatBuilder> MutableArray for B {
         self.bit(i)
     }
 
-    fn is_whole(&self) -> bool {
+    fn is_complete(&self) -> bool {
         true
     }
 
@@ -156,12 +155,12 @@ impl<B: FlatBuilder> MutableArray for B {
     }
 }
 
-/// Adds a value of one type, or a null.
+/// Appends a value of one type, or a null.
 fn push_value<A: AsPlain + Drop, B: FlatBuilder>(
     builder: &mut B,
     item: Option<A>,
 ) -> Result<(), Error>
-    ensures ok { OnOk result (Took (ReadsValue A.value) item (flat_tree (B.parts builder.old)) (flat_tree (B.parts builder.new))) }
+    ensures ok { OnOk result (Consumed (ReadsValue A.value) item (flat_tree (B.parts builder.old)) (flat_tree (B.parts builder.new))) }
     ensures err { OnErr result (B.parts builder.new ≡ B.parts builder.old) }
     ensures cause { IfErr result (λ e. Refused (ReadsValue A.value) item (flat_tree (B.parts builder.old)) e) }
 {

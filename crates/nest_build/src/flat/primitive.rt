@@ -1,26 +1,26 @@
-//! The builder of native values.
+//! `FlatBuilder` for primitive types.
 ghost use Rattle.std.specs.Prelude.{◌≡◌, None, OnOk, OnErr, IsOkUnless, option_map, alloc_error};
 ghost use Rattle.nest_model.specs.BuilderItem as items;
-ghost use Rattle.nest_build.specs.Words.{Accepted, Memory, asked_item, asked_refusal, flat_tree};
+ghost use Rattle.nest_build.specs.Words.{Accepted, Memory, required_item, requirement_refusal, flat_tree};
 
 use crate::flat::{FlatBuilder, TakesValue};
 use nest_array::AnyArray;
-use nest_array::array::Variant;
+use nest_array::array::ArrayVariant;
 use nest_flat::any_primitive::Native;
 use nest_flat::plain::Plain;
 use nest_flat::primitive::PrimitiveArray;
 use nest_flat::primitive::mutable::MutablePrimitiveArray;
 use nest_memory::bitmap::mutable::MutableBitmap;
 use nest_memory::datatypes::DataType;
-use nest_memory::error::{Argument, Error};
+use nest_memory::error::{ArgumentError, Error};
 
-/// Adds a native value, or a null. Nothing but want of memory refuses it.
+/// Appends a native value or a null. Fails only if an allocation fails.
 fn push_native<T: Native>(
     values: &mut MutablePrimitiveArray<T>,
     item: Option<T>,
 ) -> Result<(), Error>
-    ensures accepted { OnOk result (Accepted (asked_item (option_map (λ x. items.native T.PRIMITIVE (T.numbers x)) item)) (flat_tree values.old) (flat_tree values.new)) }
-    ensures unrefused { OnOk result (asked_refusal (option_map (λ x. items.native T.PRIMITIVE (T.numbers x)) item) (flat_tree values.old) ≡ None) }
+    ensures accepted { OnOk result (Accepted (required_item (option_map (λ x. items.native T.PRIMITIVE (T.numbers x)) item)) (flat_tree values.old) (flat_tree values.new)) }
+    ensures unrefused { OnOk result (requirement_refusal (option_map (λ x. items.native T.PRIMITIVE (T.numbers x)) item) (flat_tree values.old) ≡ None) }
     ensures err { OnErr result (values.new ≡ values.old) }
     ensures memory { IsOkUnless result (Memory alloc_error) }
 {
@@ -32,7 +32,7 @@ fn push_native<T: Native>(
 
 impl<T: Native> FlatBuilder for MutablePrimitiveArray<T>
 where
-    PrimitiveArray<T>: Variant,
+    PrimitiveArray<T>: ArrayVariant,
 {
     ghost parts = { λ b. b };
 
@@ -73,9 +73,9 @@ where
             None => push_native(self, None),
             Some(Plain::Native(any)) => match T::from_any(any) {
                 Some(value) => push_native(self, Some(value)),
-                None => Err(Error::InvalidArgumentError(Argument::ItemType)),
+                None => Err(Error::InvalidArgumentError(ArgumentError::ItemType)),
             },
-            Some(_) => Err(Error::InvalidArgumentError(Argument::ItemType)),
+            Some(_) => Err(Error::InvalidArgumentError(ArgumentError::ItemType)),
         }
     }
 

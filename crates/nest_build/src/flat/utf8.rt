@@ -1,28 +1,28 @@
-//! The builder of texts.
+//! `FlatBuilder` for UTF-8 strings.
 ghost use Rattle.std.specs.Prelude.{◌≡◌, ◌<◌, ◌⊎◌, None, Some, OnOk, OnErr, IfErr, option_map, alloc_error};
 ghost use Rattle.std.specs.Option.{option_copied};
 ghost use Rattle.nest_model.specs.BuilderItem as items;
 ghost use Rattle.nest_model.specs.Meaning.{where_valid};
 ghost use Rattle.nest_model.specs.Slot as slots;
-ghost use Rattle.nest_build.specs.Words.{Accepted, Memory, Overflow, asked_item, asked_refusal, flat_tree, len, slot, validity_of};
+ghost use Rattle.nest_build.specs.Words.{Accepted, Memory, Overflow, required_item, requirement_refusal, flat_tree, len, slot, validity_of};
 
 use crate::flat::{FlatBuilder, TakesValue};
 use nest_array::AnyArray;
-use nest_array::array::Variant;
+use nest_array::array::ArrayVariant;
 use nest_flat::plain::Plain;
 use nest_flat::utf8::Utf8Array;
 use nest_flat::utf8::mutable::MutableUtf8Array;
 use nest_memory::bitmap::mutable::MutableBitmap;
 use nest_memory::datatypes::DataType;
-use nest_memory::error::{Argument, Error};
+use nest_memory::error::{ArgumentError, Error};
 use nest_memory::offset::Offset;
 
-/// Adds a text, or a null. `Overflow` where no offset can stand for its end.
-fn push_text<O: Offset>(values: &mut MutableUtf8Array<O>, item: Option<&str>) -> Result<(), Error>
-    ensures accepted { OnOk result (Accepted (asked_item (option_map items.text (option_copied item.entry))) (flat_tree values.old) (flat_tree values.new)) }
-    ensures unrefused { OnOk result (asked_refusal (option_map items.text (option_copied item.entry)) (flat_tree values.old) ≡ None) }
+/// Appends a string or a null. `Overflow` if its end exceeds the largest offset.
+fn push_utf8<O: Offset>(values: &mut MutableUtf8Array<O>, item: Option<&str>) -> Result<(), Error>
+    ensures accepted { OnOk result (Accepted (required_item (option_map items.utf8 (option_copied item.entry))) (flat_tree values.old) (flat_tree values.new)) }
+    ensures unrefused { OnOk result (requirement_refusal (option_map items.utf8 (option_copied item.entry)) (flat_tree values.old) ≡ None) }
     ensures err { OnErr result (values.new ≡ values.old) }
-    ensures cause { IfErr result (λ e. (e ≡ Memory alloc_error) ⊎ ((e ≡ Overflow) × (asked_refusal (option_map items.text (option_copied item.entry)) (flat_tree values.old) ≡ Some e))) }
+    ensures cause { IfErr result (λ e. (e ≡ Memory alloc_error) ⊎ ((e ≡ Overflow) × (requirement_refusal (option_map items.utf8 (option_copied item.entry)) (flat_tree values.old) ≡ Some e))) }
 {
     values.known();
     if let Err(error) = values.try_push(item) {
@@ -32,10 +32,10 @@ fn push_text<O: Offset>(values: &mut MutableUtf8Array<O>, item: Option<&str>) ->
     Ok(())
 }
 
-/// The bytes of slot i. They need not be tested as UTF-8 to be compared, as `value` tests them.
+/// Returns the bytes of slot `i`. Unlike `value`, it does not check that they are UTF-8; a comparison does not need it.
 fn bytes_at<O: Offset>(texts: &MutableUtf8Array<O>, i: usize) -> &[u8]
     requires { i < len texts.now }
-    ensures { slot texts.now i ≡ where_valid (validity_of texts.now) i (slots.text result.now) }
+    ensures { slot texts.now i ≡ where_valid (validity_of texts.now) i (slots.utf8 result.now) }
 {
     texts.known();
     texts.offsets().known();
@@ -45,7 +45,7 @@ fn bytes_at<O: Offset>(texts: &MutableUtf8Array<O>, i: usize) -> &[u8]
 
 impl<O: Offset> FlatBuilder for MutableUtf8Array<O>
 where
-    Utf8Array<O>: Variant,
+    Utf8Array<O>: ArrayVariant,
 {
     ghost parts = { λ b. b };
 
@@ -80,9 +80,9 @@ where
     fn push_plain(&mut self, value: Option<Plain<'_>>) -> Result<(), Error> {
         self.known();
         match value {
-            None => push_text(self, None),
-            Some(Plain::Text(text)) => push_text(self, Some(text)),
-            Some(_) => Err(Error::InvalidArgumentError(Argument::ItemType)),
+            None => push_utf8(self, None),
+            Some(Plain::Text(text)) => push_utf8(self, Some(text)),
+            Some(_) => Err(Error::InvalidArgumentError(ArgumentError::ItemType)),
         }
     }
 

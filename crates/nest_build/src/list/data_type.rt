@@ -1,4 +1,4 @@
-//! The data types of builders of lists.
+//! Data types of list builders.
 ghost use Rattle.std.specs.Prelude.{◌≡◌, ◌≢◌, Some, IfOk, MatchResult, IsOkUnless, alloc_error};
 ghost use Rattle.nest_memory.specs.Physical.{list_of_width};
 ghost use Rattle.nest_memory.specs.TypeOf.{field_of};
@@ -9,12 +9,12 @@ use crate::child::has_items;
 use nest_memory::datatypes::DataType;
 use nest_memory::datatypes::field::Field;
 use nest_memory::datatypes::physical_type::PhysicalType;
-use nest_memory::error::{Error, Spec};
+use nest_memory::error::{Error, SpecError};
 use nest_memory::offset::Offset;
 use std::alloc::Global;
 use std::marker::{Model, PhantomData};
 
-/// A data type of lists by one width of offsets.
+/// A list type with offsets of type `O`.
 #[derive(Drop)]
 pub struct ListType<O: Offset> {
     data_type: DataType,
@@ -38,7 +38,7 @@ impl<O: Offset> Model for ListType<O> {
 }
 
 impl<O: Offset> ListType<O> {
-    /// Of lists of such items.
+    /// Returns the type of lists of such items.
     pub fn of_field(alloc: Global, items: Field) -> Result<ListType<O>, Error>
         ensures ok { IfOk result (λ t. t ≡ list_type O.IS_LARGE (field_of items)) }
         ensures memory { IsOkUnless result (Memory alloc_error) }
@@ -55,18 +55,18 @@ impl<O: Offset> ListType<O> {
         })
     }
 
-    /// A data type whose lists have items of that type.
+    /// Wraps a type of lists of items of this type.
     pub fn of_type(data_type: DataType, items: &DataType) -> Result<ListType<O>, Error>
         ensures { let checks = list_type_checks O.IS_LARGE (type_of data_type) (type_of items.now) in
             MatchResult result (λ t. Pass checks × (t ≡ type_of data_type)) (λ e. FailFirst e checks) }
     {
         if data_type.to_physical_type() != physical::<O>() {
             drop(data_type);
-            return Err(Error::OutOfSpec(Spec::WrongType));
+            return Err(Error::OutOfSpec(SpecError::WrongType));
         }
         if !has_items(&data_type, items) {
             drop(data_type);
-            return Err(Error::OutOfSpec(Spec::ChildType));
+            return Err(Error::OutOfSpec(SpecError::ChildType));
         }
         Ok(ListType {
             data_type,
@@ -82,7 +82,7 @@ impl<O: Offset> ListType<O> {
     }
 }
 
-/// The physical type of lists by the width of their offsets.
+/// Returns the physical type of lists with offsets of type `O`.
 fn physical<O: Offset>() -> PhysicalType
     ensures { result ≡ list_of_width O.IS_LARGE }
 {

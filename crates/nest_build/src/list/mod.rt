@@ -1,4 +1,4 @@
-//! The builder of arrays of lists.
+//! The builder of list arrays.
 
 pub mod data_type;
 mod mutable;

@@ -1,28 +1,28 @@
-//! The builder of arrays of lists, over any builder of their items.
+//! The builder of list arrays over any builder of the items.
 ghost use Rattle.std.specs.Prelude.{◌≡◌, ◌≢◌, ◌<◌, ◌⊎◌, ◌↔◌, [], true, OnOk, OnErr, IfOk, IfErr, IsErrOf, IsOkUnless, IsTrue, ◌+◌, alloc_error};
 ghost use Rattle.std.specs.Borrow.{sem, Lends};
 ghost use Rattle.nest_memory.specs.TypeTree.{field};
 ghost use Rattle.nest_model.specs.BuilderTree as builders;
-ghost use Rattle.nest_build.specs.Lists.{RefusesChild, list_type, new_list_checks, no_lists};
-ghost use Rattle.nest_build.specs.Words.{CanReadList, ChildNotEmpty, FailFirst, HasWholeChildren, InvalidArgumentError, IsListBy, IsWhole, ListCovers, Memory, Pass, ReadsList, RisesFrom, Told, ToldLengths, Unfinished, builder_len, builder_type, default_field, emptied, layout_of, layout_type, items_told, lengths_checks, list_child, own_slots, row_checks, rows_told, slots_of, told_rows_checks, type_of};
+ghost use Rattle.nest_build.specs.Lists.{RefusesChild, new_list_checks, no_lists, default_lists};
+ghost use Rattle.nest_build.specs.Words.{CanReadList, ChildNotEmpty, FailFirst, HasCompleteChildren, InvalidArgumentError, IsListBy, IsComplete, ListCovers, Memory, Pass, ReadsList, RowAdded, RowsAdded, Incomplete, builder_len, builder_type, default_field, emptied, layout_of, layout_type, items_of_lengths, lengths_checks, list_child, own_slots, row_checks, encoded_rows, slots_of, encoded_rows_checks, type_of};
 
 use crate::array::{MutableArray, shared};
 use crate::child::{OverChild, frozen_parts, has_items, same_types};
 use crate::list::data_type::ListType;
-use crate::list::width::{FrozenRows, ListWidth, ToldRows};
+use crate::list::width::{FrozenRows, ListWidth, RowStore};
 use crate::push::{TryExtend, TryExtendFromSelf, TryPush, extend_by_push};
 use nest_array::AnyArray;
-use nest_array::array::Variant;
+use nest_array::array::ArrayVariant;
 use nest_flat::plain::Plain;
 use nest_memory::bitmap::mutable::MutableBitmap;
 use nest_memory::datatypes::DataType;
 use nest_memory::datatypes::field::Field;
-use nest_memory::error::{Argument, Error};
+use nest_memory::error::{ArgumentError, Error};
 use std::alloc::Global;
 use std::rc::Rc;
 
-/// Lists that are pushed one after another, over a builder of their items: arrow2's `MutableListArray`. Items that are
-/// pushed into the child wait there until a row of them is told.
+/// A builder of list arrays over a builder of the items: arrow2's `MutableListArray`. Items pushed into the child are
+/// pending until a row of them is added.
 #[derive(Drop)]
 pub struct MutableListArray<O: ListWidth, M> {
     data_type: ListType<O>,
@@ -34,12 +34,12 @@ pub struct MutableListArray<O: ListWidth, M> {
 impl<O: ListWidth, M: MutableArray> MutableListArray<O, M> {
     ghost use Rattle.nest_build.specs.contracts.list.mutable.MutableListArray.{the_row};
 
-    /// No row, over an empty child: lists whose items are named "item" and nullable.
+    /// Returns a builder without rows over an empty child. The items are named "item" and nullable.
     ///
     /// # Errors
-    /// `ChildNotEmpty` where the child has rows, `Memory`.
+    /// `ChildNotEmpty` if the child has rows, `Memory` if an allocation fails.
     pub fn new(alloc: Global, values: M) -> Result<MutableListArray<O, M>, Error>
-        requires { IsWhole (M.model values) }
+        requires { IsComplete (M.model values) }
         ensures ok { IfOk result (λ b. ⟦<MutableListArray<O, M> as MutableArray>⟧.model b ≡ no_lists O.IS_LARGE (default_field (builder_type (M.model values))) (M.model values)) }
         ensures empty { IfOk result (λ b. builder_len (M.model values) ≡ 0) }
         ensures cause { IfErr result (RefusesChild (M.model values)) }
@@ -47,7 +47,7 @@ impl<O: ListWidth, M: MutableArray> MutableListArray<O, M> {
         MutableListArray::new_with_field(alloc, values, "item", true)
     }
 
-    /// The same, whose items have that name and may be null or not.
+    /// As `new`, with the name and the nullability of the items.
     ///
     /// # Errors
     /// As `new`.
@@ -57,13 +57,13 @@ impl<O: ListWidth, M: MutableArray> MutableListArray<O, M> {
         name: &str,
         nullable: bool,
     ) -> Result<MutableListArray<O, M>, Error>
-        requires { IsWhole (M.model values) }
+        requires { IsComplete (M.model values) }
         ensures ok { IfOk result (λ b. ⟦<MutableListArray<O, M> as MutableArray>⟧.model b ≡ no_lists O.IS_LARGE (field name.now (builder_type (M.model values)) nullable []) (M.model values)) }
         ensures empty { IfOk result (λ b. builder_len (M.model values) ≡ 0) }
         ensures cause { IfErr result (RefusesChild (M.model values)) }
     {
         if !values.is_empty() {
-            return Err(Error::InvalidArgumentError(Argument::ChildNotEmpty));
+            return Err(Error::InvalidArgumentError(ArgumentError::ChildNotEmpty));
         }
         let items = values.data_type().clone(alloc)?;
         let items = Field::new(alloc, name, items, nullable)?;
@@ -71,7 +71,7 @@ impl<O: ListWidth, M: MutableArray> MutableListArray<O, M> {
         MutableListArray::over(alloc, data_type, values)
     }
 
-    /// As `new`, with room for so many rows.
+    /// As `new`, with capacity for `capacity` rows.
     ///
     /// # Errors
     /// As `new`.
@@ -80,7 +80,7 @@ impl<O: ListWidth, M: MutableArray> MutableListArray<O, M> {
         values: M,
         capacity: usize,
     ) -> Result<MutableListArray<O, M>, Error>
-        requires { IsWhole (M.model values) }
+        requires { IsComplete (M.model values) }
         ensures ok { IfOk result (λ b. ⟦<MutableListArray<O, M> as MutableArray>⟧.model b ≡ no_lists O.IS_LARGE (default_field (builder_type (M.model values))) (M.model values)) }
         ensures empty { IfOk result (λ b. builder_len (M.model values) ≡ 0) }
         ensures cause { IfErr result (RefusesChild (M.model values)) }
@@ -99,7 +99,7 @@ impl<O: ListWidth, M: MutableArray> MutableListArray<O, M> {
         values: M,
         capacity: usize,
     ) -> Result<MutableListArray<O, M>, Error>
-        requires { IsWhole (M.model values) }
+        requires { IsComplete (M.model values) }
         ensures ok { IfOk result (λ b. ⟦<MutableListArray<O, M> as MutableArray>⟧.model b ≡ no_lists O.IS_LARGE (default_field (builder_type (M.model values))) (M.model values)) }
         ensures empty { IfOk result (λ b. builder_len (M.model values) ≡ 0) }
         ensures cause { IfErr result (RefusesChild (M.model values)) }
@@ -107,25 +107,25 @@ impl<O: ListWidth, M: MutableArray> MutableListArray<O, M> {
         MutableListArray::with_capacity(alloc, values, capacity)
     }
 
-    /// No row of that data type, over an empty child, with room for so many rows.
+    /// Returns a builder without rows of a data type, over an empty child, with capacity for `capacity` rows.
     ///
     /// # Errors
-    /// `ChildNotEmpty` where the child has rows, `WrongType` where the physical type isn't that of lists by such offsets,
-    /// `ChildType` where the child is of another type than its field: the first of these; `Memory`.
+    /// The first of: `ChildNotEmpty` if the child has rows; `WrongType` if the physical type is not a list with such
+    /// offsets; `ChildType` if the types of the child and of its field differ. `Memory` if an allocation fails.
     pub fn new_from(
         alloc: Global,
         values: M,
         data_type: DataType,
         capacity: usize,
     ) -> Result<MutableListArray<O, M>, Error>
-        requires { IsWhole (M.model values) }
+        requires { IsComplete (M.model values) }
         ensures ok { IfOk result (λ b. ⟦<MutableListArray<O, M> as MutableArray>⟧.model b ≡ builders.list O.IS_LARGE (type_of data_type) [] (M.model values)) }
         ensures passed { IfOk result (λ b. Pass (new_list_checks O.IS_LARGE (type_of data_type) (M.model values))) }
         ensures cause { IfErr result (λ e. (e ≡ Memory alloc_error) ⊎ FailFirst e (new_list_checks O.IS_LARGE (type_of data_type) (M.model values))) }
     {
         if !values.is_empty() {
             drop(data_type);
-            return Err(Error::InvalidArgumentError(Argument::ChildNotEmpty));
+            return Err(Error::InvalidArgumentError(ArgumentError::ChildNotEmpty));
         }
         let data_type = match ListType::of_type(data_type, values.data_type()) {
             Ok(data_type) => data_type,
@@ -136,21 +136,23 @@ impl<O: ListWidth, M: MutableArray> MutableListArray<O, M> {
         Ok(lists)
     }
 
-    /// The rows of such offsets and bits over the child's items, which are named "item" and nullable.
+    /// Returns the builder with these offsets and this validity over the items of a child. The items are named "item"
+    /// and nullable.
     ///
     /// # Errors
-    /// `LengthsSum` where the last offset isn't the number of items, then `ValidityLength` where there isn't a bit for each
-    /// row; `Memory`.
+    /// `LengthsSum` if the last offset is not the number of items, then `ValidityLength` if there is not one bit per
+    /// row; `Memory` if an allocation fails.
     pub fn new_from_mutable(
         alloc: Global,
         values: M,
         offsets: <O::Rows as FrozenRows>::Offsets,
         validity: Option<MutableBitmap>,
     ) -> Result<MutableListArray<O, M>, Error>
-        requires { IsWhole (M.model values) }
-        ensures ok { IfOk result (λ b. ⟦<MutableListArray<O, M> as MutableArray>⟧.model b ≡ builders.list O.IS_LARGE (list_type O.IS_LARGE (default_field (builder_type (M.model values)))) (rows_told (O.Rows.offsets_seen offsets) validity) (M.model values)) }
-        ensures passed { IfOk result (λ b. Pass (told_rows_checks (O.Rows.offsets_seen offsets) validity (builder_len (M.model values)))) }
-        ensures cause { IfErr result (λ e. (e ≡ Memory alloc_error) ⊎ FailFirst e (told_rows_checks (O.Rows.offsets_seen offsets) validity (builder_len (M.model values)))) }
+        requires { IsComplete (M.model values) }
+        ensures ok { IfOk result (λ b. ⟦<MutableListArray<O, M> as MutableArray>⟧.model b
+            ≡ default_lists O.IS_LARGE (encoded_rows (O.Rows.offsets_seen offsets) validity) (M.model values)) }
+        ensures passed { IfOk result (λ b. Pass (encoded_rows_checks (O.Rows.offsets_seen offsets) validity (builder_len (M.model values)))) }
+        ensures cause { IfErr result (λ e. (e ≡ Memory alloc_error) ⊎ FailFirst e (encoded_rows_checks (O.Rows.offsets_seen offsets) validity (builder_len (M.model values)))) }
     {
         let rows = match O::Rows::try_of(alloc, offsets, validity, values.len()) {
             Ok(rows) => rows,
@@ -166,7 +168,7 @@ impl<O: ListWidth, M: MutableArray> MutableListArray<O, M> {
         })
     }
 
-    // No row over a child.
+    // A builder without rows over a child.
     fn over(
         alloc: Global,
         data_type: ListType<O>,
@@ -183,78 +185,80 @@ impl<O: ListWidth, M: MutableArray> MutableListArray<O, M> {
         })
     }
 
-    /// The offsets of the rows, one more than rows.
+    /// Returns the offsets of the rows, one more than there are rows.
     pub fn offsets(&self) -> &<O::Rows as FrozenRows>::Offsets
         ensures { IsListBy (O.Rows.offsets_seen result.now) (⟦<MutableListArray<O, M> as MutableArray>⟧.model self.now) }
     {
         self.rows.offsets()
     }
 
-    /// The child.
+    /// Returns the child.
     pub fn values(&self) -> &M
         ensures { M.model result.now ≡ list_child (⟦<MutableListArray<O, M> as MutableArray>⟧.model self.now) }
     {
         &self.values
     }
 
-    /// The child, into which the items of a row may be pushed before the row is told. The builder is over what is left there.
+    /// Returns the child, to push the items of a row before the row is added. The builder keeps what is left in the
+    /// child.
     pub fn mut_values(&mut self) -> &mut M
-        ensures* writes_back { sem 𝓛 (Lends (the_row O.row M.row O.Rows.row O.Buffer.row O.List.row O.Rows.List.row O.Rows.Offsets.row O.Offset) M.row self.entry result (λ v. ⟦<MutableListArray<O, M> as OverChild>⟧.over self.entry.now v)) }
+        ensures* writes_back { sem 𝓛 (Lends (the_row O.row M.row O.Rows.row O.Buffer.row O.List.row O.Rows.List.row O.Rows.Offsets.row O.Offset) M.row self.entry result (⟦<MutableListArray<O, M> as OverChild>⟧.over self.entry.now)) }
         ensures value { M.model result.now ≡ list_child (⟦<MutableListArray<O, M> as MutableArray>⟧.model self.old) }
     {
         &mut self.values
     }
 
-    /// What holds of every such builder: its offsets never fall.
+    /// Shows the prover that the offsets never decrease. Does nothing at run time.
     pub fn known(&self)
-        ensures { let tree = ⟦<MutableListArray<O, M> as MutableArray>⟧.model in IsWhole (list_child (tree self.now)) → HasWholeChildren (tree self.now) }
+        ensures { let tree = ⟦<MutableListArray<O, M> as MutableArray>⟧.model in IsComplete (list_child (tree self.now)) → HasCompleteChildren (tree self.now) }
     {
         let _last = self.rows.last();
     }
 
-    /// Tells a row of the items that wait in the child.
+    /// Appends a valid row of the pending items.
     ///
     /// # Errors
-    /// `Unfinished` where the child has fewer items than the rows, or is of another type; then `Overflow` where it has
-    /// more than an offset can be; `Memory`. No row is added then, and the items go on waiting.
+    /// `Incomplete` if the child has fewer items than the rows or another type; then `Overflow` if it has more items
+    /// than the largest offset; `Memory` if an allocation fails. After an error no row is added and the items stay
+    /// pending.
     pub fn try_push_valid(&mut self) -> Result<(), Error>
-        requires { HasWholeChildren (⟦<MutableListArray<O, M> as MutableArray>⟧.model self.old) }
-        ensures ok { let tree = ⟦<MutableListArray<O, M> as MutableArray>⟧.model in OnOk result (Told true (tree self.old) (tree self.new)) }
+        requires { HasCompleteChildren (⟦<MutableListArray<O, M> as MutableArray>⟧.model self.old) }
+        ensures ok { let tree = ⟦<MutableListArray<O, M> as MutableArray>⟧.model in OnOk result (RowAdded true (tree self.old) (tree self.new)) }
         ensures passed { OnOk result (Pass (row_checks (⟦<MutableListArray<O, M> as MutableArray>⟧.model self.old))) }
         ensures err { let tree = ⟦<MutableListArray<O, M> as MutableArray>⟧.model in OnErr result (tree self.new ≡ tree self.old) }
         ensures cause { IfErr result (λ e. (e ≡ Memory alloc_error) ⊎ FailFirst e (row_checks (⟦<MutableListArray<O, M> as MutableArray>⟧.model self.old))) }
     {
         if !self.covers_rows() {
-            return Err(Error::InvalidArgumentError(Argument::Unfinished));
+            return Err(Error::InvalidArgumentError(ArgumentError::Incomplete));
         }
         let end = self.values.len();
         self.rows.push(true, end)
     }
 
-    /// Tells rows of these lengths of the items that wait in the child, a null row of no item for each `None`; all of
-    /// them or none.
+    /// Appends rows of the pending items by their lengths, an empty null row for each `None`; all of them or none.
     ///
     /// # Errors
-    /// `Unfinished` as `try_push_valid`; then `LengthsSum` where they don't end where the items do; then `Overflow` where
-    /// the child has more items than an offset can be; `Memory`. The items go on waiting then.
+    /// `Incomplete` as `try_push_valid`; then `LengthsSum` if the rows do not end where the items do; then `Overflow`
+    /// if the child has more items than the largest offset; `Memory` if an allocation fails. After an error the items
+    /// stay pending.
     pub fn try_extend_from_lengths(&mut self, lengths: &[Option<usize>]) -> Result<(), Error>
-        requires { HasWholeChildren (⟦<MutableListArray<O, M> as MutableArray>⟧.model self.old) }
-        ensures ok { let tree = ⟦<MutableListArray<O, M> as MutableArray>⟧.model in OnOk result (ToldLengths lengths.now (tree self.old) (tree self.new)) }
+        requires { HasCompleteChildren (⟦<MutableListArray<O, M> as MutableArray>⟧.model self.old) }
+        ensures ok { let tree = ⟦<MutableListArray<O, M> as MutableArray>⟧.model in OnOk result (RowsAdded lengths.now (tree self.old) (tree self.new)) }
         ensures passed { OnOk result (Pass (lengths_checks lengths.now (⟦<MutableListArray<O, M> as MutableArray>⟧.model self.old))) }
         ensures err { let tree = ⟦<MutableListArray<O, M> as MutableArray>⟧.model in OnErr result (tree self.new ≡ tree self.old) }
         ensures cause { IfErr result (λ e. (e ≡ Memory alloc_error) ⊎ FailFirst e (lengths_checks lengths.now (⟦<MutableListArray<O, M> as MutableArray>⟧.model self.old))) }
     {
         if !self.covers_rows() {
-            return Err(Error::InvalidArgumentError(Argument::Unfinished));
+            return Err(Error::InvalidArgumentError(ArgumentError::Incomplete));
         }
         let end = self.values.len();
         if !end_there(lengths, self.rows.last(), end) {
-            return Err(Error::InvalidArgumentError(Argument::LengthsSum));
+            return Err(Error::InvalidArgumentError(ArgumentError::LengthsSum));
         }
         self.rows.extend_from_lengths(lengths)
     }
 
-    // Whether the child is of the items' type, and not shorter than the rows.
+    // Whether the child has the type of the items and at least the items of the rows.
     fn covers_rows(&self) -> bool
         ensures { IsTrue result ↔ ListCovers (⟦<MutableListArray<O, M> as MutableArray>⟧.model self.now) }
     {
@@ -262,22 +266,22 @@ impl<O: ListWidth, M: MutableArray> MutableListArray<O, M> {
         has_items(self.data_type.get(), self.values.data_type()) && end <= self.values.len()
     }
 
-    /// The array of the rows. The builder keeps its data type and has no row at any level and no validity then, also
-    /// after `Memory`.
+    /// Freezes the builder: returns the array of its rows. The builder keeps its data type; all its levels are empty
+    /// and without validity afterwards, also after `Memory`.
     ///
     /// # Errors
-    /// `Unfinished` where it isn't whole; then nothing changes. `Memory`.
+    /// `Incomplete` if the builder is not complete; then nothing changes. `Memory` if an allocation fails.
     pub fn freeze(&mut self) -> Result<<O::Rows as FrozenRows>::List, Error>
         ensures slots { IfOk result (λ a. slots_of (O.Rows.List.parts a) ≡ own_slots (⟦<MutableListArray<O, M> as MutableArray>⟧.model self.old)) }
         ensures same_type { IfOk result (λ a. layout_type (O.Rows.List.parts a) ≡ builder_type (⟦<MutableListArray<O, M> as MutableArray>⟧.model self.old)) }
-        ensures unfinished { IsErrOf result (InvalidArgumentError Unfinished) ↔ ¬ IsWhole (⟦<MutableListArray<O, M> as MutableArray>⟧.model self.old) }
-        ensures unchanged { let tree = ⟦<MutableListArray<O, M> as MutableArray>⟧.model in ¬ IsWhole (tree self.old) → tree self.new ≡ tree self.old }
-        ensures emptied { let tree = ⟦<MutableListArray<O, M> as MutableArray>⟧.model in IsWhole (tree self.old) → tree self.new ≡ emptied (tree self.old) }
-        ensures validity { IsWhole (⟦<MutableListArray<O, M> as MutableArray>⟧.model self.old) → ⟦<MutableListArray<O, M> as MutableArray>⟧.bare self.new }
-        ensures errors { IfErr result (λ e. (e ≡ InvalidArgumentError Unfinished) ⊎ (e ≡ Memory alloc_error)) }
+        ensures incomplete { IsErrOf result (InvalidArgumentError Incomplete) ↔ ¬ IsComplete (⟦<MutableListArray<O, M> as MutableArray>⟧.model self.old) }
+        ensures unchanged { let tree = ⟦<MutableListArray<O, M> as MutableArray>⟧.model in ¬ IsComplete (tree self.old) → tree self.new ≡ tree self.old }
+        ensures emptied { let tree = ⟦<MutableListArray<O, M> as MutableArray>⟧.model in IsComplete (tree self.old) → tree self.new ≡ emptied (tree self.old) }
+        ensures validity { IsComplete (⟦<MutableListArray<O, M> as MutableArray>⟧.model self.old) → ⟦<MutableListArray<O, M> as MutableArray>⟧.bare self.new }
+        ensures errors { IfErr result (λ e. (e ≡ InvalidArgumentError Incomplete) ⊎ (e ≡ Memory alloc_error)) }
     {
-        if !self.is_whole() {
-            return Err(Error::InvalidArgumentError(Argument::Unfinished));
+        if !self.is_complete() {
+            return Err(Error::InvalidArgumentError(ArgumentError::Incomplete));
         }
         match frozen_parts(self.alloc, self.data_type.get(), &mut self.values) {
             Ok((data_type, values)) => self.rows.freeze_over(self.alloc, data_type, values),
@@ -288,15 +292,15 @@ impl<O: ListWidth, M: MutableArray> MutableListArray<O, M> {
         }
     }
 
-    /// The array of the rows.
+    /// Freezes the builder and consumes it.
     ///
     /// # Errors
-    /// `Unfinished` where the builder isn't whole, `Memory`. The builder is dropped.
+    /// `Incomplete` if the builder is not complete, `Memory` if an allocation fails. The builder is dropped.
     pub fn into_box(self) -> Result<AnyArray, Error>
         ensures slots { IfOk result (λ a. slots_of (layout_of a) ≡ own_slots (⟦<MutableListArray<O, M> as MutableArray>⟧.model self)) }
         ensures same_type { IfOk result (λ a. layout_type (layout_of a) ≡ builder_type (⟦<MutableListArray<O, M> as MutableArray>⟧.model self)) }
-        ensures unfinished { IsErrOf result (InvalidArgumentError Unfinished) ↔ ¬ IsWhole (⟦<MutableListArray<O, M> as MutableArray>⟧.model self) }
-        ensures errors { IfErr result (λ e. (e ≡ InvalidArgumentError Unfinished) ⊎ (e ≡ Memory alloc_error)) }
+        ensures incomplete { IsErrOf result (InvalidArgumentError Incomplete) ↔ ¬ IsComplete (⟦<MutableListArray<O, M> as MutableArray>⟧.model self) }
+        ensures errors { IfErr result (λ e. (e ≡ InvalidArgumentError Incomplete) ⊎ (e ≡ Memory alloc_error)) }
     {
         let mut lists = self;
         let array = lists.as_box();
@@ -304,15 +308,15 @@ impl<O: ListWidth, M: MutableArray> MutableListArray<O, M> {
         array
     }
 
-    /// The same array, owned by what shares it.
+    /// Freezes the builder, consumes it and returns the array in an `Rc`.
     ///
     /// # Errors
     /// As `into_box`.
     pub fn into_arc(self, alloc: Global) -> Result<Rc<AnyArray>, Error>
         ensures slots { IfOk result (λ r. slots_of (layout_of r.value) ≡ own_slots (⟦<MutableListArray<O, M> as MutableArray>⟧.model self)) }
         ensures same_type { IfOk result (λ r. layout_type (layout_of r.value) ≡ builder_type (⟦<MutableListArray<O, M> as MutableArray>⟧.model self)) }
-        ensures unfinished { IsErrOf result (InvalidArgumentError Unfinished) ↔ ¬ IsWhole (⟦<MutableListArray<O, M> as MutableArray>⟧.model self) }
-        ensures errors { IfErr result (λ e. (e ≡ InvalidArgumentError Unfinished) ⊎ (e ≡ Memory alloc_error)) }
+        ensures incomplete { IsErrOf result (InvalidArgumentError Incomplete) ↔ ¬ IsComplete (⟦<MutableListArray<O, M> as MutableArray>⟧.model self) }
+        ensures errors { IfErr result (λ e. (e ≡ InvalidArgumentError Incomplete) ⊎ (e ≡ Memory alloc_error)) }
     {
         let mut lists = self;
         let array = lists.as_arc(alloc);
@@ -321,9 +325,9 @@ impl<O: ListWidth, M: MutableArray> MutableListArray<O, M> {
     }
 }
 
-/// Whether so many items from a place on, none for each `None`, end at another.
+/// Returns whether lists of these lengths that start at offset `from` end at offset `to`. A `None` has length 0.
 fn end_there(lengths: &[Option<usize>], from: usize, to: usize) -> bool
-    ensures { IsTrue result ↔ (from + items_told lengths.now ≡ to) }
+    ensures { IsTrue result ↔ (from + items_of_lengths lengths.now ≡ to) }
 {
     let mut end = from;
     for items in lengths {
@@ -346,9 +350,9 @@ impl<O: ListWidth, M: MutableArray> OverChild for MutableListArray<O, M> {
 }
 
 impl<O: ListWidth, M: MutableArray> MutableArray for MutableListArray<O, M> {
-    ghost model = { λ b. builders.list O.IS_LARGE b.data_type (O.Rows.told b.rows) (M.model b.values) };
+    ghost model = { λ b. builders.list O.IS_LARGE b.data_type (O.Rows.row_list b.rows) (M.model b.values) };
 
-    ghost bare = { λ b. O.Rows.told b.rows ≡ [] };
+    ghost bare = { λ b. O.Rows.row_list b.rows ≡ [] };
 
     fn data_type(&self) -> &DataType {
         self.data_type.get()
@@ -370,8 +374,8 @@ impl<O: ListWidth, M: MutableArray> MutableArray for MutableListArray<O, M> {
         self.rows.is_valid(i)
     }
 
-    fn is_whole(&self) -> bool {
-        self.values.is_whole()
+    fn is_complete(&self) -> bool {
+        self.values.is_complete()
             && has_items(self.data_type.get(), self.values.data_type())
             && self.values.len() == self.rows.last()
     }
@@ -388,7 +392,7 @@ impl<O: ListWidth, M: MutableArray> MutableArray for MutableListArray<O, M> {
     fn try_push_plain(&mut self, value: Option<Plain<'_>>) -> Result<(), Error> {
         match value {
             None => self.push_null(),
-            Some(_) => Err(Error::InvalidArgumentError(Argument::ItemType)),
+            Some(_) => Err(Error::InvalidArgumentError(ArgumentError::ItemType)),
         }
     }
 
@@ -461,7 +465,7 @@ impl<O: ListWidth, M: TryExtend<Option<T>>, I: IntoIterator<Item = Option<T>>, T
 impl<O: ListWidth, M: TryExtendFromSelf> TryExtendFromSelf for MutableListArray<O, M> {
     fn try_extend_from_self(&mut self, other: &MutableListArray<O, M>) -> Result<(), Error> {
         if !same_types(self.data_type.get(), other.data_type.get()) {
-            return Err(Error::InvalidArgumentError(Argument::ItemType));
+            return Err(Error::InvalidArgumentError(ArgumentError::ItemType));
         }
         let len = self.values.len();
         if let Err(refusal) = self.values.try_extend_from_self(&other.values) {

@@ -1,20 +1,20 @@
-//! The rows of a builder of lists, without their items.
+//! The rows of a list builder, without the items.
 ghost use Rattle.std.specs.Prelude.{◌≡◌, ◌+◌, ◌≤◌, ◌<◌, ◌⊎◌, ◌++◌, ◌∷◌, [], true, take, get_or, length, IsNone, OnOk, OnErr, IfOk, IfErr, IsOkUnless, IsTrue, MatchResult, None, ◌↔◌, option_map, alloc_error};
-ghost use Rattle.nest_build.specs.Words.{EndsPast, FailFirst, Memory, Pass, RisesFrom, Spells, SpellsBits, ValidityFits, WithinLimits, end_from, items_told, largest_length, largest_offset, moved, offsets_from, row_bits, rows_of_lengths, rows_told, told_row, told_rows_checks};
+ghost use Rattle.nest_build.specs.Words.{EndsPast, FailFirst, Memory, Pass, RisesFrom, EncodesRows, EncodesBits, ValidityFits, WithinLimits, end_from, items_of_lengths, largest_length, largest_offset, moved, offsets_from, row_bits, rows_of_lengths, encoded_rows, row_ending, encoded_rows_checks};
 
 use nest_flat::growth::validity;
 use nest_memory::bitmap::immutable::Bitmap;
 use nest_memory::bitmap::mutable::MutableBitmap;
-use nest_memory::error::{Argument, Error, Spec};
+use nest_memory::error::{ArgumentError, Error, SpecError};
 use nest_memory::offset::Offset;
 use nest_memory::offsets::{Offsets, OffsetsBuffer};
 use std::alloc::Global;
 use std::marker::Model;
 
-/// Rows by where their items end, and whether they are valid: the Variable-size List Layout of the Arrow format,
-/// without the items. The first offset is 0. A validity is made at the first null row, and there is none without a row.
+/// The offsets and the validity of rows: Variable-size List Layout of the Arrow format, without the child array. The
+/// first offset is 0. The validity is created at the first null row; without rows there is none.
 ///
-/// A call that answers `Err` changes no row, but for `freeze`.
+/// A call that returns an error changes no row, except `freeze`.
 #[derive(Drop)]
 pub struct ListRows<O: Offset> {
     offsets: Offsets<O>,
@@ -26,17 +26,17 @@ impl<O: Offset> Model for ListRows<O> {
     ghost use Rattle.std.specs.Prelude.{List};
     ghost use Rattle.nest_model.specs.BuilderRow.{Row};
     ghost use Rattle.nest_model.specs.Part.{count_rows};
-    ghost use Rattle.nest_build.specs.Rows.{IsOfRows, rows_told};
+    ghost use Rattle.nest_build.specs.Rows.{IsOfRows, encoded_rows};
 
     ghost Value = { List Row };
 
-    ghost view = { λ a. rows_told a.offsets a.validity };
+    ghost view = { λ a. encoded_rows a.offsets a.validity };
 
     ghost invariant = { λ a. IsOfRows a.validity (count_rows a.offsets) };
 }
 
 impl<O: Offset> ListRows<O> {
-    /// No row.
+    /// Returns no rows.
     pub fn new(alloc: Global) -> Result<ListRows<O>, Error>
         ensures ok { IfOk result (λ rows. rows ≡ []) }
         ensures memory { IsOkUnless result (Memory alloc_error) }
@@ -48,10 +48,10 @@ impl<O: Offset> ListRows<O> {
         })
     }
 
-    /// The rows of such offsets and bits, over so many items.
+    /// Returns the rows with these offsets and this validity, over `items` items.
     ///
     /// # Errors
-    /// `LengthsSum` where the last offset isn't the number of items, then `ValidityLength` where there isn't a bit for each
+    /// `LengthsSum` if the last offset is not the number of items, then `ValidityLength` if there is not one bit per
     /// row.
     pub fn try_of(
         alloc: Global,
@@ -59,14 +59,14 @@ impl<O: Offset> ListRows<O> {
         validity: Option<MutableBitmap>,
         items: usize,
     ) -> Result<ListRows<O>, Error>
-        ensures { let checks = told_rows_checks offsets validity items in
-            MatchResult result (λ rows. Pass checks × (rows ≡ rows_told offsets validity)) (λ e. FailFirst e checks) }
+        ensures { let checks = encoded_rows_checks offsets validity items in
+            MatchResult result (λ rows. Pass checks × (rows ≡ encoded_rows offsets validity)) (λ e. FailFirst e checks) }
     {
         if offsets.last() != items {
-            return Err(Error::InvalidArgumentError(Argument::LengthsSum));
+            return Err(Error::InvalidArgumentError(ArgumentError::LengthsSum));
         }
         if !has_bits(&validity, offsets.len_proxy()) {
-            return Err(Error::OutOfSpec(Spec::ValidityLength));
+            return Err(Error::OutOfSpec(SpecError::ValidityLength));
         }
         let rows = offsets.len_proxy();
         Ok(ListRows {
@@ -76,7 +76,7 @@ impl<O: Offset> ListRows<O> {
         })
     }
 
-    /// How many rows there are.
+    /// Returns the number of rows.
     pub fn len(&self) -> usize
         ensures { result ≡ length self.now }
     {
@@ -84,7 +84,7 @@ impl<O: Offset> ListRows<O> {
         self.offsets.len_proxy()
     }
 
-    /// The offsets, one more than rows.
+    /// Returns the offsets, one more than there are rows.
     pub fn offsets(&self) -> &Offsets<O>
         ensures { offsets_from 0 self.now ≡ result.now }
     {
@@ -92,16 +92,16 @@ impl<O: Offset> ListRows<O> {
         &self.offsets
     }
 
-    /// Which rows are valid, a bit a row; without it all are.
+    /// Returns the validity, one bit per row. Without it all rows are valid.
     pub fn validity(&self) -> Option<&MutableBitmap>
-        ensures bits { SpellsBits (option_map (λ b. b.now) result) (row_bits self.now) }
+        ensures bits { EncodesBits (option_map (λ b. b.now) result) (row_bits self.now) }
         ensures none { self.now ≡ [] → IsNone result }
     {
         self.offsets.known();
         self.validity.as_ref()
     }
 
-    /// Whether row i is valid.
+    /// Returns whether row `i` is valid.
     pub fn is_valid(&self, i: usize) -> bool
         requires { i < length self.now }
         ensures { result ≡ get_or (row_bits self.now) i true }
@@ -111,7 +111,7 @@ impl<O: Offset> ListRows<O> {
         validity::is_valid(&self.validity, i)
     }
 
-    /// Where the last row ends.
+    /// Returns the last offset: the end of the last row.
     pub fn last(&self) -> usize
         ensures value { result ≡ end_from 0 self.now }
         ensures rising { RisesFrom 0 self.now }
@@ -122,14 +122,14 @@ impl<O: Offset> ListRows<O> {
         self.offsets.last()
     }
 
-    /// Adds a row, whose items begin where the last row ends.
+    /// Appends a row. Its items start where the last row ends.
     ///
     /// # Errors
-    /// `Overflow` where the end is past the largest offset, `Memory`.
+    /// `Overflow` if `end` exceeds the largest offset, `Memory` if an allocation fails.
     #[inline]
     pub fn push(&mut self, valid: bool, end: usize) -> Result<(), Error>
         requires { end_from 0 self.old ≤ end }
-        ensures ok { OnOk result (self.new ≡ self.old ++ told_row valid end ∷ []) }
+        ensures ok { OnOk result (self.new ≡ self.old ++ row_ending valid end ∷ []) }
         ensures within { OnOk result (WithinLimits O.IS_LARGE (length self.old + 1) end) }
         ensures err { OnErr result (self.new ≡ self.old) }
         ensures cause { IfErr result (EndsPast O.IS_LARGE end) }
@@ -146,12 +146,12 @@ impl<O: Offset> ListRows<O> {
         Ok(())
     }
 
-    /// Adds a row of so many items; a null one of none where no number is given.
+    /// Appends a valid row of `items` items, or an empty null row for `None`.
     fn push_length(&mut self, items: Option<usize>) -> Result<(), Error>
         ensures ok { OnOk result (self.new ≡ self.old ++ rows_of_lengths (end_from 0 self.old) (items ∷ [])) }
-        ensures within { OnOk result (end_from 0 self.old + items_told (items ∷ []) ≤ largest_offset O.IS_LARGE) }
+        ensures within { OnOk result (end_from 0 self.old + items_of_lengths (items ∷ []) ≤ largest_offset O.IS_LARGE) }
         ensures err { OnErr result (self.new ≡ self.old) }
-        ensures cause { IfErr result (EndsPast O.IS_LARGE (end_from 0 self.old + items_told (items ∷ []))) }
+        ensures cause { IfErr result (EndsPast O.IS_LARGE (end_from 0 self.old + items_of_lengths (items ∷ []))) }
     {
         let last = self.last();
         match items {
@@ -163,15 +163,15 @@ impl<O: Offset> ListRows<O> {
         }
     }
 
-    /// Adds a row of each length, a null one of no item for each `None`; all of them or none.
+    /// Appends rows by their lengths, an empty null row for each `None`; all of them or none.
     ///
     /// # Errors
-    /// `Overflow` where the last of them ends past the largest offset, `Memory`.
+    /// `Overflow` if the end of the last row exceeds the largest offset, `Memory` if an allocation fails.
     pub fn extend_from_lengths(&mut self, lengths: &[Option<usize>]) -> Result<(), Error>
         ensures ok { OnOk result (self.new ≡ self.old ++ rows_of_lengths (end_from 0 self.old) lengths.now) }
-        ensures within { OnOk result (WithinLimits O.IS_LARGE (length self.old + length lengths.now) (end_from 0 self.old + items_told lengths.now)) }
+        ensures within { OnOk result (WithinLimits O.IS_LARGE (length self.old + length lengths.now) (end_from 0 self.old + items_of_lengths lengths.now)) }
         ensures err { OnErr result (self.new ≡ self.old) }
-        ensures cause { IfErr result (EndsPast O.IS_LARGE (end_from 0 self.old + items_told lengths.now)) }
+        ensures cause { IfErr result (EndsPast O.IS_LARGE (end_from 0 self.old + items_of_lengths lengths.now)) }
     {
         let len = self.len();
         let _fits = self.last();
@@ -185,10 +185,10 @@ impl<O: Offset> ListRows<O> {
         Ok(())
     }
 
-    /// Adds another's rows, whose items lie behind these rows' items; all of them or none.
+    /// Appends the rows of `other`, all of them or none. Their items follow the items of these rows.
     ///
     /// # Errors
-    /// `Overflow` where the last of them ends past the largest offset, `Memory`.
+    /// `Overflow` if the end of the last row exceeds the largest offset, `Memory` if an allocation fails.
     pub fn append(&mut self, other: &ListRows<O>) -> Result<(), Error>
         ensures ok { OnOk result (self.new ≡ self.old ++ moved (end_from 0 self.old) other.now) }
         ensures within { OnOk result (WithinLimits O.IS_LARGE (length self.old + length other.now) (end_from 0 self.old + end_from 0 other.now)) }
@@ -216,7 +216,7 @@ impl<O: Offset> ListRows<O> {
         Ok(())
     }
 
-    /// Keeps the first n rows. No memory is taken.
+    /// Keeps the first `n` rows. Does not allocate.
     pub fn truncate(&mut self, n: usize)
         requires { n ≤ length self.old }
         ensures { self.new ≡ take n self.old }
@@ -230,10 +230,10 @@ impl<O: Offset> ListRows<O> {
         self.offsets.truncate(n);
     }
 
-    /// Room for so many rows more.
+    /// Reserves capacity for at least `additional` more rows.
     ///
     /// # Errors
-    /// `Memory`.
+    /// `Memory` if an allocation fails.
     pub fn reserve(&mut self, additional: usize) -> Result<(), Error>
         ensures same { self.new ≡ self.old }
         ensures memory { IsOkUnless result (Memory alloc_error) }
@@ -242,7 +242,7 @@ impl<O: Offset> ListRows<O> {
         validity::reserve(&mut self.validity, additional)
     }
 
-    /// Gives back memory that holds no row, where a smaller block is there.
+    /// Shrinks the capacity to the rows as far as the allocator can.
     pub fn shrink_to_fit(&mut self)
         ensures { self.new ≡ self.old }
     {
@@ -250,7 +250,7 @@ impl<O: Offset> ListRows<O> {
         validity::shrink_to_fit(&mut self.validity);
     }
 
-    /// Leaves no row, and no validity.
+    /// Removes all rows and the validity.
     pub fn clear(&mut self)
         ensures { self.new ≡ [] }
     {
@@ -259,12 +259,12 @@ impl<O: Offset> ListRows<O> {
         self.validity = None;
     }
 
-    /// The offsets and the validity. No row and no validity is left, also after `Memory`.
+    /// Returns the offsets and the validity. No rows and no validity are left, also after `Memory`.
     ///
     /// # Errors
-    /// `Memory`.
+    /// `Memory` if an allocation fails.
     pub fn freeze(&mut self) -> Result<(OffsetsBuffer<O>, Option<Bitmap>), Error>
-        ensures ok { IfOk result (λ parts. Spells parts.0 parts.1 self.old) }
+        ensures ok { IfOk result (λ parts. EncodesRows parts.0 parts.1 self.old) }
         ensures none { self.old ≡ [] → IfOk result (λ parts. IsNone parts.1) }
         ensures memory { IsOkUnless result (Memory alloc_error) }
         ensures emptied { self.new ≡ [] }
@@ -276,7 +276,7 @@ impl<O: Offset> ListRows<O> {
     }
 }
 
-/// The validity of so many rows; none where there is no row.
+/// Returns the validity, `None` if there are no rows.
 pub fn of_rows(validity: Option<MutableBitmap>, rows: usize) -> Option<MutableBitmap>
     ensures some { 0 < rows → result ≡ validity }
     ensures none { rows ≡ 0 → result ≡ None }
@@ -289,7 +289,7 @@ pub fn of_rows(validity: Option<MutableBitmap>, rows: usize) -> Option<MutableBi
     }
 }
 
-/// Whether there is a bit for each of so many rows, or no validity.
+/// Returns whether there is one bit per row, or no validity.
 pub fn has_bits(validity: &Option<MutableBitmap>, rows: usize) -> bool
     ensures { IsTrue result ↔ ValidityFits validity.now rows }
 {

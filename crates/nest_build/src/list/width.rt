@@ -1,11 +1,11 @@
-//! What builders of lists ask of their rows, by either width of offsets.
+//! The rows of list builders with 32-bit and 64-bit offsets.
 ghost use Rattle.std.specs.Prelude.{◌≡◌, ◌+◌, ◌≤◌, ◌<◌, ◌⊎◌, ◌++◌, ◌∷◌, [], Bool, ℕ, List as Seq, true, Some, IsNone, MatchResult, take, get_or, length, OnOk, OnErr, IfOk, IfErr, IsOkUnless, option_map, alloc_error};
 ghost use Rattle.nest_memory.specs.Physical.{list_of_width};
 ghost use Rattle.nest_model.specs.BuilderRow.{Row};
-ghost use Rattle.nest_build.specs.Words.{EndsPast, FailFirst, Memory, Pass, RisesFrom, SpellsBits, WithinLimits, end_from, item_type, items_told, largest_length, largest_offset, layout_of, layout_type, len, moved, offsets_from, physical_type, row_bits, rows_of_items, rows_of_lengths, rows_told, slots_of, told_row, told_rows_checks, type_of};
+ghost use Rattle.nest_build.specs.Words.{EndsPast, FailFirst, Memory, Pass, RisesFrom, EncodesBits, WithinLimits, end_from, item_type, items_of_lengths, largest_length, largest_offset, layout_of, layout_type, len, moved, offsets_from, physical_type, row_bits, rows_of_items, rows_of_lengths, encoded_rows, slots_of, row_ending, encoded_rows_checks, type_of};
 
 use crate::list::rows::ListRows;
-use nest_array::array::Variant;
+use nest_array::array::ArrayVariant;
 use nest_array::{AnyArray, LargeListArray, ListArray, ListOffset};
 use nest_memory::bitmap::mutable::MutableBitmap;
 use nest_memory::datatypes::DataType;
@@ -14,82 +14,82 @@ use nest_memory::offset::Offset;
 use nest_memory::offsets::Offsets;
 use std::alloc::Global;
 
-/// The rows of a builder of lists. `ListRows` are such; callers needn't name it.
-pub trait ToldRows: Drop {
+/// The rows of a list builder. `ListRows` implements it; callers need not name this trait.
+pub trait RowStore: Drop {
     /// The rows so far.
-    ghost told: { Self → Seq Row };
+    ghost row_list: { Self → Seq Row };
 
     /// Whether the offsets have 64 bits.
     ghost large: { Bool };
 
-    /// No row.
+    /// Returns no rows.
     fn new(alloc: Global) -> Result<Self, Error>
-        ensures ok { IfOk result (λ rows. told rows ≡ []) }
+        ensures ok { IfOk result (λ rows. row_list rows ≡ []) }
         ensures memory { IsOkUnless result (Memory alloc_error) };
 
-    /// How many rows there are.
+    /// Returns the number of rows.
     fn len(&self) -> usize
-        ensures { result ≡ length (told self.now) };
+        ensures { result ≡ length (row_list self.now) };
 
-    /// Which rows are valid.
+    /// Returns the validity.
     fn validity(&self) -> Option<&MutableBitmap>
-        ensures bits { SpellsBits (option_map (λ b. b.now) result) (row_bits (told self.now)) }
-        ensures none { told self.now ≡ [] → IsNone result };
+        ensures bits { EncodesBits (option_map (λ b. b.now) result) (row_bits (row_list self.now)) }
+        ensures none { row_list self.now ≡ [] → IsNone result };
 
-    /// Whether row i is valid.
+    /// Returns whether row `i` is valid.
     fn is_valid(&self, i: usize) -> bool
-        requires { i < length (told self.now) }
-        ensures { result ≡ get_or (row_bits (told self.now)) i true };
+        requires { i < length (row_list self.now) }
+        ensures { result ≡ get_or (row_bits (row_list self.now)) i true };
 
-    /// Where the last row ends.
+    /// Returns the last offset: the end of the last row.
     fn last(&self) -> usize
-        ensures value { result ≡ end_from 0 (told self.now) }
-        ensures rising { RisesFrom 0 (told self.now) }
+        ensures value { result ≡ end_from 0 (row_list self.now) }
+        ensures rising { RisesFrom 0 (row_list self.now) }
         ensures fits { result ≤ largest_offset large };
 
-    /// Adds a row that ends there.
+    /// Appends a row that ends at `end`.
     fn push(&mut self, valid: bool, end: usize) -> Result<(), Error>
-        requires { end_from 0 (told self.old) ≤ end }
-        ensures ok { OnOk result (told self.new ≡ told self.old ++ told_row valid end ∷ []) }
-        ensures within { OnOk result (WithinLimits large (length (told self.old) + 1) end) }
-        ensures err { OnErr result (told self.new ≡ told self.old) }
+        requires { end_from 0 (row_list self.old) ≤ end }
+        ensures ok { OnOk result (row_list self.new ≡ row_list self.old ++ row_ending valid end ∷ []) }
+        ensures within { OnOk result (WithinLimits large (length (row_list self.old) + 1) end) }
+        ensures err { OnErr result (row_list self.new ≡ row_list self.old) }
         ensures cause { IfErr result (EndsPast large end) };
 
-    /// Adds rows by their lengths.
+    /// Appends rows by their lengths.
     fn extend_from_lengths(&mut self, lengths: &[Option<usize>]) -> Result<(), Error>
-        ensures ok { OnOk result (told self.new ≡ told self.old ++ rows_of_lengths (end_from 0 (told self.old)) lengths.now) }
-        ensures within { OnOk result (WithinLimits large (length (told self.old) + length lengths.now) (end_from 0 (told self.old) + items_told lengths.now)) }
-        ensures err { OnErr result (told self.new ≡ told self.old) }
-        ensures cause { IfErr result (EndsPast large (end_from 0 (told self.old) + items_told lengths.now)) };
+        ensures ok { OnOk result (row_list self.new ≡ row_list self.old ++ rows_of_lengths (end_from 0 (row_list self.old)) lengths.now) }
+        ensures within { OnOk result (WithinLimits large (length (row_list self.old) + length lengths.now) (end_from 0 (row_list self.old) + items_of_lengths lengths.now)) }
+        ensures err { OnErr result (row_list self.new ≡ row_list self.old) }
+        ensures cause { IfErr result (EndsPast large (end_from 0 (row_list self.old) + items_of_lengths lengths.now)) };
 
-    /// Adds another's rows.
+    /// Appends the rows of `other`.
     fn append(&mut self, other: &Self) -> Result<(), Error>
-        ensures ok { OnOk result (told self.new ≡ told self.old ++ moved (end_from 0 (told self.old)) (told other.now)) }
-        ensures within { OnOk result (WithinLimits large (length (told self.old) + length (told other.now)) (end_from 0 (told self.old) + end_from 0 (told other.now))) }
-        ensures err { OnErr result (told self.new ≡ told self.old) }
-        ensures cause { IfErr result (EndsPast large (end_from 0 (told self.old) + end_from 0 (told other.now))) };
+        ensures ok { OnOk result (row_list self.new ≡ row_list self.old ++ moved (end_from 0 (row_list self.old)) (row_list other.now)) }
+        ensures within { OnOk result (WithinLimits large (length (row_list self.old) + length (row_list other.now)) (end_from 0 (row_list self.old) + end_from 0 (row_list other.now))) }
+        ensures err { OnErr result (row_list self.new ≡ row_list self.old) }
+        ensures cause { IfErr result (EndsPast large (end_from 0 (row_list self.old) + end_from 0 (row_list other.now))) };
 
-    /// Keeps the first n rows.
+    /// Keeps the first `n` rows.
     fn truncate(&mut self, n: usize)
-        requires { n ≤ length (told self.old) }
-        ensures { told self.new ≡ take n (told self.old) };
+        requires { n ≤ length (row_list self.old) }
+        ensures { row_list self.new ≡ take n (row_list self.old) };
 
-    /// Room for so many rows more.
+    /// Reserves capacity for at least `additional` more rows.
     fn reserve(&mut self, additional: usize) -> Result<(), Error>
-        ensures same { told self.new ≡ told self.old }
+        ensures same { row_list self.new ≡ row_list self.old }
         ensures memory { IsOkUnless result (Memory alloc_error) };
 
-    /// Gives back memory that holds no row.
+    /// Shrinks the capacity to the rows as far as the allocator can.
     fn shrink_to_fit(&mut self)
-        ensures { told self.new ≡ told self.old };
+        ensures { row_list self.new ≡ row_list self.old };
 
-    /// Leaves no row.
+    /// Removes all rows.
     fn clear(&mut self)
-        ensures { told self.new ≡ [] };
+        ensures { row_list self.new ≡ [] };
 }
 
-impl<O: Offset> ToldRows for ListRows<O> {
-    ghost told = { λ rows. rows };
+impl<O: Offset> RowStore for ListRows<O> {
+    ghost row_list = { λ rows. rows };
 
     ghost large = { O.IS_LARGE };
 
@@ -142,31 +142,31 @@ impl<O: Offset> ToldRows for ListRows<O> {
     }
 }
 
-/// Rows that freeze to an array of lists.
-pub trait FrozenRows: ToldRows {
-    /// The array of lists by such offsets.
-    type List: Variant;
+/// Rows that freeze to a list array.
+pub trait FrozenRows: RowStore {
+    /// The list array with these offsets.
+    type List: ArrayVariant;
 
-    /// `Offsets` of the width.
+    /// The offsets of this width.
     type Offsets;
 
     ghost offsets_seen: { Self.Offsets → Seq ℕ };
 
-    /// The rows of such offsets and bits, over so many items.
+    /// Returns the rows with these offsets and this validity, over `items` items.
     fn try_of(
         alloc: Global,
         offsets: Self::Offsets,
         validity: Option<MutableBitmap>,
         items: usize,
     ) -> Result<Self, Error>
-        ensures { let checks = told_rows_checks (offsets_seen offsets) validity items in
-            MatchResult result (λ rows. Pass checks × (Self.told rows ≡ rows_told (offsets_seen offsets) validity)) (λ e. FailFirst e checks) };
+        ensures { let os = offsets_seen offsets in let cs = encoded_rows_checks os validity items in
+            MatchResult result (λ rows. Pass cs × (Self.row_list rows ≡ encoded_rows os validity)) (λ e. FailFirst e cs) };
 
-    /// The offsets of the rows.
+    /// Returns the offsets of the rows.
     fn offsets(&self) -> &Self::Offsets
-        ensures { offsets_from 0 (Self.told self.now) ≡ offsets_seen result.now };
+        ensures { offsets_from 0 (Self.row_list self.now) ≡ offsets_seen result.now };
 
-    /// The array of the rows over their items. No row and no validity is left, also after `Memory`.
+    /// Returns the array of the rows over their items. No rows and no validity are left, also after `Memory`.
     fn freeze_over(
         &mut self,
         alloc: Global,
@@ -175,10 +175,10 @@ pub trait FrozenRows: ToldRows {
     ) -> Result<Self::List, Error>
         requires lists { physical_type (type_of data_type) ≡ list_of_width Self.large }
         requires items { item_type (type_of data_type) ≡ Some (layout_type (layout_of values)) }
-        requires covers { end_from 0 (Self.told self.old) ≤ len (layout_of values) }
-        ensures slots { IfOk result (λ a. slots_of (Self.List.parts a) ≡ rows_of_items 0 (Self.told self.old) (slots_of (layout_of values))) }
+        requires covers { end_from 0 (Self.row_list self.old) ≤ len (layout_of values) }
+        ensures slots { IfOk result (λ a. slots_of (Self.List.parts a) ≡ rows_of_items 0 (Self.row_list self.old) (slots_of (layout_of values))) }
         ensures same_type { IfOk result (λ a. layout_type (Self.List.parts a) ≡ type_of data_type) }
-        ensures emptied { Self.told self.new ≡ [] }
+        ensures emptied { Self.row_list self.new ≡ [] }
         ensures memory { IsOkUnless result (Memory alloc_error) };
 }
 
@@ -258,12 +258,12 @@ impl FrozenRows for ListRows<i64> {
     }
 }
 
-/// A width of the offsets of lists: 32 bits or 64.
+/// A width of list offsets: 32 or 64 bits.
 pub trait ListWidth: ListOffset {
     /// `ListRows<Self>`.
     type Rows: FrozenRows;
 
-    // The rows' offsets are of the width.
+    // The offsets of the rows have this width.
     ghost same_width: { Self.Rows.large ≡ Self.IS_LARGE };
 }
 

@@ -1,4 +1,4 @@
-//! Arrays of nulls that are built row by row.
+//! Builders of null arrays.
 pub mod mutable;
 
 pub use mutable::MutableNullArray;

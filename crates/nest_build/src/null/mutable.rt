@@ -1,4 +1,4 @@
-//! The builder of arrays of nulls.
+//! The builder of null arrays.
 ghost use Rattle.std.specs.Prelude.{◌≡◌, ◌+◌, ◌^◌, ◌≤◌, ◌<◌, ⊤, None, Some, OnOk, OnErr, IfOk, IfErr, IsOkUnless, alloc_error};
 ghost use Rattle.nest_model.specs.BuilderItem.{null as null_item};
 ghost use Rattle.nest_memory.specs.declared.datatypes.physical_type.PhysicalType.TheVariants as physical;
@@ -10,12 +10,12 @@ use nest_array::{AnyArray, NullArray};
 use nest_flat::plain::Plain;
 use nest_memory::bitmap::mutable::MutableBitmap;
 use nest_memory::datatypes::DataType;
-use nest_memory::error::{Argument, Error};
+use nest_memory::error::{ArgumentError, Error};
 use std::alloc::Global;
 use std::marker::Model;
 use std::rc::Rc;
 
-/// Nulls that are pushed one after another, and then frozen into a `NullArray`. arrow2's `MutableNullArray`.
+/// A builder of null arrays: arrow2's `MutableNullArray`.
 ///
 /// It has no validity, and none of its rows is valid.
 #[derive(Drop)]
@@ -43,7 +43,7 @@ impl Model for MutableNullArray {
 }
 
 impl MutableNullArray {
-    /// So many nulls, of a data type whose physical type is `Null`.
+    /// Returns a builder of `length` nulls, of a data type whose physical type is `Null`.
     pub fn new(alloc: Global, data_type: DataType, length: usize) -> MutableNullArray
         requires { physical_type (type_of data_type) ≡ physical.Null }
         ensures { result ≡ layouts.null (type_of data_type) length }
@@ -55,7 +55,7 @@ impl MutableNullArray {
         }
     }
 
-    /// What holds of every such builder.
+    /// Shows the prover the invariants of a null builder. Does nothing at run time.
     pub fn known(&self)
         ensures fits { TopFits self.now }
         ensures kind { self.now ≡ layouts.null (layout_type self.now) (len self.now) }
@@ -63,21 +63,21 @@ impl MutableNullArray {
         let _ = &self.data_type;
     }
 
-    /// How many nulls it has.
+    /// Returns the number of nulls.
     pub fn len(&self) -> usize
         ensures { result ≡ len self.now }
     {
         self.count
     }
 
-    /// Its data type.
+    /// Returns the data type.
     pub fn data_type(&self) -> &DataType
         ensures { type_of result.now ≡ layout_type self.now }
     {
         &self.data_type
     }
 
-    /// Adds a null.
+    /// Appends a null.
     fn push(&mut self) -> Result<(), Error>
         ensures ok { OnOk result (self.new ≡ layouts.null (layout_type self.old) (len self.old + 1)) }
         ensures room { OnOk result (len self.old + 1 < 2 ^ 64) }
@@ -93,7 +93,7 @@ impl MutableNullArray {
         }
     }
 
-    /// Adds a null, or says why it can't.
+    /// Appends a null. `Overflow` if the length would exceed its limit.
     fn add(&mut self) -> Result<(), Error>
         ensures accepted { OnOk result (Accepted null_item (flat_tree self.old) (flat_tree self.new)) }
         ensures unrefused { OnOk result (item_refusal null_item (flat_tree self.old) ≡ None) }
@@ -107,7 +107,7 @@ impl MutableNullArray {
         Ok(())
     }
 
-    /// Keeps the first n nulls.
+    /// Keeps the first `n` nulls.
     fn cut(&mut self, n: usize)
         requires { n ≤ len self.old }
         ensures { self.new ≡ layouts.null (layout_type self.old) n }
@@ -115,10 +115,11 @@ impl MutableNullArray {
         self.count = n;
     }
 
-    /// The array of the nulls. The builder keeps its data type and has no row then, also where this answers `Err`.
+    /// Freezes the builder: returns the array of its nulls. The builder keeps its data type; it has no rows afterwards,
+    /// also after an error.
     ///
     /// # Errors
-    /// `Memory`.
+    /// `Memory` if an allocation fails.
     pub fn freeze(&mut self) -> Result<NullArray, Error>
         ensures ok { IfOk result (λ a. a ≡ self.old) }
         ensures emptied { self.new ≡ layouts.null (layout_type self.old) 0 }
@@ -160,7 +161,7 @@ impl MutableArray for MutableNullArray {
         false
     }
 
-    fn is_whole(&self) -> bool {
+    fn is_complete(&self) -> bool {
         true
     }
 
@@ -177,7 +178,7 @@ impl MutableArray for MutableNullArray {
         self.known();
         match value {
             None => self.add(),
-            Some(_) => Err(Error::InvalidArgumentError(Argument::ItemType)),
+            Some(_) => Err(Error::InvalidArgumentError(ArgumentError::ItemType)),
         }
     }
 

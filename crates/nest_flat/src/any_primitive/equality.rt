@@ -1,4 +1,4 @@
-//! Equality of arrays of native values of any kind.
+//! Equality of primitive arrays of any native type.
 ghost use Rattle.std.specs.Prelude.{◌≡◌, ◌↔◌, ◌+◌, ◌≤◌, IsTrue};
 ghost use Rattle.nest_flat.specs.Words.{IsSameArray, layout_type, len, physical_type, primitive_layout, run, same_array, slot, slots_of};
 
@@ -6,7 +6,7 @@ use crate::any_primitive::{AnyPrimitive, NativeArray};
 use crate::flat_array;
 use nest_memory::types::{days_ms, i256, months_days_ns};
 
-// What is the same for two arrays of each kind.
+// Matches the common kind of two arrays and evaluates an expression with both.
 macro_rules! each_pair {
     ($a:expr, $b:expr, ($x:ident, $y:ident) => $body:expr) => {
         match $a {
@@ -62,8 +62,8 @@ macro_rules! each_pair {
     };
 }
 
-/// Whether the n slots of a from place o are those of b from place p, for arrays whose data types have
-/// one physical type. The kind is matched once.
+/// Returns whether slots `o..o + n` of `a` equal slots `p..p + n` of `b`. Their data types must have one physical
+/// type. The kind is matched once for all slots.
 pub fn same_run(a: &AnyPrimitive, o: usize, b: &AnyPrimitive, p: usize, n: usize) -> bool
     requires same_kind { physical_type (layout_type (primitive_layout a.now)) ≡ physical_type (layout_type (primitive_layout b.now)) }
     requires within { o + n ≤ len (primitive_layout a.now) }
@@ -74,7 +74,7 @@ pub fn same_run(a: &AnyPrimitive, o: usize, b: &AnyPrimitive, p: usize, n: usize
     each_pair!(a, b, (x, y) => flat_array::same_run(x, o, y, p, n))
 }
 
-// Whether arrays of one physical type and one length have the same slots.
+// Returns whether two arrays of one physical type and one length have the same slots.
 fn same_slots(a: &AnyPrimitive, b: &AnyPrimitive) -> bool
     requires same_kind { physical_type (layout_type (primitive_layout a.now)) ≡ physical_type (layout_type (primitive_layout b.now)) }
     requires same_len { len (primitive_layout a.now) ≡ len (primitive_layout b.now) }

@@ -1,4 +1,4 @@
-//! Arrays of native values of any kind.
+//! Primitive arrays of any native type.
 mod equality;
 pub mod mutable;
 mod native;
@@ -8,7 +8,7 @@ ghost use Rattle.std.specs.Prelude.{◌≡◌, ◌+◌, ◌≤◌, ◌<◌, ◌�
 ghost use Rattle.nest_memory.specs.declared.datatypes.physical_type.PhysicalType.TheVariants as physical;
 ghost use Rattle.nest_model.specs.Layout as layouts;
 ghost use Rattle.nest_model.specs.Slot as slots;
-ghost use Rattle.nest_flat.specs.Words.{IsCut, Memory, TopFits, ValidityFault, ValidityFits, cut_layout, is_null_at, layout_type, len, native_kind, native_numbers, natives_of, null_count, physical_type, primitive_kind, primitive_layout, slot, type_of, validity_of, where_valid, with_validity};
+ghost use Rattle.nest_flat.specs.Words.{IsSlice, Memory, ReplacesValidity, TopFits, ValidityError, slice_layout, is_null_at, layout_type, len, native_kind, native_numbers, natives_of, null_count, physical_type, primitive_kind, primitive_layout, slot, type_of, validity_of, where_valid};
 
 use crate::any_native::AnyNative;
 use crate::primitive::PrimitiveArray;
@@ -20,7 +20,7 @@ use nest_memory::error::Error;
 use nest_memory::types::{NativeType, days_ms, i256, months_days_ns};
 use std::alloc::Global;
 
-/// An array of native values, in the variant of its kind.
+/// A primitive array: one variant for each native type.
 #[derive(Drop)]
 pub enum AnyPrimitive {
     Int8(PrimitiveArray<i8>),
@@ -37,7 +37,7 @@ pub enum AnyPrimitive {
     MonthDayNano(PrimitiveArray<months_days_ns>),
 }
 
-// What is the same for each kind.
+// Matches the kind and evaluates an expression with the typed array.
 macro_rules! each_kind {
     ($any:expr, $array:ident => $body:expr) => {
         match $any {
@@ -57,7 +57,7 @@ macro_rules! each_kind {
     };
 }
 
-// What holds of every array of native values, by its kind.
+// States the invariant of a typed array in terms of its kind. Does nothing at run time.
 fn known<T: NativeType>(array: &PrimitiveArray<T>)
     ensures fits { TopFits array.now }
     ensures kind { physical_type (layout_type array.now) ≡ physical.Primitive T.PRIMITIVE }
@@ -66,7 +66,7 @@ fn known<T: NativeType>(array: &PrimitiveArray<T>)
     array.known();
 }
 
-// A copy in its variant, or the refusal of one.
+// Wraps a typed array in its variant; an error is returned unchanged.
 fn wrapped<T: NativeArray>(copy: Result<T::Array, Error>) -> Result<AnyPrimitive, Error>
     ensures { MatchResult copy
         (λ a. MatchResult result (λ b. primitive_layout b ≡ T.layout_of_array a) (λ _. ⊥))
@@ -79,7 +79,7 @@ fn wrapped<T: NativeArray>(copy: Result<T::Array, Error>) -> Result<AnyPrimitive
 }
 
 impl AnyPrimitive {
-    /// What holds of every such array.
+    /// States the invariant of the array. Does nothing at run time.
     pub fn known(&self)
         ensures fits { TopFits (primitive_layout self.now) }
         ensures kind { physical_type (layout_type (primitive_layout self.now)) ≡ physical.Primitive (primitive_kind self.now) }
@@ -88,28 +88,28 @@ impl AnyPrimitive {
         each_kind!(self, array => known(array))
     }
 
-    /// How many slots it has.
+    /// Returns the number of slots.
     pub fn len(&self) -> usize
         ensures { result ≡ len (primitive_layout self.now) }
     {
         each_kind!(self, array => array.len())
     }
 
-    /// Its data type.
+    /// Returns the data type.
     pub fn data_type(&self) -> &DataType
         ensures { type_of result.now ≡ layout_type (primitive_layout self.now) }
     {
         each_kind!(self, array => array.data_type())
     }
 
-    /// Which slots are valid, a bit a slot; without it all are.
+    /// Returns the validity bitmap: one bit per slot, 1 if valid. `None` means that every slot is valid.
     pub fn validity(&self) -> Option<&Bitmap>
         ensures { option_map (λ b. b.now) result ≡ validity_of (primitive_layout self.now) }
     {
         each_kind!(self, array => array.validity())
     }
 
-    /// Whether slot i is null.
+    /// Returns whether slot `i` is null.
     pub fn is_null(&self, i: usize) -> bool
         requires { i < len (primitive_layout self.now) }
         ensures slot { IsTrue result ↔ (slot (primitive_layout self.now) i ≡ slots.null) }
@@ -118,14 +118,14 @@ impl AnyPrimitive {
         each_kind!(self, array => array.is_null(i))
     }
 
-    /// How many slots are null.
+    /// Returns the number of null slots.
     pub fn null_count(&self) -> usize
         ensures { result ≡ null_count (primitive_layout self.now) }
     {
         each_kind!(self, array => array.null_count())
     }
 
-    /// The raw value of slot i, which means nothing where the slot is null.
+    /// Returns the raw value of slot `i`; unspecified where the slot is null.
     pub fn value(&self, i: usize) -> AnyNative
         requires { i < len (primitive_layout self.now) }
         ensures kind { native_kind result ≡ primitive_kind self.now }
@@ -134,33 +134,37 @@ impl AnyPrimitive {
         each_kind!(self, array => array.value(i).to_any())
     }
 
-    /// Keeps the n slots from place o.
+    /// Slices the array in place to slots `o..o + n`.
     pub fn slice(&mut self, o: usize, n: usize)
         requires { o + n ≤ len (primitive_layout self.old) }
-        ensures { IsCut (primitive_layout self.old) o n (primitive_layout self.new) }
+        ensures { IsSlice (primitive_layout self.old) o n (primitive_layout self.new) }
     {
         self.cut(o, n);
     }
 
     fn cut(&mut self, o: usize, n: usize)
         requires { o + n ≤ len (primitive_layout self.old) }
-        ensures { primitive_layout self.new ≡ cut_layout (primitive_layout self.old) o n }
+        ensures { primitive_layout self.new ≡ slice_layout (primitive_layout self.old) o n }
     {
         each_kind!(self, array => array.slice(o, n))
     }
 
-    /// Takes a new validity. `ValidityLength` where it has not a bit for each slot; the array stays
-    /// as it was then.
+    /// Replaces the validity.
+    ///
+    /// # Errors
+    /// `ValidityLength` if it does not have one bit per slot; the array is unchanged then.
     pub fn set_validity(&mut self, validity: Option<Bitmap>) -> Result<(), Error>
-        ensures { MatchResult result
-            (λ _. ValidityFits validity (len (primitive_layout self.old)) × (primitive_layout self.new ≡ with_validity (primitive_layout self.old) validity))
-            (λ e. ValidityFault e (primitive_layout self.old) validity × (primitive_layout self.new ≡ primitive_layout self.old)) }
+        ensures { let a = primitive_layout self.old in let b = primitive_layout self.new in MatchResult result
+            (λ _. ReplacesValidity a validity b) (λ e. ValidityError e a validity × (b ≡ a)) }
     {
         each_kind!(self, array => array.set_validity(validity))
     }
 
-    /// The same array, on shared memory.
-    // Inlined, so that what makes a variant of the copy writes it in its place at once.
+    /// Returns a copy that shares the buffers.
+    ///
+    /// # Errors
+    /// `Memory` if an allocation fails.
+    // Inlined, so that the caller writes the copy directly into its variant.
     #[inline(always)]
     pub fn clone(&self, alloc: Global) -> Result<AnyPrimitive, Error>
         ensures ok { IfOk result (λ a. primitive_layout a ≡ primitive_layout self.now) }

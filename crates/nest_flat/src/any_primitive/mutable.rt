@@ -1,4 +1,4 @@
-//! Builders of native values of any kind.
+//! Builders of primitive arrays of any native type.
 ghost use Rattle.std.specs.Prelude.{◌≡◌, ◌<◌, [], IfOk, IsOkUnless, None, option_map, alloc_error};
 ghost use Rattle.nest_flat.specs.Words.{Memory, built_layout, layout_type, len, primitive_layout, slots_of, type_of, valid_at, validity_of};
 
@@ -9,7 +9,7 @@ use nest_memory::datatypes::DataType;
 use nest_memory::error::Error;
 use nest_memory::types::{days_ms, i256, months_days_ns};
 
-/// A builder of native values, in the variant of its kind.
+/// A builder of a primitive array: one variant for each native type.
 #[derive(Drop)]
 pub enum AnyMutablePrimitive {
     Int8(MutablePrimitiveArray<i8>),
@@ -26,7 +26,7 @@ pub enum AnyMutablePrimitive {
     MonthDayNano(MutablePrimitiveArray<months_days_ns>),
 }
 
-// What is the same for each kind.
+// Matches the kind and evaluates an expression with the typed array.
 macro_rules! each_kind {
     ($any:expr, $builder:ident => $body:expr) => {
         match $any {
@@ -47,28 +47,28 @@ macro_rules! each_kind {
 }
 
 impl AnyMutablePrimitive {
-    /// How many slots it has.
+    /// Returns the number of slots.
     pub fn len(&self) -> usize
         ensures { result ≡ len (built_layout self.now) }
     {
         each_kind!(self, builder => builder.len())
     }
 
-    /// Its data type.
+    /// Returns the data type.
     pub fn data_type(&self) -> &DataType
         ensures { type_of result.now ≡ layout_type (built_layout self.now) }
     {
         each_kind!(self, builder => builder.data_type())
     }
 
-    /// Which slots are valid, a bit a slot; without it all are.
+    /// Returns the validity bitmap: one bit per slot, 1 if valid. `None` means that every slot is valid.
     pub fn validity(&self) -> Option<&MutableBitmap>
         ensures { option_map (λ b. b.now) result ≡ validity_of (built_layout self.now) }
     {
         each_kind!(self, builder => builder.validity())
     }
 
-    /// Whether slot i is not null.
+    /// Returns whether slot `i` is valid.
     pub fn is_valid(&self, i: usize) -> bool
         requires { i < len (built_layout self.now) }
         ensures { result ≡ valid_at (validity_of (built_layout self.now)) i }
@@ -76,11 +76,10 @@ impl AnyMutablePrimitive {
         each_kind!(self, builder => builder.is_valid(i))
     }
 
-    /// The array of the slots. The builder keeps its data type and has no slot and no validity then, also where this
-    /// answers `Err`.
+    /// Returns the array of the slots and empties the builder, also on error. The data type is kept.
     ///
     /// # Errors
-    /// `Memory`.
+    /// `Memory` if an allocation fails.
     pub fn freeze(&mut self) -> Result<AnyPrimitive, Error>
         ensures ok { IfOk result (λ a. primitive_layout a ≡ built_layout self.old) }
         ensures no_slot { slots_of (built_layout self.new) ≡ [] }

@@ -1,4 +1,4 @@
-//! The native types, and arrays of each among arrays of any kind.
+//! The native types, and conversions between typed arrays and [`AnyPrimitive`].
 ghost use Rattle.std.specs.Prelude.{◌≡◌, ◌↔◌, IsSome, IfSome};
 ghost use Rattle.nest_memory.specs.declared.datatypes.physical_type.PhysicalType.TheVariants as physical;
 ghost use Rattle.nest_flat.specs.Words.{Layout, layout_type, native_kind, native_numbers, physical_type, primitive_layout};
@@ -8,31 +8,31 @@ use crate::any_primitive::AnyPrimitive;
 use crate::primitive::PrimitiveArray;
 use nest_memory::types::{NativeType, days_ms, i256, months_days_ns};
 
-/// The twelve native types.
+/// One of the twelve native types.
 pub trait Native: NativeType {
-    /// The same value in the variant of its kind.
+    /// Returns the value in the variant of its type.
     fn to_any(self) -> AnyNative
         ensures kind { native_kind result ≡ Self.PRIMITIVE }
         ensures same_numbers { native_numbers result ≡ Self.numbers self };
 
-    /// The value, `None` where it is of another kind.
+    /// Returns the value, or `None` if it is of another type.
     fn from_any(any: AnyNative) -> Option<Self>
         ensures kind { IsSome result ↔ (native_kind any ≡ Self.PRIMITIVE) }
         ensures same_numbers { IfSome result (λ x. Self.numbers x ≡ native_numbers any) };
 }
 
-/// The array of each native type.
+/// A native type and its array type.
 pub trait NativeArray: Native {
     /// `PrimitiveArray<Self>`.
     type Array;
 
     ghost layout_of_array: { Self.Array → Layout };
 
-    /// The same array in the variant of its kind.
+    /// Wraps the array in the variant of its type.
     fn wrap(array: Self::Array) -> AnyPrimitive
         ensures { primitive_layout result ≡ layout_of_array array };
 
-    /// The array of this kind in an array whose data type is of this kind.
+    /// Returns the typed array. The data type must be of this kind.
     fn of(any: &AnyPrimitive) -> &Self::Array
         requires { physical_type (layout_type (primitive_layout any.now)) ≡ physical.Primitive Self.PRIMITIVE }
         ensures { layout_of_array result.now ≡ primitive_layout any.now };

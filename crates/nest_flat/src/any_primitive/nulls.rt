@@ -1,7 +1,7 @@
-//! Arrays of native values of any kind that are null.
+//! Empty and all-null primitive arrays of any native type.
 ghost use Rattle.std.specs.Prelude.{◌≡◌, IfOk, IsOkUnless, None, alloc_error};
 ghost use Rattle.nest_memory.specs.declared.datatypes.physical_type.PhysicalType.TheVariants as physical;
-ghost use Rattle.nest_flat.specs.Words.{Memory, fault_of, null_array, physical_type, primitive_layout, type_of};
+ghost use Rattle.nest_flat.specs.Words.{Memory, error_of, null_array, physical_type, primitive_layout, type_of};
 
 use crate::any_primitive::{AnyPrimitive, wrapped};
 use crate::primitive::PrimitiveArray;
@@ -13,8 +13,11 @@ use nest_model::fill::Fill;
 use std::alloc::Global;
 
 impl AnyPrimitive {
-    /// What `new_empty` and `new_null` of the array of each kind share, of a type of that kind, which has no fault: `length`
-    /// raw zeros. Of nulls no slot is valid; of nothing there is no validity.
+    /// Returns an array of `length` zeros, with `data_type` of this kind. With `Fill::Nulls` every slot is null; with
+    /// `Fill::Nothing` there is no validity. Shared by `new_empty` and `new_null`.
+    ///
+    /// # Errors
+    /// `Memory` if an allocation fails.
     pub fn of_nulls(
         alloc: Global,
         kind: PrimitiveType,
@@ -23,7 +26,7 @@ impl AnyPrimitive {
         fill: Fill,
     ) -> Result<AnyPrimitive, Error>
         requires kind { physical_type (type_of data_type.now) ≡ physical.Primitive kind }
-        requires unrefused { fault_of (type_of data_type.now) length fill ≡ None }
+        requires unrefused { error_of (type_of data_type.now) length fill ≡ None }
         ensures ok { IfOk result (λ a. primitive_layout a ≡ null_array (type_of data_type.now) length fill) }
         ensures err { IsOkUnless result (Memory alloc_error) }
     {

@@ -1,4 +1,4 @@
-//! The slots and the raw values of an array of bytes, from both ends.
+//! Iterators over the slots and the raw values of a binary array.
 ghost use Rattle.std.specs.Prelude.{◌≡◌, None};
 ghost use Rattle.nest_model.specs.Slot as slots;
 ghost use Rattle.nest_flat.specs.Words.{optional, slots_of, with_validity};
@@ -9,10 +9,10 @@ use crate::iterator::{SlotItems, SlotsIter};
 use nest_memory::datatypes::DataType;
 use nest_memory::offset::Offset;
 
-/// The items of an array's slots, `None` where one is null.
+/// Iterator over the slots of an array, `None` for nulls.
 pub type BinaryIter<'a, O> = SlotsIter<BinarySlots<'a, O>>;
 
-/// The raw values of an array, also those under nulls.
+/// Iterator over the raw values of an array, including those of null slots.
 pub type BinaryValuesIter<'a, O> = SlotsIter<BinaryValues<'a, O>>;
 
 impl<'a, O: Offset> FlatArray for &'a BinaryArray<O> {
@@ -51,9 +51,9 @@ impl<'a, O: Offset> FlatArray for &'a BinaryArray<O> {
     }
 }
 
-// Types of their own, since no proof covers an iterator over `Slots` whose values are references.
+// Separate types: no proof covers an iterator over `Slots` whose values are references.
 
-/// The slots of an array of bytes, `None` where one is null.
+/// The slots of a binary array, `None` for nulls.
 #[derive(Clone, Copy)]
 pub struct BinarySlots<'a, O: Offset>(pub &'a BinaryArray<O>);
 
@@ -73,7 +73,7 @@ impl<'a, O: Offset> SlotItems for BinarySlots<'a, O> {
     }
 }
 
-/// The raw values of an array of bytes, also those under nulls.
+/// The raw values of a binary array, including those of null slots.
 #[derive(Clone, Copy)]
 pub struct BinaryValues<'a, O: Offset>(pub &'a BinaryArray<O>);
 
@@ -94,14 +94,14 @@ impl<'a, O: Offset> SlotItems for BinaryValues<'a, O> {
 }
 
 impl<O: Offset> BinaryArray<O> {
-    /// The items of its slots, from both ends.
+    /// Returns a double-ended iterator over the slots.
     pub fn iter(&self) -> BinaryIter<'_, O>
         ensures { result ≡ slots_of self.now }
     {
         SlotsIter::new(BinarySlots(self))
     }
 
-    /// Its raw values, from both ends.
+    /// Returns a double-ended iterator over the raw values.
     pub fn values_iter(&self) -> BinaryValuesIter<'_, O>
         ensures { result ≡ slots_of (with_validity self.now None) }
     {

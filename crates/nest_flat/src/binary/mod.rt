@@ -1,4 +1,4 @@
-//! Arrays of bytes.
+//! Binary arrays.
 pub mod iterator;
 pub mod mutable;
 mod nulls;
@@ -6,20 +6,20 @@ mod nulls;
 ghost use Rattle.std.specs.Prelude.{◌≡◌, ◌+◌, ◌≤◌, ◌<◌, ◌↔◌, IsTrue, IfOk, IsOkUnless, MatchResult, MatchOption, None, option_map, alloc_error};
 ghost use Rattle.nest_model.specs.Layout as layouts;
 ghost use Rattle.nest_model.specs.Slot as slots;
-ghost use Rattle.nest_flat.specs.Words.{FirstFault, Fits, HasValidity, IsCut, Memory, RefusesValidity, TopFits, begin, binary_of_width, bytes_of, cut, cut_layout, extent, is_null_at, layout_type, len, null_count, offsets_of, optional, slot, type_of, valid_at, validity_of, where_valid, with_validity};
+ghost use Rattle.nest_flat.specs.Words.{FirstError, Fits, HasValidity, IsSlice, Memory, RefusesValidity, TopFits, begin, binary_of_width, bytes_of, sublist, slice_layout, extent, is_null_at, layout_type, len, null_count, offsets_of, optional, slot, type_of, valid_at, validity_of, where_valid, with_validity};
 
 use crate::{spans, validity};
 use nest_memory::bitmap::immutable::Bitmap;
 use nest_memory::buffer::Buffer;
 use nest_memory::datatypes::DataType;
 use nest_memory::datatypes::physical_type::PhysicalType;
-use nest_memory::error::{Error, Spec};
+use nest_memory::error::{Error, SpecError};
 use nest_memory::offset::Offset;
 use nest_memory::offsets::OffsetsBuffer;
 use std::alloc::Global;
 use std::marker::Model;
 
-/// An array of byte strings: the Variable-size Binary Layout of the Arrow format.
+/// An array of byte strings (Variable-size Binary Layout).
 #[derive(Drop)]
 pub struct BinaryArray<O: Offset> {
     data_type: DataType,
@@ -45,23 +45,23 @@ impl<O: Offset> Model for BinaryArray<O> {
     ghost invariant = { λ a. TopFits (layouts.binary O.IS_LARGE (type_of a.data_type) a.offsets a.values a.validity) };
 }
 
-// The first check that fails.
-fn fault<O: Offset>(
+// Returns the error of the first failing check.
+fn first_error<O: Offset>(
     data_type: &DataType,
     offsets: &OffsetsBuffer<O>,
     values: &Buffer<u8>,
     validity: &Option<Bitmap>,
 ) -> Option<Error>
     ensures { let parts = layouts.binary O.IS_LARGE (type_of data_type.now) offsets.now values.now validity.now in
-        MatchOption result (TopFits parts) (λ e. FirstFault e parts) }
+        MatchOption result (TopFits parts) (λ e. FirstError e parts) }
 {
     if spans::last(offsets) > values.len() {
-        return Some(Error::OutOfSpec(Spec::OffsetPastChild));
+        return Some(Error::OutOfSpec(SpecError::OffsetPastChild));
     }
-    validity::fault(validity, offsets.len_proxy(), data_type, physical::<O>())
+    validity::first_error(validity, offsets.len_proxy(), data_type, physical::<O>())
 }
 
-// The physical type of such arrays by the width of their offsets.
+// Returns the physical type for the width of the offsets.
 fn physical<O: Offset>() -> PhysicalType
     ensures { result ≡ binary_of_width O.IS_LARGE }
 {
@@ -73,9 +73,13 @@ fn physical<O: Offset>() -> PhysicalType
 }
 
 impl<O: Offset> BinaryArray<O> {
-    /// The array of these parts. Refused, in this order, where an offset is past the bytes
-    /// (`OffsetPastChild`), where the validity has another length (`ValidityLength`) and where the data
-    /// type is none of bytes with such offsets (`WrongType`).
+    /// Returns the array of these parts.
+    ///
+    /// # Errors
+    /// In this order:
+    /// - `OffsetPastChild` if an offset is past the end of the bytes,
+    /// - `ValidityLength` if the validity does not have one bit per slot,
+    /// - `WrongType` if the data type is not binary with offsets of this width.
     pub fn try_new(
         data_type: DataType,
         offsets: OffsetsBuffer<O>,
@@ -83,9 +87,9 @@ impl<O: Offset> BinaryArray<O> {
         validity: Option<Bitmap>,
     ) -> Result<BinaryArray<O>, Error>
         ensures { let parts = layouts.binary O.IS_LARGE (type_of data_type) offsets values validity in
-            MatchResult result (λ a. Fits parts × (a ≡ parts)) (λ e. FirstFault e parts) }
+            MatchResult result (λ a. Fits parts × (a ≡ parts)) (λ e. FirstError e parts) }
     {
-        if let Some(e) = fault(&data_type, &offsets, &values, &validity) {
+        if let Some(e) = first_error(&data_type, &offsets, &values, &validity) {
             drop(validity);
             drop(values);
             drop(offsets);
@@ -100,7 +104,7 @@ impl<O: Offset> BinaryArray<O> {
         })
     }
 
-    /// What holds of every such array.
+    /// States the invariant of the array. Does nothing at run time.
     pub fn known(&self)
         ensures fits { TopFits self.now }
         ensures kind { self.now ≡ layouts.binary O.IS_LARGE (layout_type self.now) (offsets_of self.now) (bytes_of self.now) (validity_of self.now) }
@@ -108,49 +112,49 @@ impl<O: Offset> BinaryArray<O> {
         let _ = &self.data_type;
     }
 
-    /// How many slots it has.
+    /// Returns the number of slots.
     pub fn len(&self) -> usize
         ensures { result ≡ len self.now }
     {
         self.offsets.len_proxy()
     }
 
-    /// Whether it has no slot.
+    /// Returns whether the array has no slots.
     pub fn is_empty(&self) -> bool
         ensures { IsTrue result ↔ (len self.now ≡ 0) }
     {
         self.len() == 0
     }
 
-    /// Its data type.
+    /// Returns the data type.
     pub fn data_type(&self) -> &DataType
         ensures { type_of result.now ≡ layout_type self.now }
     {
         &self.data_type
     }
 
-    /// Which slots are valid, a bit a slot; without it all are.
+    /// Returns the validity bitmap: one bit per slot, 1 if valid. `None` means that every slot is valid.
     pub fn validity(&self) -> Option<&Bitmap>
         ensures { option_map (λ b. b.now) result ≡ validity_of self.now }
     {
         self.validity.as_ref()
     }
 
-    /// Where the bytes of each slot begin and end.
+    /// Returns the offsets: slot `i` has the bytes from offset `i` to offset `i + 1`.
     pub fn offsets(&self) -> &OffsetsBuffer<O>
         ensures { result.now ≡ offsets_of self.now }
     {
         &self.offsets
     }
 
-    /// Its bytes, also those of no slot.
+    /// Returns the bytes, including those outside every slot.
     pub fn values(&self) -> &Buffer<u8>
         ensures { result.now ≡ bytes_of self.now }
     {
         &self.values
     }
 
-    /// Whether slot i is not null.
+    /// Returns whether slot `i` is valid.
     pub fn is_valid(&self, i: usize) -> bool
         requires { i < len self.now }
         ensures { result ≡ valid_at (validity_of self.now) i }
@@ -158,7 +162,7 @@ impl<O: Offset> BinaryArray<O> {
         validity::is_valid(&self.validity, i)
     }
 
-    /// Whether slot i is null.
+    /// Returns whether slot `i` is null.
     pub fn is_null(&self, i: usize) -> bool
         requires { i < len self.now }
         ensures slot { IsTrue result ↔ (slot self.now i ≡ slots.null) }
@@ -167,24 +171,24 @@ impl<O: Offset> BinaryArray<O> {
         !validity::is_valid(&self.validity, i)
     }
 
-    /// How many slots are null.
+    /// Returns the number of null slots.
     pub fn null_count(&self) -> usize
         ensures { result ≡ null_count self.now }
     {
         validity::null_count(&self.validity)
     }
 
-    /// The raw value of slot i, which means nothing where the slot is null.
+    /// Returns the raw value of slot `i`; unspecified where the slot is null.
     pub fn value(&self, i: usize) -> &[u8]
         requires { i < len self.now }
-        ensures raw { result.now ≡ cut (bytes_of self.now) (begin (offsets_of self.now) i) (extent (offsets_of self.now) i) }
+        ensures raw { result.now ≡ sublist (bytes_of self.now) (begin (offsets_of self.now) i) (extent (offsets_of self.now) i) }
         ensures slot { slot self.now i ≡ where_valid (validity_of self.now) i (slots.bytes result.now) }
         ensures unmasked { slot (with_validity self.now None) i ≡ slots.bytes result.now }
     {
         spans::span(&self.offsets, &self.values, i)
     }
 
-    /// The value of slot i, `None` where it is null.
+    /// Returns the value of slot `i`, or `None` if it is null.
     pub fn get(&self, i: usize) -> Option<&[u8]>
         requires { i < len self.now }
         ensures { optional (λ x. slots.bytes x.now) result ≡ slot self.now i }
@@ -196,35 +200,37 @@ impl<O: Offset> BinaryArray<O> {
         }
     }
 
-    /// Keeps the n slots from place o.
+    /// Slices the array in place to slots `o..o + n`.
     pub fn slice(&mut self, o: usize, n: usize)
         requires { o + n ≤ len self.old }
-        ensures { IsCut self.old o n self.new }
+        ensures { IsSlice self.old o n self.new }
     {
         self.cut(o, n);
     }
 
     fn cut(&mut self, o: usize, n: usize)
         requires { o + n ≤ len self.old }
-        ensures { self.new ≡ cut_layout self.old o n }
+        ensures { self.new ≡ slice_layout self.old o n }
     {
         self.offsets.known();
         self.offsets.slice(o, n + 1);
         validity::slice(&mut self.validity, o, n);
     }
 
-    /// The n slots from place o.
+    /// Returns the slice of slots `o..o + n`.
     pub fn sliced(self, o: usize, n: usize) -> BinaryArray<O>
         requires { o + n ≤ len self }
-        ensures { IsCut self o n result }
+        ensures { IsSlice self o n result }
     {
         let mut cut = self;
         cut.slice(o, n);
         cut
     }
 
-    /// Takes a new validity. `ValidityLength` where it has not a bit for each slot; the array stays
-    /// as it was then.
+    /// Replaces the validity.
+    ///
+    /// # Errors
+    /// `ValidityLength` if it does not have one bit per slot; the array is unchanged then.
     pub fn set_validity(&mut self, validity: Option<Bitmap>) -> Result<(), Error>
         ensures { MatchResult result
             (λ _. HasValidity self.old validity self.new)
@@ -234,7 +240,10 @@ impl<O: Offset> BinaryArray<O> {
         validity::replace(&mut self.validity, validity, count)
     }
 
-    /// The array under a new validity, or as it was beside the refusal.
+    /// Returns the array with another validity.
+    ///
+    /// # Errors
+    /// The unchanged array and `ValidityLength`, if the validity does not have one bit per slot.
     pub fn with_validity(
         self,
         validity: Option<Bitmap>,
@@ -250,7 +259,10 @@ impl<O: Offset> BinaryArray<O> {
         }
     }
 
-    /// The same array, on shared memory.
+    /// Returns a copy that shares the buffers.
+    ///
+    /// # Errors
+    /// `Memory` if an allocation fails.
     pub fn clone(&self, alloc: Global) -> Result<BinaryArray<O>, Error>
         ensures ok { IfOk result (λ a. a ≡ self.now) }
         ensures err { IsOkUnless result (Memory alloc_error) }

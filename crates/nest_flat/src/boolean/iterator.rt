@@ -1,4 +1,4 @@
-//! The slots and the raw values of an array of booleans, from both ends.
+//! Iterators over the slots and the raw values of a boolean array.
 ghost use Rattle.std.specs.Prelude.{◌≡◌, None};
 ghost use Rattle.nest_model.specs.Slot as slots;
 ghost use Rattle.nest_flat.specs.Words.{slots_of, with_validity};
@@ -8,10 +8,10 @@ use crate::flat_array::{FlatArray, Slots, Values};
 use crate::iterator::SlotsIter;
 use nest_memory::datatypes::DataType;
 
-/// The items of an array's slots, `None` where one is null.
+/// Iterator over the slots of an array, `None` for nulls.
 pub type BooleanIter<'a> = SlotsIter<Slots<&'a BooleanArray>>;
 
-/// The raw values of an array, also those under nulls.
+/// Iterator over the raw values of an array, including those of null slots.
 pub type BooleanValuesIter<'a> = SlotsIter<Values<&'a BooleanArray>>;
 
 impl<'a> FlatArray for &'a BooleanArray {
@@ -19,7 +19,7 @@ impl<'a> FlatArray for &'a BooleanArray {
 
     ghost layout = { λ s. s.now };
 
-    ghost slot_of_value = { slots.truth };
+    ghost slot_of_value = { slots.boolean };
 
     fn type_of_slots(&self) -> &DataType {
         self.data_type()
@@ -51,14 +51,14 @@ impl<'a> FlatArray for &'a BooleanArray {
 }
 
 impl BooleanArray {
-    /// The items of its slots, from both ends.
+    /// Returns a double-ended iterator over the slots.
     pub fn iter(&self) -> BooleanIter<'_>
         ensures { result ≡ slots_of self.now }
     {
         SlotsIter::new(Slots(self))
     }
 
-    /// Its raw values, from both ends.
+    /// Returns a double-ended iterator over the raw values.
     pub fn values_iter(&self) -> BooleanValuesIter<'_>
         ensures { result ≡ slots_of (with_validity self.now None) }
     {

@@ -1,4 +1,4 @@
-//! Arrays of booleans.
+//! Boolean arrays.
 pub mod iterator;
 pub mod mutable;
 mod nulls;
@@ -6,7 +6,7 @@ mod nulls;
 ghost use Rattle.std.specs.Prelude.{◌≡◌, ◌+◌, ◌≤◌, ◌<◌, ◌↔◌, IsTrue, IfOk, IsOkUnless, MatchResult, None, Some, slice_get, option_map, alloc_error};
 ghost use Rattle.nest_model.specs.Layout as layouts;
 ghost use Rattle.nest_model.specs.Slot as slots;
-ghost use Rattle.nest_flat.specs.Words.{FirstFault, Fits, HasValidity, IsCut, Memory, RefusesValidity, TopFits, bits_of, cut_layout, is_null_at, layout_type, len, null_count, optional, slot, type_of, valid_at, validity_of, where_valid, with_validity};
+ghost use Rattle.nest_flat.specs.Words.{FirstError, Fits, HasValidity, IsSlice, Memory, RefusesValidity, TopFits, bits_of, slice_layout, is_null_at, layout_type, len, null_count, optional, slot, type_of, valid_at, validity_of, where_valid, with_validity};
 
 use crate::validity;
 use nest_memory::bitmap::immutable::Bitmap;
@@ -16,7 +16,7 @@ use nest_memory::error::Error;
 use std::alloc::Global;
 use std::marker::Model;
 
-/// An array of booleans: the Fixed-Size Primitive Layout of the Arrow format, of bits.
+/// An array of booleans (Fixed-Size Primitive Layout, one bit per value).
 #[derive(Drop)]
 pub struct BooleanArray {
     data_type: DataType,
@@ -42,17 +42,20 @@ impl Model for BooleanArray {
 }
 
 impl BooleanArray {
-    /// The array of these parts. Refused, in this order, where the validity has another length
-    /// (`ValidityLength`) and where the data type is none of booleans (`WrongType`).
+    /// Returns the array of these parts.
+    ///
+    /// # Errors
+    /// In this order: `ValidityLength` if the validity does not have one bit per slot, `WrongType` if the data type
+    /// is not Boolean.
     pub fn try_new(
         data_type: DataType,
         values: Bitmap,
         validity: Option<Bitmap>,
     ) -> Result<BooleanArray, Error>
         ensures { let parts = layouts.boolean (type_of data_type) values validity in
-            MatchResult result (λ a. Fits parts × (a ≡ parts)) (λ e. FirstFault e parts) }
+            MatchResult result (λ a. Fits parts × (a ≡ parts)) (λ e. FirstError e parts) }
     {
-        if let Some(e) = validity::fault(
+        if let Some(e) = validity::first_error(
             &validity,
             values.len(),
             &data_type,
@@ -70,7 +73,7 @@ impl BooleanArray {
         })
     }
 
-    /// What holds of every such array.
+    /// States the invariant of the array. Does nothing at run time.
     pub fn known(&self)
         ensures fits { TopFits self.now }
         ensures kind { self.now ≡ layouts.boolean (layout_type self.now) (bits_of self.now) (validity_of self.now) }
@@ -78,42 +81,42 @@ impl BooleanArray {
         let _ = &self.data_type;
     }
 
-    /// How many slots it has.
+    /// Returns the number of slots.
     pub fn len(&self) -> usize
         ensures { result ≡ len self.now }
     {
         self.values.len()
     }
 
-    /// Whether it has no slot.
+    /// Returns whether the array has no slots.
     pub fn is_empty(&self) -> bool
         ensures { IsTrue result ↔ (len self.now ≡ 0) }
     {
         self.len() == 0
     }
 
-    /// Its data type.
+    /// Returns the data type.
     pub fn data_type(&self) -> &DataType
         ensures { type_of result.now ≡ layout_type self.now }
     {
         &self.data_type
     }
 
-    /// Which slots are valid, a bit a slot; without it all are.
+    /// Returns the validity bitmap: one bit per slot, 1 if valid. `None` means that every slot is valid.
     pub fn validity(&self) -> Option<&Bitmap>
         ensures { option_map (λ b. b.now) result ≡ validity_of self.now }
     {
         self.validity.as_ref()
     }
 
-    /// Its raw values, also those under nulls.
+    /// Returns the raw values, including those of null slots.
     pub fn values(&self) -> &Bitmap
         ensures { result.now ≡ bits_of self.now }
     {
         &self.values
     }
 
-    /// Whether slot i is not null.
+    /// Returns whether slot `i` is valid.
     pub fn is_valid(&self, i: usize) -> bool
         requires { i < len self.now }
         ensures { result ≡ valid_at (validity_of self.now) i }
@@ -121,7 +124,7 @@ impl BooleanArray {
         validity::is_valid(&self.validity, i)
     }
 
-    /// Whether slot i is null.
+    /// Returns whether slot `i` is null.
     pub fn is_null(&self, i: usize) -> bool
         requires { i < len self.now }
         ensures slot { IsTrue result ↔ (slot self.now i ≡ slots.null) }
@@ -130,27 +133,27 @@ impl BooleanArray {
         !validity::is_valid(&self.validity, i)
     }
 
-    /// How many slots are null.
+    /// Returns the number of null slots.
     pub fn null_count(&self) -> usize
         ensures { result ≡ null_count self.now }
     {
         validity::null_count(&self.validity)
     }
 
-    /// The raw value of slot i, which means nothing where the slot is null.
+    /// Returns the raw value of slot `i`; unspecified where the slot is null.
     pub fn value(&self, i: usize) -> bool
         requires { i < len self.now }
         ensures raw { slice_get (bits_of self.now) i ≡ Some result }
-        ensures slot { slot self.now i ≡ where_valid (validity_of self.now) i (slots.truth result) }
-        ensures unmasked { slot (with_validity self.now None) i ≡ slots.truth result }
+        ensures slot { slot self.now i ≡ where_valid (validity_of self.now) i (slots.boolean result) }
+        ensures unmasked { slot (with_validity self.now None) i ≡ slots.boolean result }
     {
         self.values.get_bit(i)
     }
 
-    /// The value of slot i, `None` where it is null.
+    /// Returns the value of slot `i`, or `None` if it is null.
     pub fn get(&self, i: usize) -> Option<bool>
         requires { i < len self.now }
-        ensures { optional (λ x. slots.truth x) result ≡ slot self.now i }
+        ensures { optional (λ x. slots.boolean x) result ≡ slot self.now i }
     {
         if self.is_valid(i) {
             Some(self.value(i))
@@ -159,34 +162,36 @@ impl BooleanArray {
         }
     }
 
-    /// Keeps the n slots from place o.
+    /// Slices the array in place to slots `o..o + n`.
     pub fn slice(&mut self, o: usize, n: usize)
         requires { o + n ≤ len self.old }
-        ensures { IsCut self.old o n self.new }
+        ensures { IsSlice self.old o n self.new }
     {
         self.cut(o, n);
     }
 
     fn cut(&mut self, o: usize, n: usize)
         requires { o + n ≤ len self.old }
-        ensures { self.new ≡ cut_layout self.old o n }
+        ensures { self.new ≡ slice_layout self.old o n }
     {
         self.values.slice(o, n);
         validity::slice(&mut self.validity, o, n);
     }
 
-    /// The n slots from place o.
+    /// Returns the slice of slots `o..o + n`.
     pub fn sliced(self, o: usize, n: usize) -> BooleanArray
         requires { o + n ≤ len self }
-        ensures { IsCut self o n result }
+        ensures { IsSlice self o n result }
     {
         let mut cut = self;
         cut.slice(o, n);
         cut
     }
 
-    /// Takes a new validity. `ValidityLength` where it has not a bit for each slot; the array stays
-    /// as it was then.
+    /// Replaces the validity.
+    ///
+    /// # Errors
+    /// `ValidityLength` if it does not have one bit per slot; the array is unchanged then.
     pub fn set_validity(&mut self, validity: Option<Bitmap>) -> Result<(), Error>
         ensures { MatchResult result
             (λ _. HasValidity self.old validity self.new)
@@ -196,7 +201,10 @@ impl BooleanArray {
         validity::replace(&mut self.validity, validity, count)
     }
 
-    /// The array under a new validity, or as it was beside the refusal.
+    /// Returns the array with another validity.
+    ///
+    /// # Errors
+    /// The unchanged array and `ValidityLength`, if the validity does not have one bit per slot.
     pub fn with_validity(
         self,
         validity: Option<Bitmap>,
@@ -212,7 +220,10 @@ impl BooleanArray {
         }
     }
 
-    /// The same array, on shared memory.
+    /// Returns a copy that shares the buffers.
+    ///
+    /// # Errors
+    /// `Memory` if an allocation fails.
     pub fn clone(&self, alloc: Global) -> Result<BooleanArray, Error>
         ensures ok { IfOk result (λ a. a ≡ self.now) }
         ensures err { IsOkUnless result (Memory alloc_error) }

@@ -1,26 +1,25 @@
-//! The builder of arrays of booleans.
+//! A builder of boolean arrays.
 ghost use Rattle.std.specs.Prelude.{◌≡◌, ◌≢◌, ◌+◌, ◌^◌, ◌≤◌, ◌<◌, ◌↔◌, ◌⊎◌, ◌++◌, ◌∷◌, [], List, Option, Bool, IsTrue, IfOk, IfErr, OnOk, OnErr, IsOkUnless, IsErrOf, None, Some, option_map, alloc_error};
 ghost use Rattle.nest_memory.specs.TypeTree as types;
 ghost use Rattle.nest_memory.specs.declared.datatypes.physical_type.PhysicalType.TheVariants as physical;
 ghost use Rattle.nest_model.specs.Layout as layouts;
 ghost use Rattle.nest_model.specs.Slot as slots;
-ghost use Rattle.nest_flat.specs.Words.{CanDrain, Extended, Gives, Grew, InvalidArgumentError, IsPast, ItemType, Memory, Overflow, RefusesBeginning, TopFits, bits_of, cut, cut_layout, joined_parts, layout_type, len, optional, physical_type, pushed_truth, slots_of, truth_refusal, type_of, valid_at, validity_of, with_type};
+ghost use Rattle.nest_flat.specs.Words.{CanDrain, Extended, YieldsAll, Grew, InvalidArgumentError, IsPast, ItemType, Memory, Overflow, RefusesBeginning, TopFits, bits_of, sublist, slice_layout, joined_parts, layout_type, len, optional, physical_type, pushed_boolean, slots_of, boolean_refusal, type_of, valid_at, validity_of, with_type};
 
 use crate::boolean::BooleanArray;
 use crate::growth::extend::{Grow, extend_by_push};
 use crate::growth::{bits, validity};
 use nest_memory::bitmap::mutable::MutableBitmap;
 use nest_memory::datatypes::DataType;
-use nest_memory::error::{Argument, Error};
+use nest_memory::error::{ArgumentError, Error};
 use std::alloc::Global;
 use std::marker::Model;
 use std::mem;
 
-/// Booleans and nulls that are pushed one after another, and then frozen into a `BooleanArray`. arrow2's
-/// `MutableBooleanArray`.
+/// A builder of a `BooleanArray`, as arrow2's `MutableBooleanArray`.
 ///
-/// Under a null lies false. A validity is made at the first null. A call that answers `Err` changes nothing, but for
-/// `freeze`, which empties the builder either way.
+/// The raw value of a null is `false`. The validity is allocated at the first null. A call that returns an error
+/// changes nothing, except `freeze`, which always empties the builder.
 #[derive(Drop)]
 pub struct MutableBooleanArray {
     data_type: DataType,
@@ -47,7 +46,7 @@ impl Model for MutableBooleanArray {
 }
 
 impl MutableBooleanArray {
-    /// No slot, of the type Boolean, and no memory taken.
+    /// Returns an empty builder of the type Boolean, without allocation.
     pub fn new(alloc: Global) -> MutableBooleanArray
         ensures { result ≡ layouts.boolean types.boolean [] None }
     {
@@ -59,7 +58,7 @@ impl MutableBooleanArray {
         }
     }
 
-    /// The same slots under another data type of booleans.
+    /// Returns the builder with another boolean data type.
     pub fn to(self, data_type: DataType) -> MutableBooleanArray
         requires { physical_type (type_of data_type) ≡ physical.Boolean }
         ensures { result ≡ with_type self (type_of data_type) }
@@ -70,7 +69,7 @@ impl MutableBooleanArray {
         builder
     }
 
-    /// What holds of every such builder.
+    /// States the invariant of the builder. Does nothing at run time.
     pub fn known(&self)
         ensures fits { TopFits self.now }
         ensures kind { self.now ≡ layouts.boolean (layout_type self.now) (bits_of self.now) (validity_of self.now) }
@@ -78,35 +77,35 @@ impl MutableBooleanArray {
         let _ = &self.data_type;
     }
 
-    /// How many slots it has.
+    /// Returns the number of slots.
     pub fn len(&self) -> usize
         ensures { result ≡ len self.now }
     {
         self.values.len()
     }
 
-    /// Whether it has no slot.
+    /// Returns whether the array has no slots.
     pub fn is_empty(&self) -> bool
         ensures { IsTrue result ↔ (len self.now ≡ 0) }
     {
         self.len() == 0
     }
 
-    /// Its data type.
+    /// Returns the data type.
     pub fn data_type(&self) -> &DataType
         ensures { type_of result.now ≡ layout_type self.now }
     {
         &self.data_type
     }
 
-    /// Which slots are valid, a bit a slot; without it all are.
+    /// Returns the validity bitmap: one bit per slot, 1 if valid. `None` means that every slot is valid.
     pub fn validity(&self) -> Option<&MutableBitmap>
         ensures { option_map (λ b. b.now) result ≡ validity_of self.now }
     {
         self.validity.as_ref()
     }
 
-    /// Whether slot i is not null.
+    /// Returns whether slot `i` is valid.
     pub fn is_valid(&self, i: usize) -> bool
         requires { i < len self.now }
         ensures { result ≡ valid_at (validity_of self.now) i }
@@ -114,20 +113,20 @@ impl MutableBooleanArray {
         validity::is_valid(&self.validity, i)
     }
 
-    /// Its raw values, also those under nulls.
+    /// Returns the raw values, including those of null slots.
     pub fn values(&self) -> &MutableBitmap
         ensures { result.now ≡ bits_of self.now }
     {
         &self.values
     }
 
-    /// Adds a slot: the boolean, or null.
+    /// Appends a slot.
     ///
     /// # Errors
-    /// `Overflow` where the length would pass a `usize`; `Memory`.
+    /// `Overflow` if the length exceeds a `usize`, `Memory` if an allocation fails.
     pub fn try_push(&mut self, item: Option<bool>) -> Result<(), Error>
-        ensures parts { OnOk result (self.new ≡ pushed_truth self.old item) }
-        ensures slots { OnOk result (slots_of self.new ≡ slots_of self.old ++ optional slots.truth item ∷ []) }
+        ensures parts { OnOk result (self.new ≡ pushed_boolean self.old item) }
+        ensures slots { OnOk result (slots_of self.new ≡ slots_of self.old ++ optional slots.boolean item ∷ []) }
         ensures err { OnErr result (self.new ≡ self.old) }
         ensures same_type { layout_type self.new ≡ layout_type self.old }
         ensures overflow { IsErrOf result Overflow ↔ IsPast (len self.old + 1) }
@@ -137,8 +136,8 @@ impl MutableBooleanArray {
     }
 
     fn push(&mut self, item: Option<bool>) -> Result<(), Error>
-        ensures parts { OnOk result (self.new ≡ pushed_truth self.old item) }
-        ensures grew { OnOk result (Grew (optional slots.truth item ∷ []) self.old self.new) }
+        ensures parts { OnOk result (self.new ≡ pushed_boolean self.old item) }
+        ensures grew { OnOk result (Grew (optional slots.boolean item ∷ []) self.old self.new) }
         ensures err { OnErr result (self.new ≡ self.old) }
         ensures overflow { IsErrOf result Overflow ↔ IsPast (len self.old + 1) }
         ensures errors { IfErr result (λ e. (e ≡ Overflow) ⊎ (e ≡ Memory alloc_error)) }
@@ -153,28 +152,30 @@ impl MutableBooleanArray {
         Ok(())
     }
 
-    /// Adds a slot for each item, all of them or none.
+    /// Appends a slot for each item: all of them, or none on error.
     ///
     /// # Errors
-    /// `Overflow` where the length would pass a `usize`; `Memory`.
+    /// `Overflow` if the length exceeds a `usize`, `Memory` if an allocation fails.
     pub fn try_extend<I: IntoIterator<Item = Option<bool>>>(
         &mut self,
         items: I,
     ) -> Result<(), Error>
         requires { CanDrain I.into_iter_gives I.IntoIter.can_next I.IntoIter.remaining items }
-        ensures ok { OnOk result ((xs : List (Option Bool)) × Gives I.into_iter_gives I.IntoIter.next_gives items xs
-            × Extended pushed_truth truth_refusal (optional slots.truth) xs self.old self.new) }
+        ensures ok { OnOk result ((xs : List (Option Bool)) × YieldsAll I.into_iter_gives I.IntoIter.next_gives items xs
+            × Extended pushed_boolean boolean_refusal (optional slots.boolean) xs self.old self.new) }
         ensures err { OnErr result (self.new ≡ self.old) }
         ensures same_type { layout_type self.new ≡ layout_type self.old }
-        ensures cause { IfErr result (λ e. RefusesBeginning I.into_iter_gives I.IntoIter.next_gives pushed_truth truth_refusal items self.old e) }
+        ensures cause { IfErr result (λ e. RefusesBeginning I.into_iter_gives I.IntoIter.next_gives pushed_boolean boolean_refusal items self.old e) }
     {
         extend_by_push(self, items)
     }
 
-    /// Adds the slots of another builder, all of them or none.
+    /// Appends the slots of another builder: all of them, or none on error.
     ///
     /// # Errors
-    /// `ItemType` where the data types differ; then `Overflow` where the length would pass a `usize`; `Memory`.
+    /// - `ItemType` if the data types differ,
+    /// - `Overflow` if the length exceeds a `usize`,
+    /// - `Memory` if an allocation fails.
     pub fn try_extend_from_self(&mut self, other: &MutableBooleanArray) -> Result<(), Error>
         ensures parts { OnOk result (self.new ≡ joined_parts self.old other.now) }
         ensures slots { OnOk result (slots_of self.new ≡ slots_of self.old ++ slots_of other.now) }
@@ -187,7 +188,7 @@ impl MutableBooleanArray {
     {
         let same_type = *self.data_type() == *other.data_type();
         if !same_type {
-            return Err(Error::InvalidArgumentError(Argument::ItemType));
+            return Err(Error::InvalidArgumentError(ArgumentError::ItemType));
         }
         if self.len().checked_add(other.len()).is_none() {
             return Err(Error::Overflow);
@@ -218,11 +219,11 @@ impl MutableBooleanArray {
         Ok(())
     }
 
-    /// Keeps the first n slots.
+    /// Keeps the first `n` slots and drops the rest.
     pub fn truncate(&mut self, n: usize)
         requires { n ≤ len self.old }
-        ensures parts { self.new ≡ cut_layout self.old 0 n }
-        ensures slots { slots_of self.new ≡ cut (slots_of self.old) 0 n }
+        ensures parts { self.new ≡ slice_layout self.old 0 n }
+        ensures slots { slots_of self.new ≡ sublist (slots_of self.old) 0 n }
         ensures same_type { layout_type self.new ≡ layout_type self.old }
     {
         self.cut(n);
@@ -230,16 +231,16 @@ impl MutableBooleanArray {
 
     fn cut(&mut self, n: usize)
         requires { n ≤ len self.old }
-        ensures { self.new ≡ cut_layout self.old 0 n }
+        ensures { self.new ≡ slice_layout self.old 0 n }
     {
         self.values.truncate(n);
         validity::truncate(&mut self.validity, n);
     }
 
-    /// Room for so many slots more.
+    /// Reserves capacity for `additional` more slots.
     ///
     /// # Errors
-    /// `Memory`.
+    /// `Memory` if an allocation fails.
     pub fn reserve(&mut self, additional: usize) -> Result<(), Error>
         ensures same { self.new ≡ self.old }
         ensures memory { IsOkUnless result (Memory alloc_error) }
@@ -248,7 +249,7 @@ impl MutableBooleanArray {
         validity::reserve(&mut self.validity, additional)
     }
 
-    /// Gives back memory that holds no slot, where a smaller block is there.
+    /// Releases unused capacity if smaller blocks can be allocated.
     pub fn shrink_to_fit(&mut self)
         ensures { self.new ≡ self.old }
     {
@@ -256,11 +257,10 @@ impl MutableBooleanArray {
         validity::shrink_to_fit(&mut self.validity);
     }
 
-    /// The array of the slots. The builder keeps its data type and has no slot and no validity then, also where this
-    /// answers `Err`.
+    /// Returns the array of the slots and empties the builder, also on error. The data type is kept.
     ///
     /// # Errors
-    /// `Memory`.
+    /// `Memory` if an allocation fails.
     pub fn freeze(&mut self) -> Result<BooleanArray, Error>
         ensures ok { IfOk result (λ a. a ≡ self.old) }
         ensures emptied { self.new ≡ layouts.boolean (layout_type self.old) [] None }
@@ -276,11 +276,11 @@ impl MutableBooleanArray {
 impl Grow<Option<bool>> for MutableBooleanArray {
     ghost layout = { λ b. b };
 
-    ghost slot_of_item = { optional slots.truth };
+    ghost slot_of_item = { optional slots.boolean };
 
-    ghost pushed = { pushed_truth };
+    ghost pushed = { pushed_boolean };
 
-    ghost refusal = { truth_refusal };
+    ghost refusal = { boolean_refusal };
 
     fn count(&self) -> usize {
         self.values.len()
@@ -294,8 +294,8 @@ impl Grow<Option<bool>> for MutableBooleanArray {
         self.push(item)
     }
 
-    fn take_back(&mut self, n: usize, masked: bool) {
+    fn rollback(&mut self, n: usize, masked: bool) {
         self.values.truncate(n);
-        validity::take_back(&mut self.validity, n, masked);
+        validity::rollback(&mut self.validity, n, masked);
     }
 }

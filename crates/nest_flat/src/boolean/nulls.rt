@@ -1,4 +1,4 @@
-//! Arrays of booleans that are null, and such arrays without a slot.
+//! Empty and all-null boolean arrays.
 ghost use Rattle.std.specs.Prelude.{◌≡◌, IfOk, IsOkUnless, MatchResult, None, alloc_error};
 ghost use Rattle.nest_memory.specs.declared.datatypes.physical_type.PhysicalType.TheVariants as physical;
 ghost use Rattle.nest_flat.specs.Words.{AcceptsKind, HasNone, HasNulls, Memory, RefusesKind, null_array, physical_type, type_of};
@@ -8,12 +8,15 @@ use crate::validity;
 use nest_memory::bitmap::immutable::Bitmap;
 use nest_memory::datatypes::DataType;
 use nest_memory::datatypes::physical_type::PhysicalType;
-use nest_memory::error::{Error, Spec};
+use nest_memory::error::{Error, SpecError};
 use nest_model::fill::Fill;
 use std::alloc::Global;
 
 impl BooleanArray {
-    /// The array without a slot. `WrongType` where the data type is none of booleans.
+    /// Returns an empty array.
+    ///
+    /// # Errors
+    /// `WrongType` if the data type is not Boolean, `Memory` if an allocation fails.
     pub fn new_empty(alloc: Global, data_type: DataType) -> Result<BooleanArray, Error>
         ensures { let t = type_of data_type in MatchResult result
             (λ a. AcceptsKind physical.Boolean t None × HasNone t a)
@@ -22,7 +25,10 @@ impl BooleanArray {
         BooleanArray::checked(alloc, data_type, 0, Fill::Nothing)
     }
 
-    /// The array of `length` nulls, whose raw values are false. `WrongType` where the data type is none of booleans.
+    /// Returns an array of `length` nulls, whose raw values are `false`.
+    ///
+    /// # Errors
+    /// `WrongType` if the data type is not Boolean, `Memory` if an allocation fails.
     pub fn new_null(
         alloc: Global,
         data_type: DataType,
@@ -35,7 +41,7 @@ impl BooleanArray {
         BooleanArray::checked(alloc, data_type, length, Fill::Nulls)
     }
 
-    // The same as `of_nulls`, once the type is known to be one of booleans.
+    // Checks the data type, then calls `of_nulls`.
     fn checked(
         alloc: Global,
         data_type: DataType,
@@ -48,15 +54,18 @@ impl BooleanArray {
     {
         if data_type.to_physical_type() != PhysicalType::Boolean {
             drop(data_type);
-            return Err(Error::OutOfSpec(Spec::WrongType));
+            return Err(Error::OutOfSpec(SpecError::WrongType));
         }
         let array = BooleanArray::of_nulls(alloc, &data_type, length, fill);
         drop(data_type);
         array
     }
 
-    /// What `new_empty` and `new_null` share, of a type of booleans: `length` times false.
-    /// Of nulls none is valid; of nothing there is no validity.
+    /// Returns an array of `length` times `false`. With `Fill::Nulls` every slot is null; with `Fill::Nothing` there
+    /// is no validity. Shared by `new_empty` and `new_null`.
+    ///
+    /// # Errors
+    /// `Memory` if an allocation fails.
     pub fn of_nulls(
         alloc: Global,
         data_type: &DataType,

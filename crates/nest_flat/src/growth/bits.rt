@@ -1,11 +1,14 @@
-//! Bits after others.
+//! Concatenation of bitmaps.
 ghost use Rattle.std.specs.Prelude.{◌≡◌, ◌+◌, ◌^◌, ◌<◌, ◌++◌, length, OnOk, OnErr, IsOkUnless, alloc_error};
 ghost use Rattle.nest_flat.specs.Words.{Memory};
 
 use nest_memory::bitmap::mutable::MutableBitmap;
 use nest_memory::error::Error;
 
-/// Adds the bits of another bitmap, all of them or none.
+/// Appends the bits of another bitmap: all of them, or none on error.
+///
+/// # Errors
+/// `Memory` if an allocation fails.
 pub fn append(bits: &mut MutableBitmap, more: &MutableBitmap) -> Result<(), Error>
     requires { length bits.old + length more.now < 2 ^ 64 }
     ensures ok { OnOk result (bits.new ≡ bits.old ++ more.now) }

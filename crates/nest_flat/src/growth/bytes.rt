@@ -1,7 +1,7 @@
-//! Slots of bytes that grow: what the builders of bytes and of texts share.
+//! A builder of variable-size slots, shared by the builders of binary and UTF-8 arrays.
 ghost use Rattle.std.specs.Prelude.{◌≡◌, ◌↔◌, ◌⊎◌, ◌+◌, ◌^◌, ◌++◌, ◌∷◌, [], ◌<◌, ◌≤◌, OnOk, OnErr, IfOk, IfErr, IsErrOf, IsOkUnless, alloc_error, length, is_some, option_map, map, drop, if◌then◌else◌};
 ghost use Rattle.std.specs.Option.{option_copied};
-ghost use Rattle.nest_flat.specs.Words.{AreSpans, Memory, Overflow, ValidityFits, bare_spans, begin, cut, extent, first_spans, item_bytes, joined_spans, joined_validity, last_of, no_spans, pushed_span, pushed_validity, count_rows, spans, valid_at};
+ghost use Rattle.nest_flat.specs.Words.{AreSpans, Memory, Overflow, ValidityFits, bare_spans, begin, sublist, extent, first_spans, item_bytes, joined_spans, joined_validity, last_of, no_spans, pushed_span, pushed_validity, count_rows, spans, valid_at};
 
 use crate::growth::validity;
 use nest_memory::bitmap::immutable::Bitmap;
@@ -14,11 +14,11 @@ use std::alloc::Global;
 use std::marker::Model;
 use std::mem;
 
-/// Offsets, bytes and a validity that never change.
+/// The offsets, bytes and validity of a frozen array.
 pub(crate) type Frozen<O> = (OffsetsBuffer<O>, Buffer<u8>, Option<Bitmap>);
 
-/// The bytes of slots one after another, where those of each end, and which slots are valid. A null
-/// has no bytes. A validity is made at the first null.
+/// The offsets, bytes and validity of the slots pushed so far. A null has no bytes. The validity is allocated at the
+/// first null.
 #[derive(Drop)]
 pub(crate) struct BytesBuilder<O: Offset> {
     offsets: Offsets<O>,
@@ -40,14 +40,14 @@ impl<O: Offset> Model for BytesBuilder<O> {
     ghost invariant = { λ b. (last_of b.offsets ≡ length b.bytes.items) × ValidityFits b.validity (count_rows b.offsets) × NullsAreBare b.validity b.offsets };
 }
 
-/// The bytes of an item: a null has none.
+/// Returns the bytes of an item; a null has none.
 fn bytes_of(item: Option<&[u8]>) -> &[u8]
     ensures { result.now ≡ item_bytes (option_copied item.entry) }
 {
     item.unwrap_or(&[])
 }
 
-/// Adds the bytes and the bit of one slot more, after `len` others, or neither.
+/// Appends the bytes and the validity bit of one slot to `len` slots: both, or neither on error.
 fn push_item(
     bytes: &mut Vec<u8>,
     validity: &mut Option<MutableBitmap>,
@@ -72,7 +72,7 @@ fn push_item(
     Ok(())
 }
 
-/// Adds the bytes and the bits of m slots more, after n others, or none of them.
+/// Appends the bytes and the validity bits of `m` slots to `n` slots: all of them, or none on error.
 fn join_items(
     bytes: &mut Vec<u8>,
     validity: &mut Option<MutableBitmap>,
@@ -100,7 +100,7 @@ fn join_items(
     Ok(())
 }
 
-/// Adds the offset that ends a slot of n bytes more.
+/// Appends the end offset of a slot of `n` bytes.
 fn push_end<O: Offset>(offsets: &mut Offsets<O>, n: usize) -> Result<(), Error>
     ensures ok { OnOk result (offsets.new ≡ offsets.old ++ (last_of offsets.old + n) ∷ []) }
     ensures err { OnErr result (offsets.new ≡ offsets.old) }
@@ -111,7 +111,7 @@ fn push_end<O: Offset>(offsets: &mut Offsets<O>, n: usize) -> Result<(), Error>
     offsets.try_push_usize(n)
 }
 
-/// Adds the offsets of other slots.
+/// Appends the end offsets of other slots.
 fn join_ends<O: Offset>(offsets: &mut Offsets<O>, more: &Offsets<O>) -> Result<(), Error>
     ensures ok { OnOk result (offsets.new ≡ offsets.old ++ map (λ e. last_of offsets.old + e) (drop 1 more.now)) }
     ensures err { OnErr result (offsets.new ≡ offsets.old) }
@@ -124,7 +124,7 @@ fn join_ends<O: Offset>(offsets: &mut Offsets<O>, more: &Offsets<O>) -> Result<(
 }
 
 impl<O: Offset> BytesBuilder<O> {
-    /// No slot.
+    /// Returns an empty builder.
     pub(crate) fn new(alloc: Global) -> Result<BytesBuilder<O>, Error>
         ensures ok { IfOk result (λ b. b ≡ no_spans) }
         ensures memory { IsOkUnless result (Memory alloc_error) }
@@ -136,7 +136,7 @@ impl<O: Offset> BytesBuilder<O> {
         })
     }
 
-    /// What holds of every such builder.
+    /// States the invariant of the builder. Does nothing at run time.
     pub(crate) fn known(&self)
         ensures spans { AreSpans self.now }
         ensures room { length self.now.offsets < 2 ^ 64 }
@@ -146,14 +146,17 @@ impl<O: Offset> BytesBuilder<O> {
         self.offsets.known();
     }
 
-    /// How many slots it has.
+    /// Returns the number of slots.
     pub(crate) fn len(&self) -> usize
         ensures { result ≡ count_rows self.now.offsets }
     {
         self.offsets.len_proxy()
     }
 
-    /// Adds a slot: null, or the bytes. `Overflow` where no offset can stand for its end.
+    /// Appends a slot.
+    ///
+    /// # Errors
+    /// `Overflow` if the end of the slot exceeds the offset type, `Memory` if an allocation fails.
     pub(crate) fn try_push(&mut self, item: Option<&[u8]>) -> Result<(), Error>
         ensures ok { OnOk result (self.new ≡ pushed_span (option_copied item.entry) self.old) }
         ensures err { OnErr result (self.new ≡ self.old) }
@@ -171,7 +174,10 @@ impl<O: Offset> BytesBuilder<O> {
         Ok(())
     }
 
-    /// Adds the slots of another, all of them or none. `Overflow` where no offset can stand for the last end.
+    /// Appends the slots of another builder: all of them, or none on error.
+    ///
+    /// # Errors
+    /// `Overflow` if the last end exceeds the offset type, `Memory` if an allocation fails.
     pub(crate) fn try_extend_from_self(&mut self, other: &BytesBuilder<O>) -> Result<(), Error>
         ensures ok { OnOk result (self.new ≡ joined_spans self.old other.now) }
         ensures err { OnErr result (self.new ≡ self.old) }
@@ -191,18 +197,18 @@ impl<O: Offset> BytesBuilder<O> {
         Ok(())
     }
 
-    /// Keeps the first n slots, and drops the validity where it is not to stay.
-    pub(crate) fn take_back(&mut self, n: usize, masked: bool)
+    /// Keeps the first `n` slots, and drops the validity unless `masked`.
+    pub(crate) fn rollback(&mut self, n: usize, masked: bool)
         requires { n ≤ count_rows self.old.offsets }
         ensures { self.new ≡ (if masked then first_spans n self.old else bare_spans (first_spans n self.old)) }
     {
         self.offsets.known();
         self.offsets.truncate(n);
         self.bytes.truncate(self.offsets.last());
-        validity::take_back(&mut self.validity, n, masked);
+        validity::rollback(&mut self.validity, n, masked);
     }
 
-    /// Room for so many slots more, but for their bytes.
+    /// Reserves capacity for `additional` more slots. Capacity for bytes is not reserved.
     pub(crate) fn reserve(&mut self, additional: usize) -> Result<(), Error>
         ensures same { self.new ≡ self.old }
         ensures memory { IsOkUnless result (Memory alloc_error) }
@@ -211,7 +217,7 @@ impl<O: Offset> BytesBuilder<O> {
         validity::reserve(&mut self.validity, additional)
     }
 
-    /// Gives back memory that holds no slot, where a smaller block is there.
+    /// Releases unused capacity if smaller blocks can be allocated.
     pub(crate) fn shrink_to_fit(&mut self)
         ensures { self.new ≡ self.old }
     {
@@ -220,7 +226,7 @@ impl<O: Offset> BytesBuilder<O> {
         validity::shrink_to_fit(&mut self.validity);
     }
 
-    /// The offsets, the bytes and the validity, shared. No slot and no validity is left, also where this answers `Err`.
+    /// Returns the offsets, the bytes and the validity as shared buffers, and empties the builder, also on error.
     pub(crate) fn freeze(&mut self) -> Result<Frozen<O>, Error>
         ensures ok { IfOk result (λ parts. spans parts.0 parts.1 parts.2 ≡ self.old) }
         ensures emptied { self.new ≡ no_spans }
@@ -233,17 +239,17 @@ impl<O: Offset> BytesBuilder<O> {
         Ok((offsets?, Buffer::from_vec(alloc, bytes)?, validity?))
     }
 
-    /// The bytes of slot i.
+    /// Returns the bytes of slot `i`.
     pub(crate) fn value(&self, i: usize) -> &[u8]
         requires { i < count_rows self.now.offsets }
-        ensures { result.now ≡ cut self.now.bytes (begin self.now.offsets i) (extent self.now.offsets i) }
+        ensures { result.now ≡ sublist self.now.bytes (begin self.now.offsets i) (extent self.now.offsets i) }
     {
         self.offsets.known();
         let (start, end) = self.offsets.start_end(i);
         &self.bytes.as_slice()[start..end]
     }
 
-    /// Whether slot i is valid.
+    /// Returns whether slot `i` is valid.
     pub(crate) fn is_valid(&self, i: usize) -> bool
         requires { i < count_rows self.now.offsets }
         ensures { result ≡ valid_at self.now.validity i }

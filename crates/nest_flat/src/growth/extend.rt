@@ -1,53 +1,53 @@
-//! Items pushed one after another, all or none.
+//! Appending the items of an iterator, all or none.
 ghost use Rattle.std.specs.Prelude.{◌≡◌, ◌≤◌, ◌∷◌, [], List, Option, None, OnOk, OnErr, IfErr};
-ghost use Rattle.nest_flat.specs.Words.{CanDrain, Error, Extended, Gives, Grew, IsDue, Layout, RefusesBeginning, Slot, is_masked, layout_type, len, taken_back};
+ghost use Rattle.nest_flat.specs.Words.{CanDrain, Error, Extended, YieldsAll, Grew, IsReportedError, Layout, RefusesBeginning, Slot, is_masked, layout_type, len, rolled_back};
 
 use nest_memory::error::Error;
 
-/// A builder of a flat array that takes items of one type.
+/// A builder of a flat array that appends items of one type.
 pub(crate) trait Grow<A> {
-    /// The parts of the array so far.
+    /// The layout of the slots so far.
     ghost layout: { Self → Layout };
 
-    /// The slot that an item is.
+    /// The slot that an item represents.
     ghost slot_of_item: { A → Slot };
 
-    /// The parts with an item more.
+    /// The layout after an item is appended.
     ghost pushed: { Layout → A → Layout };
 
-    /// Why an item more is refused, but for want of memory.
+    /// The error of appending an item, other than a failed allocation.
     ghost refusal: { Layout → A → Option Error };
 
-    /// How many slots there are.
+    /// Returns the number of slots.
     fn count(&self) -> usize
         ensures { result ≡ len (layout self.now) };
 
-    /// Whether a validity is there.
+    /// Returns whether there is a validity.
     fn has_validity(&self) -> bool
         ensures masked { result ≡ is_masked (layout self.now) }
-        ensures whole { taken_back (layout self.now) (len (layout self.now)) (is_masked (layout self.now)) ≡ layout self.now };
+        ensures whole { rolled_back (layout self.now) (len (layout self.now)) (is_masked (layout self.now)) ≡ layout self.now };
 
-    /// Adds a slot.
+    /// Appends a slot.
     fn push_item(&mut self, item: A) -> Result<(), Error>
         ensures parts { OnOk result (layout self.new ≡ pushed (layout self.old) item) }
         ensures grew { OnOk result (Grew (slot_of_item item ∷ []) (layout self.old) (layout self.new)) }
         ensures err { OnErr result (layout self.new ≡ layout self.old) }
         ensures unrefused { OnOk result (refusal (layout self.old) item ≡ None) }
-        ensures cause { IfErr result (λ e. IsDue (refusal (layout self.old) item) e) };
+        ensures cause { IfErr result (λ e. IsReportedError (refusal (layout self.old) item) e) };
 
-    /// Keeps the first n slots, and drops the validity where none was there.
-    fn take_back(&mut self, n: usize, masked: bool)
+    /// Keeps the first `n` slots, and drops the validity unless `masked`.
+    fn rollback(&mut self, n: usize, masked: bool)
         requires { n ≤ len (layout self.old) }
-        ensures { layout self.new ≡ taken_back (layout self.old) n masked };
+        ensures { layout self.new ≡ rolled_back (layout self.old) n masked };
 }
 
-/// Pushes each item, and takes all of them back where one is refused.
+/// Appends each item. On error every appended item is removed again.
 pub(crate) fn extend_by_push<A, B: Grow<A>, I: IntoIterator<Item = A>>(
     builder: &mut B,
     items: I,
 ) -> Result<(), Error>
     requires { CanDrain I.into_iter_gives I.IntoIter.can_next I.IntoIter.remaining items }
-    ensures ok { OnOk result ((xs : List A) × Gives I.into_iter_gives I.IntoIter.next_gives items xs × Extended B.pushed B.refusal B.slot_of_item xs (B.layout builder.old) (B.layout builder.new)) }
+    ensures ok { OnOk result ((xs : List A) × YieldsAll I.into_iter_gives I.IntoIter.next_gives items xs × Extended B.pushed B.refusal B.slot_of_item xs (B.layout builder.old) (B.layout builder.new)) }
     ensures same_type { layout_type (B.layout builder.new) ≡ layout_type (B.layout builder.old) }
     ensures err { OnErr result (B.layout builder.new ≡ B.layout builder.old) }
     ensures cause { IfErr result (λ e. RefusesBeginning I.into_iter_gives I.IntoIter.next_gives B.pushed B.refusal items (B.layout builder.old) e) }
@@ -56,7 +56,7 @@ pub(crate) fn extend_by_push<A, B: Grow<A>, I: IntoIterator<Item = A>>(
     let masked = builder.has_validity();
     for item in items {
         if let Err(error) = builder.push_item(item) {
-            builder.take_back(len, masked);
+            builder.rollback(len, masked);
             return Err(error);
         }
     }

@@ -1,4 +1,4 @@
-//! What the builders of flat arrays share.
+//! Building blocks of the builders of flat arrays.
 pub mod bits;
 pub(crate) mod bytes;
 pub(crate) mod extend;

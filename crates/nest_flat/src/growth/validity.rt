@@ -1,6 +1,6 @@
-//! The bits of a builder's places, which are there from the first null on.
+//! The validity bits of a builder, allocated at the first null.
 ghost use Rattle.std.specs.Prelude.{◌≡◌, ◌+◌, ◌^◌, ◌<◌, ◌++◌, ◌∷◌, [], length, true, false, None, Some, OnOk, OnErr, IfOk, replicate, IsOkUnless, alloc_error, ◌≤◌, if◌then◌else◌};
-ghost use Rattle.nest_flat.specs.Words.{Memory, ValidityCovers, ValidityFits, cut_validity, joined_validity, pushed_validity, valid_at};
+ghost use Rattle.nest_flat.specs.Words.{Memory, ValidityCovers, ValidityFits, sliced_validity, joined_validity, pushed_validity, valid_at};
 
 use crate::growth::bits;
 use nest_memory::bitmap::immutable::Bitmap;
@@ -8,7 +8,7 @@ use nest_memory::bitmap::mutable::MutableBitmap;
 use nest_memory::error::Error;
 use std::alloc::Global;
 
-/// The bits of n valid places and a null one.
+/// Returns the bits of `n` valid slots and a null.
 fn first_null(alloc: Global, n: usize) -> Result<MutableBitmap, Error>
     requires { n + 1 < 2 ^ 64 }
     ensures ok { IfOk result (λ bits. bits ≡ replicate n true ++ false ∷ []) }
@@ -20,7 +20,7 @@ fn first_null(alloc: Global, n: usize) -> Result<MutableBitmap, Error>
     Ok(bits)
 }
 
-/// Makes the bits, with that of a null after n valid places. Out of line, since it happens once in a builder's life.
+/// Creates the bits of `n` valid slots and a null. Not inlined, since it runs once in a builder's life.
 #[cold]
 #[inline(never)]
 fn begin(alloc: Global, validity: &mut Option<MutableBitmap>, n: usize) -> Result<(), Error>
@@ -33,7 +33,10 @@ fn begin(alloc: Global, validity: &mut Option<MutableBitmap>, n: usize) -> Resul
     Ok(())
 }
 
-/// Adds the bit of one place more, after `len` others.
+/// Appends the bit of one slot to those of `len` slots.
+///
+/// # Errors
+/// `Memory` if an allocation fails.
 #[inline]
 pub fn push(
     alloc: Global,
@@ -56,7 +59,7 @@ pub fn push(
     begin(alloc, validity, len)
 }
 
-/// The bits of n valid places, and others behind them.
+/// Returns the bits of `n` valid slots followed by other bits.
 fn valid_before(alloc: Global, n: usize, more: &MutableBitmap) -> Result<MutableBitmap, Error>
     requires { n + length more.now < 2 ^ 64 }
     ensures ok { IfOk result (λ bits. bits ≡ replicate n true ++ more.now) }
@@ -68,7 +71,10 @@ fn valid_before(alloc: Global, n: usize, more: &MutableBitmap) -> Result<Mutable
     Ok(bits)
 }
 
-/// Adds the bits of m places more, after n others.
+/// Appends the bits of `m` slots to those of `n` slots.
+///
+/// # Errors
+/// `Memory` if an allocation fails.
 pub fn join(
     alloc: Global,
     validity: &mut Option<MutableBitmap>,
@@ -95,20 +101,20 @@ pub fn join(
     Ok(())
 }
 
-/// Keeps the bits of the first n places.
+/// Keeps the bits of the first `n` slots.
 pub fn truncate(validity: &mut Option<MutableBitmap>, n: usize)
     requires { ValidityCovers validity.old n }
-    ensures { validity.new ≡ cut_validity validity.old 0 n }
+    ensures { validity.new ≡ sliced_validity validity.old 0 n }
 {
     if let Some(bits) = validity {
         bits.truncate(n);
     }
 }
 
-/// Keeps the bits of the first n places, or none at all.
-pub fn take_back(validity: &mut Option<MutableBitmap>, n: usize, masked: bool)
+/// Keeps the bits of the first `n` slots, or drops the validity unless `masked`.
+pub fn rollback(validity: &mut Option<MutableBitmap>, n: usize, masked: bool)
     requires { ValidityCovers validity.old n }
-    ensures { validity.new ≡ (if masked then cut_validity validity.old 0 n else None) }
+    ensures { validity.new ≡ (if masked then sliced_validity validity.old 0 n else None) }
 {
     if masked {
         truncate(validity, n);
@@ -117,7 +123,7 @@ pub fn take_back(validity: &mut Option<MutableBitmap>, n: usize, masked: bool)
     }
 }
 
-/// Whether place i is valid.
+/// Returns whether slot `i` is valid.
 pub fn is_valid(validity: &Option<MutableBitmap>, i: usize) -> bool
     requires { ValidityCovers validity.now (i + 1) }
     ensures { result ≡ valid_at validity.now i }
@@ -128,7 +134,10 @@ pub fn is_valid(validity: &Option<MutableBitmap>, i: usize) -> bool
     }
 }
 
-/// Room for the bits of so many places more.
+/// Reserves capacity for the bits of `additional` more slots, if there is a validity.
+///
+/// # Errors
+/// `Memory` if an allocation fails.
 pub fn reserve(validity: &mut Option<MutableBitmap>, additional: usize) -> Result<(), Error>
     ensures same { validity.new ≡ validity.old }
     ensures memory { IsOkUnless result (Memory alloc_error) }
@@ -139,7 +148,7 @@ pub fn reserve(validity: &mut Option<MutableBitmap>, additional: usize) -> Resul
     }
 }
 
-/// Gives back memory that holds no bit, where a smaller block is there.
+/// Releases unused capacity if a smaller block can be allocated.
 pub fn shrink_to_fit(validity: &mut Option<MutableBitmap>)
     ensures { validity.new ≡ validity.old }
 {
@@ -148,7 +157,10 @@ pub fn shrink_to_fit(validity: &mut Option<MutableBitmap>)
     }
 }
 
-/// The bits, shared. None are left.
+/// Returns the bits as a shared bitmap, and removes them from the builder.
+///
+/// # Errors
+/// `Memory` if an allocation fails.
 pub fn freeze(validity: &mut Option<MutableBitmap>) -> Result<Option<Bitmap>, Error>
     ensures ok { IfOk result (λ frozen. frozen ≡ validity.old) }
     ensures emptied { validity.new ≡ None }

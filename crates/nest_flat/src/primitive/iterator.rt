@@ -1,7 +1,7 @@
-//! The slots and the raw values of an array of native values, from both ends.
+//! Iterators over the slots and the raw values of a primitive array.
 ghost use Rattle.std.specs.Prelude.{◌≡◌, ◌↔◌, ◌+◌, ◌≤◌, ◌<◌, IsTrue, None, map};
 ghost use Rattle.nest_model.specs.Slot as slots;
-ghost use Rattle.nest_flat.specs.Words.{cut, len, natives_of, optional, run, slot, slots_of, with_validity};
+ghost use Rattle.nest_flat.specs.Words.{sublist, len, natives_of, optional, run, slot, slots_of, with_validity};
 
 use crate::flat_array::{FlatArray, Slots, Values};
 use crate::iterator::SlotsIter;
@@ -9,10 +9,10 @@ use crate::primitive::PrimitiveArray;
 use nest_memory::datatypes::DataType;
 use nest_memory::types::NativeType;
 
-/// The items of an array's slots, `None` where one is null.
+/// Iterator over the slots of an array, `None` for nulls.
 pub type PrimitiveIter<'a, T> = SlotsIter<Slots<&'a PrimitiveArray<T>>>;
 
-/// The raw values of an array, also those under nulls.
+/// Iterator over the raw values of an array, including those of null slots.
 pub type PrimitiveValuesIter<'a, T> = SlotsIter<Values<&'a PrimitiveArray<T>>>;
 
 impl<'a, T: NativeType> FlatArray for &'a PrimitiveArray<T> {
@@ -54,7 +54,7 @@ impl<'a, T: NativeType> FlatArray for &'a PrimitiveArray<T> {
         self.equal_block(o, other, p, n)
     }
 
-    // The values are taken once for all slots.
+    // The raw values are borrowed once for all slots.
     fn each_same_slot(&self, o: usize, other: &&'a PrimitiveArray<T>, p: usize, n: usize) -> bool {
         let (left, right) = (self.values.as_slice(), other.values.as_slice());
         let _ends = (self.len(), other.len());
@@ -67,7 +67,7 @@ impl<'a, T: NativeType> FlatArray for &'a PrimitiveArray<T> {
     }
 }
 
-// Whether two items are the same slot.
+// Returns whether two items represent the same slot.
 #[inline]
 fn is_same_item<T: NativeType>(x: Option<T>, y: Option<T>) -> bool
     ensures { IsTrue result
@@ -81,24 +81,24 @@ fn is_same_item<T: NativeType>(x: Option<T>, y: Option<T>) -> bool
 }
 
 impl<T: NativeType> PrimitiveArray<T> {
-    /// The items of its slots, from both ends.
+    /// Returns a double-ended iterator over the slots.
     pub fn iter(&self) -> PrimitiveIter<'_, T>
         ensures { result ≡ slots_of self.now }
     {
         SlotsIter::new(Slots(self))
     }
 
-    /// Its raw values, from both ends.
+    /// Returns a double-ended iterator over the raw values.
     pub fn values_iter(&self) -> PrimitiveValuesIter<'_, T>
         ensures { result ≡ slots_of (with_validity self.now None) }
     {
         SlotsIter::new(Values(self))
     }
 
-    // The raw values of the n slots from place o.
+    // Returns the raw values of slots `o..o + n`.
     pub(crate) fn values_from(&self, o: usize, n: usize) -> &[T]
         requires { o + n ≤ len self.now }
-        ensures raw { map T.numbers result.now ≡ cut (natives_of self.now) o n }
+        ensures raw { map T.numbers result.now ≡ sublist (natives_of self.now) o n }
         ensures unmasked { run (slot (with_validity self.now None)) o n ≡ map (λ x. slots.number (T.numbers x)) result.now }
     {
         let _end = self.len();
@@ -106,7 +106,7 @@ impl<T: NativeType> PrimitiveArray<T> {
         &values[o..o + n]
     }
 
-    // The value of slot i, `None` where it is null, out of all raw values.
+    // Returns the value of slot `i` of all raw values, or `None` if it is null.
     #[inline]
     fn item_in(&self, values: &[T], i: usize) -> Option<T>
         requires shown { map T.numbers values.now ≡ natives_of self.now }

@@ -1,4 +1,4 @@
-//! Arrays of native values.
+//! Primitive arrays.
 pub mod iterator;
 pub mod mutable;
 mod nulls;
@@ -6,7 +6,7 @@ mod nulls;
 ghost use Rattle.std.specs.Prelude.{◌≡◌, ◌+◌, ◌≤◌, ◌<◌, ◌↔◌, IsTrue, IfOk, IsOkUnless, MatchResult, None, Some, slice_get, option_map, map, alloc_error};
 ghost use Rattle.nest_model.specs.Layout as layouts;
 ghost use Rattle.nest_model.specs.Slot as slots;
-ghost use Rattle.nest_flat.specs.Words.{FirstFault, Fits, HasValidity, IsCut, Memory, RefusesValidity, TopFits, cut_layout, is_null_at, layout_type, len, natives_of, null_count, optional, slot, type_of, valid_at, validity_of, where_valid, with_validity};
+ghost use Rattle.nest_flat.specs.Words.{FirstError, Fits, HasValidity, IsSlice, Memory, RefusesValidity, TopFits, slice_layout, is_null_at, layout_type, len, natives_of, null_count, optional, slot, type_of, valid_at, validity_of, where_valid, with_validity};
 
 use crate::validity;
 use nest_memory::bitmap::immutable::Bitmap;
@@ -18,7 +18,7 @@ use nest_memory::types::NativeType;
 use std::alloc::Global;
 use std::marker::Model;
 
-/// An array of native values of one kind: the Fixed-Size Primitive Layout of the Arrow format.
+/// An array of values of one native type (Fixed-Size Primitive Layout).
 #[derive(Drop)]
 pub struct PrimitiveArray<T: NativeType> {
     data_type: DataType,
@@ -45,18 +45,21 @@ impl<T: NativeType> Model for PrimitiveArray<T> {
 }
 
 impl<T: NativeType> PrimitiveArray<T> {
-    /// The array of these parts. Refused, in this order, where the validity has another length
-    /// (`ValidityLength`) and where the data type is no type of such values (`WrongType`).
+    /// Returns the array of these parts.
+    ///
+    /// # Errors
+    /// In this order: `ValidityLength` if the validity does not have one bit per slot, `WrongType` if the data type
+    /// is not stored as `T`.
     pub fn try_new(
         data_type: DataType,
         values: Buffer<T>,
         validity: Option<Bitmap>,
     ) -> Result<PrimitiveArray<T>, Error>
         ensures { let parts = layouts.primitive T.PRIMITIVE (type_of data_type) (map T.numbers values) validity in
-            MatchResult result (λ a. Fits parts × (a ≡ parts)) (λ e. FirstFault e parts) }
+            MatchResult result (λ a. Fits parts × (a ≡ parts)) (λ e. FirstError e parts) }
     {
         let physical = PhysicalType::Primitive(T::PRIMITIVE);
-        if let Some(e) = validity::fault(&validity, values.len(), &data_type, physical) {
+        if let Some(e) = validity::first_error(&validity, values.len(), &data_type, physical) {
             drop(validity);
             drop(values);
             drop(data_type);
@@ -69,7 +72,7 @@ impl<T: NativeType> PrimitiveArray<T> {
         })
     }
 
-    /// What holds of every such array.
+    /// States the invariant of the array. Does nothing at run time.
     pub fn known(&self)
         ensures fits { TopFits self.now }
         ensures kind { self.now ≡ layouts.primitive T.PRIMITIVE (layout_type self.now) (natives_of self.now) (validity_of self.now) }
@@ -77,42 +80,42 @@ impl<T: NativeType> PrimitiveArray<T> {
         let _ = &self.data_type;
     }
 
-    /// How many slots it has.
+    /// Returns the number of slots.
     pub fn len(&self) -> usize
         ensures { result ≡ len self.now }
     {
         self.values.len()
     }
 
-    /// Whether it has no slot.
+    /// Returns whether the array has no slots.
     pub fn is_empty(&self) -> bool
         ensures { IsTrue result ↔ (len self.now ≡ 0) }
     {
         self.len() == 0
     }
 
-    /// Its data type.
+    /// Returns the data type.
     pub fn data_type(&self) -> &DataType
         ensures { type_of result.now ≡ layout_type self.now }
     {
         &self.data_type
     }
 
-    /// Which slots are valid, a bit a slot; without it all are.
+    /// Returns the validity bitmap: one bit per slot, 1 if valid. `None` means that every slot is valid.
     pub fn validity(&self) -> Option<&Bitmap>
         ensures { option_map (λ b. b.now) result ≡ validity_of self.now }
     {
         self.validity.as_ref()
     }
 
-    /// Its raw values, also those under nulls.
+    /// Returns the raw values, including those of null slots.
     pub fn values(&self) -> &Buffer<T>
         ensures { map T.numbers result.now ≡ natives_of self.now }
     {
         &self.values
     }
 
-    /// Whether slot i is not null.
+    /// Returns whether slot `i` is valid.
     pub fn is_valid(&self, i: usize) -> bool
         requires { i < len self.now }
         ensures { result ≡ valid_at (validity_of self.now) i }
@@ -120,7 +123,7 @@ impl<T: NativeType> PrimitiveArray<T> {
         validity::is_valid(&self.validity, i)
     }
 
-    /// Whether slot i is null.
+    /// Returns whether slot `i` is null.
     pub fn is_null(&self, i: usize) -> bool
         requires { i < len self.now }
         ensures slot { IsTrue result ↔ (slot self.now i ≡ slots.null) }
@@ -129,14 +132,14 @@ impl<T: NativeType> PrimitiveArray<T> {
         !validity::is_valid(&self.validity, i)
     }
 
-    /// How many slots are null.
+    /// Returns the number of null slots.
     pub fn null_count(&self) -> usize
         ensures { result ≡ null_count self.now }
     {
         validity::null_count(&self.validity)
     }
 
-    /// The raw value of slot i, which means nothing where the slot is null.
+    /// Returns the raw value of slot `i`; unspecified where the slot is null.
     pub fn value(&self, i: usize) -> T
         requires { i < len self.now }
         ensures raw { slice_get (natives_of self.now) i ≡ Some (T.numbers result) }
@@ -146,7 +149,7 @@ impl<T: NativeType> PrimitiveArray<T> {
         self.values.get(i)
     }
 
-    /// The value of slot i, `None` where it is null.
+    /// Returns the value of slot `i`, or `None` if it is null.
     pub fn get(&self, i: usize) -> Option<T>
         requires { i < len self.now }
         ensures { optional (λ x. slots.number (T.numbers x)) result ≡ slot self.now i }
@@ -158,34 +161,36 @@ impl<T: NativeType> PrimitiveArray<T> {
         }
     }
 
-    /// Keeps the n slots from place o.
+    /// Slices the array in place to slots `o..o + n`.
     pub fn slice(&mut self, o: usize, n: usize)
         requires { o + n ≤ len self.old }
-        ensures { IsCut self.old o n self.new }
+        ensures { IsSlice self.old o n self.new }
     {
         self.cut(o, n);
     }
 
     fn cut(&mut self, o: usize, n: usize)
         requires { o + n ≤ len self.old }
-        ensures { self.new ≡ cut_layout self.old o n }
+        ensures { self.new ≡ slice_layout self.old o n }
     {
         self.values.slice(o, n);
         validity::slice(&mut self.validity, o, n);
     }
 
-    /// The n slots from place o.
+    /// Returns the slice of slots `o..o + n`.
     pub fn sliced(self, o: usize, n: usize) -> PrimitiveArray<T>
         requires { o + n ≤ len self }
-        ensures { IsCut self o n result }
+        ensures { IsSlice self o n result }
     {
         let mut cut = self;
         cut.slice(o, n);
         cut
     }
 
-    /// Takes a new validity. `ValidityLength` where it has not a bit for each slot; the array stays
-    /// as it was then.
+    /// Replaces the validity.
+    ///
+    /// # Errors
+    /// `ValidityLength` if it does not have one bit per slot; the array is unchanged then.
     pub fn set_validity(&mut self, validity: Option<Bitmap>) -> Result<(), Error>
         ensures { MatchResult result
             (λ _. HasValidity self.old validity self.new)
@@ -195,7 +200,10 @@ impl<T: NativeType> PrimitiveArray<T> {
         validity::replace(&mut self.validity, validity, count)
     }
 
-    /// The array under a new validity, or as it was beside the refusal.
+    /// Returns the array with another validity.
+    ///
+    /// # Errors
+    /// The unchanged array and `ValidityLength`, if the validity does not have one bit per slot.
     pub fn with_validity(
         self,
         validity: Option<Bitmap>,
@@ -211,12 +219,15 @@ impl<T: NativeType> PrimitiveArray<T> {
         }
     }
 
-    /// The n slots from place o, on shared memory.
-    // Cut before it stands in its variant, and inlined, so that it is written in its place at once.
+    /// Returns the slice of slots `o..o + n`, which shares the buffers.
+    ///
+    /// # Errors
+    /// `Memory` if an allocation fails.
+    // Slices before wrapping, and is inlined, so that the result is written directly into its variant.
     #[inline(always)]
     pub fn part(&self, alloc: Global, o: usize, n: usize) -> Result<PrimitiveArray<T>, Error>
         requires { o + n ≤ len self.now }
-        ensures ok { IfOk result (λ a. IsCut self.now o n a) }
+        ensures ok { IfOk result (λ a. IsSlice self.now o n a) }
         ensures err { IsOkUnless result (Memory alloc_error) }
     {
         let mut values = self.values.clone()?;
@@ -230,8 +241,11 @@ impl<T: NativeType> PrimitiveArray<T> {
         })
     }
 
-    /// The same array, on shared memory.
-    // Inlined, so that what makes a variant of the copy writes it in its place at once.
+    /// Returns a copy that shares the buffers.
+    ///
+    /// # Errors
+    /// `Memory` if an allocation fails.
+    // Inlined, so that the caller writes the copy directly into its variant.
     #[inline(always)]
     pub fn clone(&self, alloc: Global) -> Result<PrimitiveArray<T>, Error>
         ensures ok { IfOk result (λ a. a ≡ self.now) }

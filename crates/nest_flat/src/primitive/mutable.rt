@@ -1,10 +1,10 @@
-//! The builder of arrays of native values.
+//! A builder of primitive arrays.
 ghost use Rattle.std.specs.Prelude.{◌≡◌, ◌≢◌, ◌+◌, ◌≤◌, ◌<◌, ◌↔◌, ◌++◌, ◌∷◌, [], List, Option, IsTrue, IfOk, IfErr, ◌⊎◌, OnOk, OnErr, IsOkUnless, IsErrOf, None, Some, option_map, map, alloc_error};
 ghost use Rattle.std.specs.Option.{unwrap_or};
 ghost use Rattle.nest_memory.specs.declared.datatypes.physical_type.PhysicalType.TheVariants as physical;
 ghost use Rattle.nest_model.specs.Layout as layouts;
 ghost use Rattle.nest_model.specs.Slot as slots;
-ghost use Rattle.nest_flat.specs.Words.{CanDrain, Extended, Gives, Grew, InvalidArgumentError, ItemType, Memory, TopFits, cut, cut_layout, joined_parts, layout_type, len, native_refusal, natives_of, optional, physical_type, primitive_tree, pushed_native, slots_of, type_of, valid_at, validity_of, with_type, zeros};
+ghost use Rattle.nest_flat.specs.Words.{CanDrain, Grew, InvalidArgumentError, ItemType, Memory, NativesExtended, TopFits, YieldsAll, joined_parts, layout_type, len, native_refusal, natives_of, optional, physical_type, primitive_tree, pushed_native, slice_layout, slots_of, sublist, type_of, valid_at, validity_of, with_type, zeros};
 
 use crate::growth::extend::{Grow, extend_by_push};
 use crate::growth::validity;
@@ -12,17 +12,16 @@ use crate::primitive::PrimitiveArray;
 use nest_memory::bitmap::mutable::MutableBitmap;
 use nest_memory::buffer::Buffer;
 use nest_memory::datatypes::DataType;
-use nest_memory::error::{Argument, Error};
+use nest_memory::error::{ArgumentError, Error};
 use nest_memory::types::NativeType;
 use std::alloc::Global;
 use std::marker::Model;
 use std::mem;
 
-/// Native values and nulls that are pushed one after another, and then frozen into a `PrimitiveArray`.
-/// arrow2's `MutablePrimitiveArray`.
+/// A builder of a `PrimitiveArray`, as arrow2's `MutablePrimitiveArray`.
 ///
-/// Under a null lies the value whose numbers are all 0. A validity is made at the first null. A call that answers
-/// `Err` changes nothing, but for `freeze`, which empties the builder either way.
+/// The raw value of a null is zero. The validity is allocated at the first null. A call that returns an error changes
+/// nothing, except `freeze`, which always empties the builder.
 #[derive(Drop)]
 pub struct MutablePrimitiveArray<T: NativeType> {
     data_type: DataType,
@@ -49,7 +48,7 @@ impl<T: NativeType> Model for MutablePrimitiveArray<T> {
 }
 
 impl<T: NativeType> MutablePrimitiveArray<T> {
-    /// No slot, of the data type that stands for such values, and no memory taken.
+    /// Returns an empty builder with the default data type of `T`, without allocation.
     pub fn new(alloc: Global) -> MutablePrimitiveArray<T>
         ensures { result ≡ layouts.primitive T.PRIMITIVE (primitive_tree T.PRIMITIVE) [] None }
     {
@@ -60,7 +59,7 @@ impl<T: NativeType> MutablePrimitiveArray<T> {
         }
     }
 
-    /// The same slots under another data type of such values.
+    /// Returns the builder with another data type that is stored as `T`.
     pub fn to(self, data_type: DataType) -> MutablePrimitiveArray<T>
         requires { physical_type (type_of data_type) ≡ physical.Primitive T.PRIMITIVE }
         ensures { result ≡ with_type self (type_of data_type) }
@@ -71,7 +70,7 @@ impl<T: NativeType> MutablePrimitiveArray<T> {
         builder
     }
 
-    /// What holds of every such builder.
+    /// States the invariant of the builder. Does nothing at run time.
     pub fn known(&self)
         ensures fits { TopFits self.now }
         ensures kind { self.now ≡ layouts.primitive T.PRIMITIVE (layout_type self.now) (natives_of self.now) (validity_of self.now) }
@@ -79,35 +78,35 @@ impl<T: NativeType> MutablePrimitiveArray<T> {
         let _ = &self.data_type;
     }
 
-    /// How many slots it has.
+    /// Returns the number of slots.
     pub fn len(&self) -> usize
         ensures { result ≡ len self.now }
     {
         self.values.len()
     }
 
-    /// Whether it has no slot.
+    /// Returns whether the array has no slots.
     pub fn is_empty(&self) -> bool
         ensures { IsTrue result ↔ (len self.now ≡ 0) }
     {
         self.len() == 0
     }
 
-    /// Its data type.
+    /// Returns the data type.
     pub fn data_type(&self) -> &DataType
         ensures { type_of result.now ≡ layout_type self.now }
     {
         &self.data_type
     }
 
-    /// Which slots are valid, a bit a slot; without it all are.
+    /// Returns the validity bitmap: one bit per slot, 1 if valid. `None` means that every slot is valid.
     pub fn validity(&self) -> Option<&MutableBitmap>
         ensures { option_map (λ b. b.now) result ≡ validity_of self.now }
     {
         self.validity.as_ref()
     }
 
-    /// Whether slot i is not null.
+    /// Returns whether slot `i` is valid.
     pub fn is_valid(&self, i: usize) -> bool
         requires { i < len self.now }
         ensures { result ≡ valid_at (validity_of self.now) i }
@@ -115,17 +114,17 @@ impl<T: NativeType> MutablePrimitiveArray<T> {
         validity::is_valid(&self.validity, i)
     }
 
-    /// Its raw values, also those under nulls.
+    /// Returns the raw values, including those of null slots.
     pub fn values(&self) -> &Vec<T>
         ensures { map T.numbers result.now.items ≡ natives_of self.now }
     {
         &self.values
     }
 
-    /// Adds a slot: the value, or null.
+    /// Appends a slot.
     ///
     /// # Errors
-    /// `Memory`.
+    /// `Memory` if an allocation fails.
     pub fn try_push(&mut self, item: Option<T>) -> Result<(), Error>
         ensures parts { OnOk result (self.new ≡ pushed_native self.old (option_map T.numbers item)) }
         ensures slots { OnOk result (slots_of self.new ≡ slots_of self.old ++ optional (λ x. slots.number (T.numbers x)) item ∷ []) }
@@ -136,14 +135,14 @@ impl<T: NativeType> MutablePrimitiveArray<T> {
         self.push_item(item)
     }
 
-    /// Adds a slot for each item, all of them or none.
+    /// Appends a slot for each item: all of them, or none on error.
     ///
     /// # Errors
-    /// `Memory`.
+    /// `Memory` if an allocation fails.
     pub fn try_extend<I: IntoIterator<Item = Option<T>>>(&mut self, items: I) -> Result<(), Error>
         requires { CanDrain I.into_iter_gives I.IntoIter.can_next I.IntoIter.remaining items }
-        ensures ok { OnOk result ((xs : List (Option T)) × Gives I.into_iter_gives I.IntoIter.next_gives items xs
-            × Extended (λ a x. pushed_native a (option_map T.numbers x)) native_refusal (optional (λ x. slots.number (T.numbers x))) xs self.old self.new) }
+        ensures ok { OnOk result ((xs : List (Option T)) × YieldsAll I.into_iter_gives I.IntoIter.next_gives items xs
+            × NativesExtended T.numbers xs self.old self.new) }
         ensures err { OnErr result (self.new ≡ self.old) }
         ensures same_type { layout_type self.new ≡ layout_type self.old }
         ensures memory { IsOkUnless result (Memory alloc_error) }
@@ -151,10 +150,10 @@ impl<T: NativeType> MutablePrimitiveArray<T> {
         extend_by_push(self, items)
     }
 
-    /// Adds the slots of another builder, all of them or none.
+    /// Appends the slots of another builder: all of them, or none on error.
     ///
     /// # Errors
-    /// `ItemType` where the data types differ; `Memory`.
+    /// `ItemType` if the data types differ, `Memory` if an allocation fails.
     pub fn try_extend_from_self(&mut self, other: &MutablePrimitiveArray<T>) -> Result<(), Error>
         ensures parts { OnOk result (self.new ≡ joined_parts self.old other.now) }
         ensures slots { OnOk result (slots_of self.new ≡ slots_of self.old ++ slots_of other.now) }
@@ -165,7 +164,7 @@ impl<T: NativeType> MutablePrimitiveArray<T> {
     {
         let same_type = *self.data_type() == *other.data_type();
         if !same_type {
-            return Err(Error::InvalidArgumentError(Argument::ItemType));
+            return Err(Error::InvalidArgumentError(ArgumentError::ItemType));
         }
         self.append(other)
     }
@@ -188,11 +187,11 @@ impl<T: NativeType> MutablePrimitiveArray<T> {
         Ok(())
     }
 
-    /// Keeps the first n slots.
+    /// Keeps the first `n` slots and drops the rest.
     pub fn truncate(&mut self, n: usize)
         requires { n ≤ len self.old }
-        ensures parts { self.new ≡ cut_layout self.old 0 n }
-        ensures slots { slots_of self.new ≡ cut (slots_of self.old) 0 n }
+        ensures parts { self.new ≡ slice_layout self.old 0 n }
+        ensures slots { slots_of self.new ≡ sublist (slots_of self.old) 0 n }
         ensures same_type { layout_type self.new ≡ layout_type self.old }
     {
         self.cut(n);
@@ -200,16 +199,16 @@ impl<T: NativeType> MutablePrimitiveArray<T> {
 
     fn cut(&mut self, n: usize)
         requires { n ≤ len self.old }
-        ensures { self.new ≡ cut_layout self.old 0 n }
+        ensures { self.new ≡ slice_layout self.old 0 n }
     {
         self.values.truncate(n);
         validity::truncate(&mut self.validity, n);
     }
 
-    /// Room for so many slots more.
+    /// Reserves capacity for `additional` more slots.
     ///
     /// # Errors
-    /// `Memory`.
+    /// `Memory` if an allocation fails.
     pub fn reserve(&mut self, additional: usize) -> Result<(), Error>
         ensures same { self.new ≡ self.old }
         ensures memory { IsOkUnless result (Memory alloc_error) }
@@ -218,7 +217,7 @@ impl<T: NativeType> MutablePrimitiveArray<T> {
         validity::reserve(&mut self.validity, additional)
     }
 
-    /// Gives back memory that holds no slot, where a smaller block is there.
+    /// Releases unused capacity if smaller blocks can be allocated.
     pub fn shrink_to_fit(&mut self)
         ensures { self.new ≡ self.old }
     {
@@ -226,11 +225,10 @@ impl<T: NativeType> MutablePrimitiveArray<T> {
         validity::shrink_to_fit(&mut self.validity);
     }
 
-    /// The array of the slots. The builder keeps its data type and has no slot and no validity then, also where this
-    /// answers `Err`.
+    /// Returns the array of the slots and empties the builder, also on error. The data type is kept.
     ///
     /// # Errors
-    /// `Memory`.
+    /// `Memory` if an allocation fails.
     pub fn freeze(&mut self) -> Result<PrimitiveArray<T>, Error>
         ensures ok { IfOk result (λ a. a ≡ self.old) }
         ensures emptied { self.new ≡ layouts.primitive T.PRIMITIVE (layout_type self.old) [] None }
@@ -273,13 +271,13 @@ impl<T: NativeType> Grow<Option<T>> for MutablePrimitiveArray<T> {
         Ok(())
     }
 
-    fn take_back(&mut self, n: usize, masked: bool) {
+    fn rollback(&mut self, n: usize, masked: bool) {
         self.values.truncate(n);
-        validity::take_back(&mut self.validity, n, masked);
+        validity::rollback(&mut self.validity, n, masked);
     }
 }
 
-/// The raw value of an item: the one whose numbers are all 0 under a null.
+/// Returns the raw value of an item: zero for a null.
 fn value_or_zero<T: NativeType>(item: Option<T>) -> T
     ensures { T.numbers result ≡ unwrap_or (option_map T.numbers item) (zeros T.PRIMITIVE) }
 {

@@ -1,4 +1,4 @@
-//! Arrays of native values that are null, and such arrays without a slot.
+//! Empty and all-null primitive arrays.
 ghost use Rattle.std.specs.Prelude.{◌≡◌, IfOk, IsOkUnless, MatchResult, None, alloc_error};
 ghost use Rattle.nest_memory.specs.declared.datatypes.physical_type.PhysicalType.TheVariants as physical;
 ghost use Rattle.nest_flat.specs.Words.{AcceptsKind, HasNone, HasNulls, Memory, RefusesKind, null_array, physical_type, type_of};
@@ -8,13 +8,16 @@ use crate::validity;
 use nest_memory::buffer::Buffer;
 use nest_memory::datatypes::DataType;
 use nest_memory::datatypes::physical_type::PhysicalType;
-use nest_memory::error::{Error, Spec};
+use nest_memory::error::{Error, SpecError};
 use nest_memory::types::NativeType;
 use nest_model::fill::Fill;
 use std::alloc::Global;
 
 impl<T: NativeType> PrimitiveArray<T> {
-    /// The array without a slot. `WrongType` where the data type is no type of such values.
+    /// Returns an empty array.
+    ///
+    /// # Errors
+    /// `WrongType` if the data type is not stored as `T`, `Memory` if an allocation fails.
     pub fn new_empty(alloc: Global, data_type: DataType) -> Result<PrimitiveArray<T>, Error>
         ensures { let t = type_of data_type in MatchResult result
             (λ a. AcceptsKind (physical.Primitive T.PRIMITIVE) t None × HasNone t a)
@@ -23,7 +26,10 @@ impl<T: NativeType> PrimitiveArray<T> {
         PrimitiveArray::checked(alloc, data_type, 0, Fill::Nothing)
     }
 
-    /// The array of `length` nulls, whose raw values are zeros. `WrongType` where the data type is no type of such values.
+    /// Returns an array of `length` nulls, whose raw values are zero.
+    ///
+    /// # Errors
+    /// `WrongType` if the data type is not stored as `T`, `Memory` if an allocation fails.
     pub fn new_null(
         alloc: Global,
         data_type: DataType,
@@ -36,7 +42,7 @@ impl<T: NativeType> PrimitiveArray<T> {
         PrimitiveArray::checked(alloc, data_type, length, Fill::Nulls)
     }
 
-    // The same as `of_nulls`, once the type is known to be of such values.
+    // Checks the data type, then calls `of_nulls`.
     fn checked(
         alloc: Global,
         data_type: DataType,
@@ -49,15 +55,18 @@ impl<T: NativeType> PrimitiveArray<T> {
     {
         if data_type.to_physical_type() != PhysicalType::Primitive(T::PRIMITIVE) {
             drop(data_type);
-            return Err(Error::OutOfSpec(Spec::WrongType));
+            return Err(Error::OutOfSpec(SpecError::WrongType));
         }
         let array = PrimitiveArray::of_nulls(alloc, &data_type, length, fill);
         drop(data_type);
         array
     }
 
-    /// What `new_empty` and `new_null` share, of a type of such values: `length` raw zeros.
-    /// Of nulls none is valid; of nothing there is no validity.
+    /// Returns an array of `length` zeros. With `Fill::Nulls` every slot is null; with `Fill::Nothing` there is no
+    /// validity. Shared by `new_empty` and `new_null`.
+    ///
+    /// # Errors
+    /// `Memory` if an allocation fails.
     pub fn of_nulls(
         alloc: Global,
         data_type: &DataType,

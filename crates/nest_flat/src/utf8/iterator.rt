@@ -1,4 +1,4 @@
-//! The slots and the raw values of an array of texts, from both ends.
+//! Iterators over the slots and the raw values of a UTF-8 array.
 ghost use Rattle.std.specs.Prelude.{◌≡◌, ◌<◌, None, ⊤};
 ghost use Rattle.nest_model.specs.Slot as slots;
 ghost use Rattle.nest_flat.specs.Texts.{IsTextOf};
@@ -11,10 +11,10 @@ use nest_memory::datatypes::DataType;
 use nest_memory::offset::Offset;
 use std::alloc::AllocError;
 
-/// The items of an array's slots, `None` where one is null.
+/// Iterator over the slots of an array, `None` for nulls.
 pub type Utf8Iter<'a, O> = SlotsIter<Utf8Slots<'a, O>>;
 
-/// The raw values of an array, also those under nulls.
+/// Iterator over the raw values of an array, including those of null slots.
 pub type Utf8ValuesIter<'a, O> = SlotsIter<Utf8Values<'a, O>>;
 
 impl<'a, O: Offset> FlatArray for &'a Utf8Array<O> {
@@ -22,7 +22,7 @@ impl<'a, O: Offset> FlatArray for &'a Utf8Array<O> {
 
     ghost layout = { λ s. s.now };
 
-    ghost slot_of_value = { λ x. slots.text x.now };
+    ghost slot_of_value = { λ x. slots.utf8 x.now };
 
     fn type_of_slots(&self) -> &DataType {
         self.data_type()
@@ -53,13 +53,14 @@ impl<'a, O: Offset> FlatArray for &'a Utf8Array<O> {
     }
 }
 
-/// How many slots have their texts tested together.
+/// The number of slots whose strings are validated together.
 const BLOCK: usize = 64;
 
-/// The raw values of an array of texts, also those under nulls. Those of slots next to one another are tested as one text, of which each is a part.
+/// The raw values of a UTF-8 array, including those of null slots. A block of neighbouring slots is validated as one
+/// string, which is then split into their values.
 pub struct Utf8Values<'a, O: Offset> {
     array: &'a Utf8Array<O>,
-    // the text of the slots from `first` on, before `end`
+    // the string of slots `first..end`
     text: &'a str,
     first: usize,
     end: usize,
@@ -79,7 +80,7 @@ impl<'a, O: Offset> Clone for Utf8Values<'a, O> {
 }
 
 impl<'a, O: Offset> Utf8Values<'a, O> {
-    /// Before any text was tested.
+    /// Returns a source without a validated block.
     fn new(array: &'a Utf8Array<O>) -> Utf8Values<'a, O>
         ensures { result.array.now ≡ array.now }
     {
@@ -91,7 +92,7 @@ impl<'a, O: Offset> Utf8Values<'a, O> {
         }
     }
 
-    /// With the texts of slot i and of those near it tested.
+    /// Returns a source whose validated block contains slot `i`.
     fn near(self, i: usize) -> Utf8Values<'a, O>
         requires { i < len self.array.now }
         ensures { result.array.now ≡ self.entry.array.now }
@@ -117,7 +118,7 @@ impl<'a, O: Offset> SlotItems for Utf8Values<'a, O> {
 
     ghost array = { λ s. with_validity s.array.now None };
 
-    ghost slot_of_item = { λ x. slots.text x.now };
+    ghost slot_of_item = { λ x. slots.utf8 x.now };
 
     fn count(&self) -> usize {
         Values(self.array).count()
@@ -135,7 +136,7 @@ impl<'a, O: Offset> SlotItems for Utf8Values<'a, O> {
     }
 }
 
-/// The slots of an array of texts, `None` where one is null.
+/// The slots of a UTF-8 array, `None` for nulls.
 #[derive(Clone, Copy)]
 pub struct Utf8Slots<'a, O: Offset> {
     values: Utf8Values<'a, O>,
@@ -147,7 +148,7 @@ impl<'a, O: Offset> SlotItems for Utf8Slots<'a, O> {
 
     ghost array = { λ s. s.values.array.now };
 
-    ghost slot_of_item = { optional (λ x. slots.text x.now) };
+    ghost slot_of_item = { optional (λ x. slots.utf8 x.now) };
 
     fn count(&self) -> usize {
         Slots(self.values.array).count()
@@ -168,7 +169,7 @@ impl<'a, O: Offset> SlotItems for Utf8Slots<'a, O> {
 }
 
 impl<O: Offset> Utf8Array<O> {
-    /// The items of its slots, from both ends.
+    /// Returns a double-ended iterator over the slots.
     pub fn iter(&self) -> Utf8Iter<'_, O>
         ensures { result ≡ slots_of self.now }
     {
@@ -177,7 +178,7 @@ impl<O: Offset> Utf8Array<O> {
         })
     }
 
-    /// Its raw values, from both ends.
+    /// Returns a double-ended iterator over the raw values.
     pub fn values_iter(&self) -> Utf8ValuesIter<'_, O>
         ensures { result ≡ slots_of (with_validity self.now None) }
     {

@@ -1,10 +1,10 @@
-//! The builder of arrays of texts.
+//! A builder of UTF-8 arrays.
 ghost use Rattle.std.specs.Prelude.{◌≡◌, ◌≢◌, ◌↔◌, ◌⊎◌, ◌+◌, ◌≤◌, ◌<◌, ◌++◌, ◌∷◌, [], ℕ, List, Option, IsTrue, IfOk, IfErr, OnOk, OnErr, IsErrOf, IsOkUnless, None, length, option_map, alloc_error, IsUtf8};
 ghost use Rattle.std.specs.Borrow.{Bor};
 ghost use Rattle.std.specs.Option.{option_copied};
 ghost use Rattle.nest_model.specs.Layout as layouts;
 ghost use Rattle.nest_model.specs.Slot as slots;
-ghost use Rattle.nest_flat.specs.Words.{AreSpans, CanDrain, Extended, Gives, InvalidArgumentError, ItemType, Memory, Overflow, RefusesBeginning, TopFits, begin, bytes_held, bytes_of, cut, extent, first_slots, is_masked, item_bytes, item_refusal, joined_spans, last_of, layout_type, len, offsets_of, optional, physical_type, pushed_item, slot, slots_of, spans_of, taken_back, text_of_width, text_tree, type_of, valid_at, validity_of, where_valid, with_spans};
+ghost use Rattle.nest_flat.specs.Words.{AreSpans, BytesExtended, CanDrain, InvalidArgumentError, ItemType, Memory, Overflow, RefusesBeginning, TopFits, YieldsAll, begin, bytes_held, bytes_of, extent, first_slots, is_masked, item_bytes, item_refusal, joined_spans, last_of, layout_type, len, offsets_of, optional, physical_type, pushed_item, rolled_back, slot, slots_of, spans_of, sublist, text_tree, type_of, utf8_of_width, valid_at, validity_of, where_valid, with_spans};
 
 use crate::growth::bytes::BytesBuilder;
 use crate::growth::extend::{Grow, extend_by_push};
@@ -12,17 +12,16 @@ use crate::spans;
 use crate::utf8::Utf8Array;
 use nest_memory::bitmap::mutable::MutableBitmap;
 use nest_memory::datatypes::DataType;
-use nest_memory::error::{Argument, Error};
+use nest_memory::error::{ArgumentError, Error};
 use nest_memory::offset::Offset;
 use nest_memory::offsets::Offsets;
 use std::alloc::Global;
 use std::marker::Model;
 
-/// Texts and nulls that are pushed one after another, and then frozen into a `Utf8Array`.
-/// arrow2's `MutableUtf8Array`.
+/// A builder of a `Utf8Array`, as arrow2's `MutableUtf8Array`.
 ///
-/// A null has no bytes. A validity is made at the first null. A call that answers `Err` changes nothing, but for
-/// `freeze`, which empties the builder either way.
+/// A null has no bytes. The validity is allocated at the first null. A call that returns an error changes nothing,
+/// except `freeze`, which always empties the builder.
 #[derive(Drop)]
 pub struct MutableUtf8Array<O: Offset> {
     data_type: DataType,
@@ -40,15 +39,15 @@ impl<O: Offset> Model for MutableUtf8Array<O> {
 
     ghost use Rattle.std.specs.Prelude.{◌≡◌};
     ghost use Rattle.nest_memory.specs.TypeOf.{type_of};
-    ghost use Rattle.nest_memory.specs.Physical.{physical_type, text_of_width};
-    ghost use Rattle.nest_model.specs.Fits.{EachText};
+    ghost use Rattle.nest_memory.specs.Physical.{physical_type, utf8_of_width};
+    ghost use Rattle.nest_model.specs.Fits.{EachUtf8};
 
-    ghost view = { λ b. layouts.text O.IS_LARGE (type_of b.data_type) b.spans.offsets b.spans.bytes b.spans.validity };
+    ghost view = { λ b. layouts.utf8 O.IS_LARGE (type_of b.data_type) b.spans.offsets b.spans.bytes b.spans.validity };
 
-    ghost invariant = { λ b. (physical_type (type_of b.data_type) ≡ text_of_width O.IS_LARGE) × EachText b.spans.offsets b.spans.bytes };
+    ghost invariant = { λ b. (physical_type (type_of b.data_type) ≡ utf8_of_width O.IS_LARGE) × EachUtf8 b.spans.offsets b.spans.bytes };
 }
 
-// The type of such arrays by the width of their offsets.
+// Returns the data type for the width of the offsets.
 fn type_of_width<O: Offset>() -> DataType
     ensures { type_of result ≡ text_tree O.IS_LARGE }
 {
@@ -59,7 +58,7 @@ fn type_of_width<O: Offset>() -> DataType
     }
 }
 
-// The bytes of a text.
+// Returns the bytes of a string.
 fn bytes_of(item: Option<&str>) -> Option<&[u8]>
     ensures same { option_copied result ≡ option_copied item.entry }
     ensures text { IsUtf8 (item_bytes (option_copied item.entry)) }
@@ -71,12 +70,12 @@ fn bytes_of(item: Option<&str>) -> Option<&[u8]>
 }
 
 impl<O: Offset> MutableUtf8Array<O> {
-    /// No slot, of the type `LargeUtf8` or `Utf8` by the width of the offsets.
+    /// Returns an empty builder of `LargeUtf8` or `Utf8`, by the width of the offsets.
     ///
     /// # Errors
-    /// `Memory`.
+    /// `Memory` if an allocation fails.
     pub fn new(alloc: Global) -> Result<MutableUtf8Array<O>, Error>
-        ensures ok { IfOk result (λ b. b ≡ layouts.text O.IS_LARGE (text_tree O.IS_LARGE) (0 ∷ []) [] None) }
+        ensures ok { IfOk result (λ b. b ≡ layouts.utf8 O.IS_LARGE (text_tree O.IS_LARGE) (0 ∷ []) [] None) }
         ensures memory { IsOkUnless result (Memory alloc_error) }
     {
         let spans = BytesBuilder::new(alloc)?;
@@ -86,10 +85,10 @@ impl<O: Offset> MutableUtf8Array<O> {
         })
     }
 
-    /// What holds of every such builder.
+    /// States the invariant of the builder. Does nothing at run time.
     pub fn known(&self)
         ensures fits { TopFits self.now }
-        ensures kind { self.now ≡ layouts.text O.IS_LARGE (layout_type self.now) (offsets_of self.now) (bytes_of self.now) (validity_of self.now) }
+        ensures kind { self.now ≡ layouts.utf8 O.IS_LARGE (layout_type self.now) (offsets_of self.now) (bytes_of self.now) (validity_of self.now) }
         ensures spans { AreSpans (spans_of self.now) }
         ensures held { bytes_held (slots_of self.now) ≡ last_of (offsets_of self.now) }
         ensures room { last_of (offsets_of self.now) ≤ O.largest }
@@ -98,49 +97,49 @@ impl<O: Offset> MutableUtf8Array<O> {
         self.spans.known();
     }
 
-    /// How many slots it has.
+    /// Returns the number of slots.
     pub fn len(&self) -> usize
         ensures { result ≡ len self.now }
     {
         self.spans.len()
     }
 
-    /// Whether it has no slot.
+    /// Returns whether the array has no slots.
     pub fn is_empty(&self) -> bool
         ensures { IsTrue result ↔ (len self.now ≡ 0) }
     {
         self.len() == 0
     }
 
-    /// Its data type.
+    /// Returns the data type.
     pub fn data_type(&self) -> &DataType
         ensures { type_of result.now ≡ layout_type self.now }
     {
         &self.data_type
     }
 
-    /// Which slots are valid, a bit a slot; without it all are.
+    /// Returns the validity bitmap: one bit per slot, 1 if valid. `None` means that every slot is valid.
     pub fn validity(&self) -> Option<&MutableBitmap>
         ensures { option_map (λ b. b.now) result ≡ validity_of self.now }
     {
         self.spans.validity()
     }
 
-    /// Where the bytes of each slot begin and end.
+    /// Returns the offsets: slot `i` has the bytes from offset `i` to offset `i + 1`.
     pub fn offsets(&self) -> &Offsets<O>
         ensures { result.now ≡ offsets_of self.now }
     {
         self.spans.offsets()
     }
 
-    /// Its bytes.
+    /// Returns the bytes.
     pub fn values(&self) -> &Vec<u8>
         ensures { result.now.items ≡ bytes_of self.now }
     {
         self.spans.bytes()
     }
 
-    /// Whether slot i is not null.
+    /// Returns whether slot `i` is valid.
     pub fn is_valid(&self, i: usize) -> bool
         requires { i < len self.now }
         ensures { result ≡ valid_at (validity_of self.now) i }
@@ -148,22 +147,22 @@ impl<O: Offset> MutableUtf8Array<O> {
         self.spans.is_valid(i)
     }
 
-    /// The raw value of slot i: an empty text where the slot is null.
+    /// Returns the raw value of slot `i`: an empty string where the slot is null.
     pub fn value(&self, i: usize) -> &str
         requires { i < len self.now }
-        ensures raw { result.now ≡ cut (bytes_of self.now) (begin (offsets_of self.now) i) (extent (offsets_of self.now) i) }
-        ensures slot { slot self.now i ≡ where_valid (validity_of self.now) i (slots.text result.now) }
+        ensures raw { result.now ≡ sublist (bytes_of self.now) (begin (offsets_of self.now) i) (extent (offsets_of self.now) i) }
+        ensures slot { slot self.now i ≡ where_valid (validity_of self.now) i (slots.utf8 result.now) }
     {
         spans::text_of(self.spans.value(i))
     }
 
-    /// Adds a slot: the text, or null.
+    /// Appends a slot.
     ///
     /// # Errors
-    /// `Overflow` where no offset can stand for its end, `Memory`.
+    /// `Overflow` if the end of the slot exceeds the offset type, `Memory` if an allocation fails.
     pub fn try_push(&mut self, item: Option<&str>) -> Result<(), Error>
         ensures parts { OnOk result (self.new ≡ pushed_item self.old (option_copied item.entry)) }
-        ensures slots { OnOk result (slots_of self.new ≡ slots_of self.old ++ optional slots.text (option_copied item.entry) ∷ []) }
+        ensures slots { OnOk result (slots_of self.new ≡ slots_of self.old ++ optional slots.utf8 (option_copied item.entry) ∷ []) }
         ensures err { OnErr result (self.new ≡ self.old) }
         ensures same_type { layout_type self.new ≡ layout_type self.old }
         ensures overflow { IsErrOf result Overflow ↔ (O.largest < last_of (offsets_of self.old) + length (item_bytes (option_copied item.entry))) }
@@ -173,10 +172,12 @@ impl<O: Offset> MutableUtf8Array<O> {
         self.spans.try_push(bytes_of(item))
     }
 
-    /// Adds the slots of another builder, all of them or none.
+    /// Appends the slots of another builder: all of them, or none on error.
     ///
     /// # Errors
-    /// `ItemType` where the data types differ, `Overflow` where no offset can stand for the last end, `Memory`.
+    /// - `ItemType` if the data types differ,
+    /// - `Overflow` if the last end exceeds the offset type,
+    /// - `Memory` if an allocation fails.
     pub fn try_extend_from_self(&mut self, other: &MutableUtf8Array<O>) -> Result<(), Error>
         ensures parts { OnOk result (self.new ≡ with_spans self.old (joined_spans (spans_of self.old) (spans_of other.now))) }
         ensures slots { OnOk result (slots_of self.new ≡ slots_of self.old ++ slots_of other.now) }
@@ -189,7 +190,7 @@ impl<O: Offset> MutableUtf8Array<O> {
     {
         let same_type = *self.data_type() == *other.data_type();
         if !same_type {
-            return Err(Error::InvalidArgumentError(Argument::ItemType));
+            return Err(Error::InvalidArgumentError(ArgumentError::ItemType));
         }
         self.append(other)
     }
@@ -207,17 +208,17 @@ impl<O: Offset> MutableUtf8Array<O> {
         self.spans.try_extend_from_self(&other.spans)
     }
 
-    /// Adds a slot for each item, all of them or none.
+    /// Appends a slot for each item: all of them, or none on error.
     ///
     /// # Errors
-    /// `Overflow` where no offset can stand for the end of an item, `Memory`.
+    /// `Overflow` if the end of an item exceeds the offset type, `Memory` if an allocation fails.
     pub fn try_extend<'a, I: IntoIterator<Item = Option<&'a str>>>(
         &mut self,
         items: I,
     ) -> Result<(), Error>
         requires { CanDrain I.into_iter_gives I.IntoIter.can_next I.IntoIter.remaining items }
-        ensures ok { OnOk result ((xs : List (Option (Bor (List ℕ)))) × Gives I.into_iter_gives I.IntoIter.next_gives items xs
-            × Extended (λ a x. pushed_item a (option_copied x)) (λ a x. item_refusal O.largest a (option_copied x)) (λ x. optional slots.text (option_copied x)) xs self.old self.new) }
+        ensures ok { OnOk result ((xs : List (Option (Bor (List ℕ)))) × YieldsAll I.into_iter_gives I.IntoIter.next_gives items xs
+            × BytesExtended O.largest slots.utf8 xs self.old self.new) }
         ensures err { OnErr result (self.new ≡ self.old) }
         ensures same_type { layout_type self.new ≡ layout_type self.old }
         ensures cause { IfErr result (λ e. RefusesBeginning I.into_iter_gives I.IntoIter.next_gives
@@ -226,21 +227,21 @@ impl<O: Offset> MutableUtf8Array<O> {
         extend_by_push(self, items)
     }
 
-    /// Keeps the first n slots.
+    /// Keeps the first `n` slots and drops the rest.
     pub fn truncate(&mut self, n: usize)
         requires { n ≤ len self.old }
         ensures parts { self.new ≡ first_slots self.old n }
-        ensures slots { slots_of self.new ≡ cut (slots_of self.old) 0 n }
+        ensures slots { slots_of self.new ≡ sublist (slots_of self.old) 0 n }
         ensures same_type { layout_type self.new ≡ layout_type self.old }
     {
         self.spans.known();
-        self.spans.take_back(n, true);
+        self.spans.rollback(n, true);
     }
 
-    /// Room for so many slots more, but for their bytes.
+    /// Reserves capacity for `additional` more slots. Capacity for bytes is not reserved.
     ///
     /// # Errors
-    /// `Memory`.
+    /// `Memory` if an allocation fails.
     pub fn reserve(&mut self, additional: usize) -> Result<(), Error>
         ensures same { self.new ≡ self.old }
         ensures memory { IsOkUnless result (Memory alloc_error) }
@@ -248,21 +249,20 @@ impl<O: Offset> MutableUtf8Array<O> {
         self.spans.reserve(additional)
     }
 
-    /// Gives back memory that holds no slot, where a smaller block is there.
+    /// Releases unused capacity if smaller blocks can be allocated.
     pub fn shrink_to_fit(&mut self)
         ensures { self.new ≡ self.old }
     {
         self.spans.shrink_to_fit();
     }
 
-    /// The array of the slots. The builder keeps its data type and has no slot and no validity then, also where this
-    /// answers `Err`.
+    /// Returns the array of the slots and empties the builder, also on error. The data type is kept.
     ///
     /// # Errors
-    /// `Memory`.
+    /// `Memory` if an allocation fails.
     pub fn freeze(&mut self) -> Result<Utf8Array<O>, Error>
         ensures ok { IfOk result (λ a. a ≡ self.old) }
-        ensures emptied { self.new ≡ layouts.text O.IS_LARGE (layout_type self.old) (0 ∷ []) [] None }
+        ensures emptied { self.new ≡ layouts.utf8 O.IS_LARGE (layout_type self.old) (0 ∷ []) [] None }
         ensures memory { IsOkUnless result (Memory alloc_error) }
     {
         self.spans.known();
@@ -281,7 +281,7 @@ impl<O: Offset> MutableUtf8Array<O> {
 impl<'a, O: Offset> Grow<Option<&'a str>> for MutableUtf8Array<O> {
     ghost layout = { λ b. b };
 
-    ghost slot_of_item = { λ x. optional slots.text (option_copied x) };
+    ghost slot_of_item = { λ x. optional slots.utf8 (option_copied x) };
 
     ghost pushed = { λ a x. pushed_item a (option_copied x) };
 
@@ -295,7 +295,7 @@ impl<'a, O: Offset> Grow<Option<&'a str>> for MutableUtf8Array<O> {
 
     fn has_validity(&self) -> bool
         ensures masked { result ≡ is_masked self.now }
-        ensures whole { taken_back self.now (len self.now) (is_masked self.now) ≡ self.now }
+        ensures whole { rolled_back self.now (len self.now) (is_masked self.now) ≡ self.now }
     {
         self.spans.known();
         self.spans.validity().is_some()
@@ -306,11 +306,11 @@ impl<'a, O: Offset> Grow<Option<&'a str>> for MutableUtf8Array<O> {
         self.spans.try_push(bytes_of(item))
     }
 
-    fn take_back(&mut self, n: usize, masked: bool)
+    fn rollback(&mut self, n: usize, masked: bool)
         requires { n ≤ len self.old }
-        ensures { self.new ≡ taken_back self.old n masked }
+        ensures { self.new ≡ rolled_back self.old n masked }
     {
         self.spans.known();
-        self.spans.take_back(n, masked);
+        self.spans.rollback(n, masked);
     }
 }

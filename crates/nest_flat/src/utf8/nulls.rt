@@ -1,40 +1,47 @@
-//! Arrays of texts that are null, and such arrays without a slot.
+//! Empty and all-null UTF-8 arrays.
 ghost use Rattle.std.specs.Prelude.{◌≡◌, IfOk, IsOkUnless, MatchResult, None, alloc_error};
-ghost use Rattle.nest_flat.specs.Words.{AcceptsKind, Fills, HasNone, HasNulls, Memory, RefusesKind, text_of_width, empty_fault, fault_of, null_array, physical_type, type_fault, type_of};
+ghost use Rattle.nest_flat.specs.Words.{AcceptsKind, Fills, HasNone, HasNulls, IsNewArray, Memory, RefusesKind, utf8_of_width, empty_error, error_of, null_array, physical_type, type_error, type_of};
 
 use crate::utf8::{Utf8Array, physical};
 use crate::{spans, validity};
 use nest_memory::datatypes::DataType;
-use nest_memory::error::{Error, Spec};
+use nest_memory::error::{Error, SpecError};
 use nest_memory::offset::Offset;
 use nest_model::fill::Fill;
 use std::alloc::Global;
 
 impl<O: Offset> Utf8Array<O> {
-    /// The array without a slot. `WrongType` where the data type is none of texts with such offsets.
+    /// Returns an empty array.
+    ///
+    /// # Errors
+    /// `WrongType` if the data type is not UTF-8 with offsets of this width, `Memory` if an allocation fails.
     pub fn new_empty(alloc: Global, data_type: DataType) -> Result<Utf8Array<O>, Error>
         ensures { let t = type_of data_type in MatchResult result
-            (λ a. AcceptsKind (text_of_width O.IS_LARGE) t (empty_fault t) × HasNone t a)
-            (λ e. RefusesKind e (text_of_width O.IS_LARGE) t (empty_fault t)) }
+            (λ a. AcceptsKind (utf8_of_width O.IS_LARGE) t (empty_error t) × HasNone t a)
+            (λ e. RefusesKind e (utf8_of_width O.IS_LARGE) t (empty_error t)) }
     {
         Utf8Array::checked(alloc, data_type, 0, Fill::Nothing)
     }
 
-    /// The array of `length` nulls, over no byte. `WrongType` where the data type is none of texts with such offsets, then
-    /// `Overflow` where so many offsets and one pass a `usize`.
+    /// Returns an array of `length` nulls without bytes.
+    ///
+    /// # Errors
+    /// - `WrongType` if the data type is not UTF-8 with offsets of this width,
+    /// - `Overflow` if the `length + 1` offsets exceed a `usize`,
+    /// - `Memory` if an allocation fails.
     pub fn new_null(
         alloc: Global,
         data_type: DataType,
         length: usize,
     ) -> Result<Utf8Array<O>, Error>
-        ensures { let t = type_of data_type in MatchResult result
-            (λ a. AcceptsKind (text_of_width O.IS_LARGE) t (type_fault t length) × HasNulls t length a)
-            (λ e. RefusesKind e (text_of_width O.IS_LARGE) t (type_fault t length)) }
+        ensures { let t = type_of data_type in let k = utf8_of_width O.IS_LARGE in MatchResult result
+            (λ a. AcceptsKind k t (type_error t length) × HasNulls t length a)
+            (λ e. RefusesKind e k t (type_error t length)) }
     {
         Utf8Array::checked(alloc, data_type, length, Fill::Nulls)
     }
 
-    // The same as `of_nulls`, once the type and the length are known to fit.
+    // Checks the data type and the length, then calls `of_nulls`.
     fn checked(
         alloc: Global,
         data_type: DataType,
@@ -42,13 +49,12 @@ impl<O: Offset> Utf8Array<O> {
         fill: Fill,
     ) -> Result<Utf8Array<O>, Error>
         requires { Fills fill length }
-        ensures { let t = type_of data_type in MatchResult result
-            (λ a. AcceptsKind (text_of_width O.IS_LARGE) t (fault_of t length fill) × (a ≡ null_array t length fill))
-            (λ e. RefusesKind e (text_of_width O.IS_LARGE) t (fault_of t length fill)) }
+        ensures { let t = type_of data_type in let k = utf8_of_width O.IS_LARGE in MatchResult result
+            (λ a. IsNewArray k t length fill a) (λ e. RefusesKind e k t (error_of t length fill)) }
     {
         if data_type.to_physical_type() != physical::<O>() {
             drop(data_type);
-            return Err(Error::OutOfSpec(Spec::WrongType));
+            return Err(Error::OutOfSpec(SpecError::WrongType));
         }
         if length == usize::MAX {
             drop(data_type);
@@ -59,16 +65,19 @@ impl<O: Offset> Utf8Array<O> {
         array
     }
 
-    /// What `new_empty` and `new_null` share, of a type of texts: `length` slots over no byte.
-    /// Of nulls none is valid; of nothing there is no validity.
+    /// Returns an array of `length` slots without bytes. With `Fill::Nulls` every slot is null; with `Fill::Nothing`
+    /// there is no validity. Shared by `new_empty` and `new_null`.
+    ///
+    /// # Errors
+    /// `Memory` if an allocation fails.
     pub fn of_nulls(
         alloc: Global,
         data_type: &DataType,
         length: usize,
         fill: Fill,
     ) -> Result<Utf8Array<O>, Error>
-        requires kind { physical_type (type_of data_type.now) ≡ text_of_width O.IS_LARGE }
-        requires unrefused { fault_of (type_of data_type.now) length fill ≡ None }
+        requires kind { physical_type (type_of data_type.now) ≡ utf8_of_width O.IS_LARGE }
+        requires unrefused { error_of (type_of data_type.now) length fill ≡ None }
         requires valid { Fills fill length }
         ensures ok { IfOk result (λ a. a ≡ null_array (type_of data_type.now) length fill) }
         ensures err { IsOkUnless result (Memory alloc_error) }

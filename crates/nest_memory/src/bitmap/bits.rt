@@ -1,4 +1,4 @@
-//! Single bits of bytes, and runs of them. Bit k is bit k % 8 of byte k / 8, the least significant first.
+//! Reads, writes and counts bits of byte slices. Bit k is bit k % 8 of byte k / 8, the least significant first.
 ghost use Rattle.std.specs.Prelude.{◌≡◌, ◌≢◌, ℕ, ◌+◌, ◌*◌, ◌^◌, ◌<◌, ◌≤◌, length, nat_eq, OnOk, OnErr, count_by, not, IsOkUnless, alloc_error};
 ghost use Rattle.std.specs.Int.{bit_at};
 ghost use Rattle.nest_memory.specs.Bits.{bit, bits_from};
@@ -34,7 +34,7 @@ pub(crate) fn set_bit(bytes: &mut Vec<u8>, k: usize, value: bool)
     bytes[k / 8] = byte;
 }
 
-// Room for one bit more than n, which keeps the first n.
+// Makes room for one bit after the first n, which are kept.
 pub(crate) fn make_room(bytes: &mut Vec<u8>, n: usize) -> Result<(), AllocError>
     requires { n ≤ 8 * length bytes.old.items }
     ensures room { OnOk result (n < 8 * length bytes.new.items) }
@@ -48,7 +48,7 @@ pub(crate) fn make_room(bytes: &mut Vec<u8>, n: usize) -> Result<(), AllocError>
     Ok(())
 }
 
-// How many bytes hold n bits.
+// Returns the number of bytes that hold n bits.
 pub(crate) fn byte_count(n: usize) -> usize
     ensures enough { n ≤ 8 * result }
     ensures tight { 8 * result < n + 8 }
@@ -56,7 +56,7 @@ pub(crate) fn byte_count(n: usize) -> usize
     if n % 8 == 0 { n / 8 } else { n / 8 + 1 }
 }
 
-// The byte whose bits are all `value`.
+// Returns the byte whose bits are all `value`.
 fn filled_byte(value: bool) -> u8
     ensures { (i : ℕ) → i < 8 → nat_eq (bit_at result i) 1 ≡ value }
 {
@@ -66,7 +66,7 @@ fn filled_byte(value: bool) -> u8
     0
 }
 
-// Writes `value` into the bits from place `start`, at most seven.
+// Sets `count` bits, at most seven, from index `start` to `value`.
 fn set_bits(bytes: &mut Vec<u8>, start: usize, count: usize, value: bool)
     requires fits { start + count < 2 ^ 64 }
     requires within { start + count ≤ 8 * length bytes.old.items }
@@ -80,7 +80,7 @@ fn set_bits(bytes: &mut Vec<u8>, start: usize, count: usize, value: bool)
     }
 }
 
-// Appends bits of one value to the first n, whole bytes at a time.
+// Appends bits of one value to the first n, a byte at a time.
 pub(crate) fn extend_constant(
     bytes: &mut Vec<u8>,
     n: usize,
@@ -102,7 +102,7 @@ pub(crate) fn extend_constant(
     Ok(())
 }
 
-// How many of the bits from place `start` are 0, one by one.
+// Returns how many of the bits from index `start` are 0, counted bit by bit.
 fn unset_one_by_one(bytes: &[u8], start: usize, count: usize) -> usize
     requires fits { start + count < 2 ^ 64 }
     requires within { start + count ≤ 8 * length bytes.now }
@@ -117,7 +117,7 @@ fn unset_one_by_one(bytes: &[u8], start: usize, count: usize) -> usize
     unset
 }
 
-// The same of whole bytes.
+// Returns how many bits of the bytes from index `first` are 0.
 fn unset_in_bytes(bytes: &[u8], first: usize, count: usize) -> usize
     requires fits { 8 * count < 2 ^ 64 }
     requires within { first + count ≤ length bytes.now }
@@ -130,7 +130,7 @@ fn unset_in_bytes(bytes: &[u8], first: usize, count: usize) -> usize
     unset
 }
 
-// How many of `count` bits from place `start` are 0: whole bytes, and at either end the bits of a part of one.
+// Returns how many of `count` bits from index `start` are 0, a byte at a time except at both ends.
 pub(crate) fn unset_bits(bytes: &[u8], start: usize, count: usize) -> usize
     requires fits { start + count < 2 ^ 64 }
     requires within { start + count ≤ 8 * length bytes.now }

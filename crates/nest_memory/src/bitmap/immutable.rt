@@ -1,19 +1,19 @@
-//! A window of bits that several bitmaps share.
+//! A shared slice of bits.
 ghost use Rattle.std.specs.Prelude.{◌≡◌, ℕ, ◌+◌, ◌*◌, ◌<◌, ◌≤◌, ◌↔◌, ◌⊎◌, List, [], IfOk, IfErr, IfSome, IsErrOf, IsOkUnless, IsTrue, length, slice_get, Some, count_by, not, false, replicate, vec_len, alloc_error};
 ghost use Rattle.nest_memory.specs.Bits.{bits_from};
-ghost use Rattle.nest_memory.specs.Cut.{cut};
+ghost use Rattle.nest_memory.specs.Sublist.{sublist};
 ghost use Rattle.nest_memory.specs.declared.error.Error.TheVariants.{OutOfSpec, Memory};
-ghost use Rattle.nest_memory.specs.declared.error.Spec.TheVariants.{ValidityLength};
+ghost use Rattle.nest_memory.specs.declared.error.SpecError.TheVariants.{ValidityLength};
 
 use crate::bitmap::bits;
 use crate::bitmap::iterator::BitmapIter;
 use crate::bitmap::mutable::MutableBitmap;
-use crate::error::{Error, Spec};
+use crate::error::{Error, SpecError};
 use std::alloc::Global;
 use std::marker::Model;
 use std::rc::Rc;
 
-/// Bits that never change, in memory that its clones and cuts share. arrow2's `Bitmap`.
+/// An immutable bitmap, whose clones and slices share memory; arrow2's `Bitmap`.
 ///
 /// Bit i is bit i % 8 of byte i / 8, the least significant first ("Validity bitmaps" of the Arrow columnar format).
 #[derive(Drop)]
@@ -21,7 +21,7 @@ pub struct Bitmap {
     bytes: Rc<Vec<u8>>,
     offset: usize,
     len: usize,
-    // How many of the bits are 0, where that is known.
+    // The number of bits that are 0, if it is known.
     unset: Option<usize>,
 }
 
@@ -36,21 +36,22 @@ impl Model for Bitmap {
     ghost invariant = { λ b. (b.offset + b.len ≤ 8 * length b.bytes.value.items) × ((b.offset + b.len < 2 ^ 64) × IfSome b.unset (λ n. n ≡ count_by not (bits_from b.bytes.value.items b.offset b.len))) };
 }
 
-// So many bits that are cut off are counted at once, so that the unset bits of what is left stay known.
+// A slice that drops at most this many bits counts them, so that its number of unset bits stays known.
 const FEW: usize = 64;
 
 #[tactic(auto, using(crate::proofs::BitLists::bit_lists))]
 impl Bitmap {
-    /// The first `length` bits of `bytes`. `OutOfSpec(ValidityLength)` where the bytes have fewer.
+    /// Returns the first `length` bits of `bytes`. The bits that are 0 are counted once; clones keep the count.
     ///
-    /// The unset bits are counted once, in one pass over the bytes; clones keep the count.
+    /// # Errors
+    /// [`SpecError::ValidityLength`] where the bytes have fewer bits, and [`Error::Memory`] where an allocation fails.
     pub fn try_new(alloc: Global, bytes: Vec<u8>, length: usize) -> Result<Bitmap, Error>
         ensures ok { IfOk result (λ b. b ≡ bits_from bytes.items 0 length) }
         ensures short { IsErrOf result (OutOfSpec ValidityLength) ↔ (8 * vec_len bytes < length) }
         ensures errors { IfErr result (λ e. (e ≡ OutOfSpec ValidityLength) ⊎ (e ≡ Memory alloc_error)) }
     {
         if bytes.len().saturating_mul(8) < length {
-            return Err(Error::OutOfSpec(Spec::ValidityLength));
+            return Err(Error::OutOfSpec(SpecError::ValidityLength));
         }
         let unset = bits::unset_bits(bytes.as_slice(), 0, length);
         let bytes = Rc::new(alloc, bytes)?;
@@ -62,7 +63,7 @@ impl Bitmap {
         })
     }
 
-    /// One bit for each truth.
+    /// Returns a bitmap of one bit for each Boolean, or [`Error::Memory`] where an allocation fails.
     pub fn from_bools(alloc: Global, bools: &[bool]) -> Result<Bitmap, Error>
         ensures ok { IfOk result (λ b. b ≡ bools.now) }
         ensures err { IsOkUnless result (Memory alloc_error) }
@@ -74,7 +75,7 @@ impl Bitmap {
         bitmap.freeze()
     }
 
-    /// `length` bits that are 0.
+    /// Returns a bitmap of `length` bits that are 0, or [`Error::Memory`] where an allocation fails.
     pub fn new_zeroed(alloc: Global, length: usize) -> Result<Bitmap, Error>
         ensures ok { IfOk result (λ b. b ≡ replicate length false) }
         ensures err { IsOkUnless result (Memory alloc_error) }
@@ -84,21 +85,21 @@ impl Bitmap {
         bitmap.freeze()
     }
 
-    /// The number of bits.
+    /// Returns the number of bits.
     pub fn len(&self) -> usize
         ensures { result ≡ length self.now }
     {
         self.len
     }
 
-    /// Whether there is no bit.
+    /// Returns whether there are no bits.
     pub fn is_empty(&self) -> bool
         ensures { IsTrue result ↔ (self.now ≡ []) }
     {
         self.len == 0
     }
 
-    /// Bit `i`.
+    /// Returns bit `i`.
     pub fn get_bit(&self, i: usize) -> bool
         requires { i < length self.now }
         ensures { slice_get self.now i ≡ Some result }
@@ -106,8 +107,10 @@ impl Bitmap {
         bits::get_bit(self.bytes.as_slice(), self.offset + i)
     }
 
-    /// How many bits are 0. That is known of a bitmap that was never cut to a part of itself, of cuts of one where
-    /// none is 0, and of cuts that left out at most 64 bits; else they are counted at each call, by whole bytes.
+    /// Returns the number of bits that are 0.
+    ///
+    /// The number is stored for a bitmap that was never sliced, for a slice of one without zeros, and for a slice that
+    /// drops at most 64 bits. Otherwise each call counts it, a byte at a time.
     pub fn unset_bits(&self) -> usize
         ensures { result ≡ count_by not self.now }
     {
@@ -117,10 +120,10 @@ impl Bitmap {
         }
     }
 
-    // How many bits of a part are 0, where that is known at once.
+    // Returns the number of bits of a slice that are 0, if it is known without a full count.
     fn unset_of_part(&self, offset: usize, len: usize) -> Option<usize>
         requires { offset + len ≤ length self.now }
-        ensures { IfSome result (λ n. n ≡ count_by not (cut self.now offset len)) }
+        ensures { IfSome result (λ n. n ≡ count_by not (sublist self.now offset len)) }
     {
         let unset = self.unset?;
         if unset == 0 || len == self.len {
@@ -136,34 +139,34 @@ impl Bitmap {
         Some(unset - before - after)
     }
 
-    /// Keeps the `len` bits from place `offset`; no bit moves. Where at most 64 are left out, these are counted.
+    /// Slices the bitmap to `len` bits from index `offset`, without copying. At most 64 dropped bits are counted.
     pub fn slice(&mut self, offset: usize, len: usize)
         requires { offset + len ≤ length self.old }
-        ensures { self.new ≡ cut self.old offset len }
+        ensures { self.new ≡ sublist self.old offset len }
     {
         self.unset = self.unset_of_part(offset, len);
         self.offset += offset;
         self.len = len;
     }
 
-    /// The `len` bits from place `offset`; no bit moves.
+    /// Returns the slice of `len` bits from index `offset`, without copying.
     pub fn sliced(self, offset: usize, len: usize) -> Bitmap
         requires { offset + len ≤ length self }
-        ensures { result ≡ cut self offset len }
+        ensures { result ≡ sublist self offset len }
     {
         let mut cut = self;
         cut.slice(offset, len);
         cut
     }
 
-    /// The bits in order, from both ends.
+    /// Returns an iterator over the bits, from both ends.
     pub fn iter(&self) -> BitmapIter<'_>
         ensures { result ≡ self.now }
     {
         BitmapIter::new(self.bytes.as_slice(), self.offset, self.len)
     }
 
-    /// Another owner of the same bits; no bit is copied. `Memory` where the owners can't be counted.
+    /// Returns a bitmap that shares the bits, or [`Error::Memory`] where the reference count would overflow.
     pub fn clone(&self) -> Result<Bitmap, Error>
         ensures ok { IfOk result (λ b. b ≡ self.now) }
         ensures err { IsOkUnless result (Memory alloc_error) }

@@ -1,4 +1,4 @@
-//! The bits of a bitmap in order, from both ends.
+//! Iterators over the bits of a bitmap, from both ends.
 ghost use Rattle.std.specs.Prelude.{◌≡◌, ◌+◌, ◌*◌, ◌^◌, ◌<◌, ◌≤◌, length};
 ghost use Rattle.std.specs.Prelude.{Some, IfSome};
 ghost use Rattle.std.specs.Iterator.{at_most, UpTo};
@@ -8,7 +8,7 @@ ghost use Rattle.nest_memory.specs.Bits.{bits_from};
 use crate::bitmap::bits;
 use std::marker::Model;
 
-/// The bits of a bitmap that are still to come. arrow2's `BitmapIter`; it ends for good, and `len` is exact.
+/// An iterator over the bits of a bitmap; arrow2's `BitmapIter`. It is fused, and `len` is exact.
 #[derive(Drop)]
 pub struct BitmapIter<'a> {
     bytes: &'a [u8],
@@ -28,7 +28,7 @@ impl<'a> Model for BitmapIter<'a> {
 }
 
 impl<'a> BitmapIter<'a> {
-    /// The `len` bits of `bytes` from place `offset`.
+    /// Returns an iterator over the `len` bits of `bytes` from index `offset`.
     pub fn new(bytes: &'a [u8], offset: usize, len: usize) -> BitmapIter<'a>
         requires fits { offset + len < 2 ^ 64 }
         requires within { offset + len ≤ 8 * length bytes.now }

@@ -1,4 +1,4 @@
-//! Bits, one a place: validities and the values of boolean arrays.
+//! Bitmaps: validity bitmaps and the values of boolean arrays.
 
 mod bits;
 pub mod immutable;

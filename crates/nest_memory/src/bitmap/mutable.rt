@@ -1,4 +1,4 @@
-//! A bitmap that grows.
+//! A growable bitmap.
 ghost use Rattle.std.specs.Prelude.{◌≡◌, ℕ, ◌+◌, ◌^◌, ◌<◌, ◌≤◌, ◌↔◌, ◌⊎◌, List, [], ◌∷◌, ◌++◌, IfOk, IfErr, OnOk, OnErr, IsErrOf, IsOkUnless, IsTrue, length, slice_get, slice_set, Some, take, replicate, count_by, not, alloc_error};
 ghost use Rattle.nest_memory.specs.Bits.{bits_from};
 ghost use Rattle.nest_memory.specs.declared.error.Error.TheVariants.{Overflow, Memory};
@@ -11,10 +11,10 @@ use std::alloc::Global;
 use std::marker::Model;
 use std::mem;
 
-/// Bits that are set, pushed and cut off, and then frozen into a `Bitmap`. arrow2's `MutableBitmap`.
+/// A growable bitmap, which freezes into a [`Bitmap`]; arrow2's `MutableBitmap`.
 ///
-/// Bit i is bit i % 8 of byte i / 8, the least significant first. A call that answers `Err` changes no bit,
-/// but for `freeze`, which empties the bitmap either way.
+/// Bit i is bit i % 8 of byte i / 8, the least significant first. A call that returns `Err` changes no bit, except that
+/// `freeze` always empties the bitmap. Each `Result` is [`Error::Memory`] where an allocation fails.
 #[derive(Drop)]
 pub struct MutableBitmap {
     bytes: Vec<u8>,
@@ -34,7 +34,7 @@ impl Model for MutableBitmap {
 
 #[tactic(auto, using(crate::proofs::BitLists::bit_lists))]
 impl MutableBitmap {
-    /// No bit, and no memory taken.
+    /// Returns an empty bitmap, without allocation.
     pub fn new(alloc: Global) -> MutableBitmap
         ensures { result ≡ [] }
     {
@@ -44,7 +44,7 @@ impl MutableBitmap {
         }
     }
 
-    /// No bit, with room for `capacity` of them.
+    /// Returns an empty bitmap with room for `capacity` bits.
     pub fn with_capacity(alloc: Global, capacity: usize) -> Result<MutableBitmap, Error>
         ensures ok { IfOk result (λ b. b ≡ []) }
         ensures err { IsOkUnless result (Memory alloc_error) }
@@ -53,21 +53,21 @@ impl MutableBitmap {
         Ok(MutableBitmap { bytes, len: 0 })
     }
 
-    /// The number of bits.
+    /// Returns the number of bits.
     pub fn len(&self) -> usize
         ensures { result ≡ length self.now }
     {
         self.len
     }
 
-    /// Whether there is no bit.
+    /// Returns whether there are no bits.
     pub fn is_empty(&self) -> bool
         ensures { IsTrue result ↔ (self.now ≡ []) }
     {
         self.len == 0
     }
 
-    /// Bit `i`.
+    /// Returns bit `i`.
     pub fn get(&self, i: usize) -> bool
         requires { i < length self.now }
         ensures { slice_get self.now i ≡ Some result }
@@ -75,7 +75,7 @@ impl MutableBitmap {
         bits::get_bit(self.bytes.as_slice(), i)
     }
 
-    /// Writes bit `i`.
+    /// Sets bit `i` to `value`.
     pub fn set(&mut self, i: usize, value: bool)
         requires { i < length self.old }
         ensures { self.new ≡ slice_set self.old i value }
@@ -83,7 +83,10 @@ impl MutableBitmap {
         bits::set_bit(&mut self.bytes, i, value);
     }
 
-    /// One bit more. `Overflow` where the length would pass a `usize`.
+    /// Appends a bit.
+    ///
+    /// # Errors
+    /// [`Error::Overflow`] where the length would exceed `usize`.
     pub fn push(&mut self, value: bool) -> Result<(), Error>
         ensures ok { OnOk result (self.new ≡ self.old ++ value ∷ []) }
         ensures err { OnErr result (self.new ≡ self.old) }
@@ -99,7 +102,10 @@ impl MutableBitmap {
         Ok(())
     }
 
-    /// `additional` bits of one value more, written by whole bytes. `Overflow` where the length would pass a `usize`.
+    /// Appends `additional` bits of one value, a byte at a time.
+    ///
+    /// # Errors
+    /// [`Error::Overflow`] where the length would exceed `usize`.
     pub fn extend_constant(&mut self, additional: usize, value: bool) -> Result<(), Error>
         ensures ok { OnOk result (self.new ≡ self.old ++ replicate additional value) }
         ensures err { OnErr result (self.new ≡ self.old) }
@@ -114,7 +120,7 @@ impl MutableBitmap {
         Ok(())
     }
 
-    /// How many bits are 0, counted by whole bytes.
+    /// Returns the number of bits that are 0, counted a byte at a time.
     pub fn unset_bits(&self) -> usize
         ensures { result ≡ count_by not self.now }
     {
@@ -129,7 +135,7 @@ impl MutableBitmap {
         self.len = len;
     }
 
-    /// Room for `additional` bits more.
+    /// Reserves room for `additional` more bits.
     pub fn reserve(&mut self, additional: usize) -> Result<(), Error>
         ensures same { self.new ≡ self.old }
         ensures err { IsOkUnless result (Memory alloc_error) }
@@ -138,7 +144,7 @@ impl MutableBitmap {
         Ok(())
     }
 
-    /// Gives back memory that holds no bit, where a smaller block is there.
+    /// Frees unused capacity, if a smaller block can be allocated.
     pub fn shrink_to_fit(&mut self)
         ensures { self.new ≡ self.old }
     {
@@ -146,15 +152,14 @@ impl MutableBitmap {
         self.bytes.shrink_to_fit();
     }
 
-    /// The bits in order, from both ends.
+    /// Returns an iterator over the bits, from both ends.
     pub fn iter(&self) -> BitmapIter<'_>
         ensures { result ≡ self.now }
     {
         BitmapIter::new(self.bytes.as_slice(), 0, self.len)
     }
 
-    /// The bits as a `Bitmap`, which takes the memory over. The bitmap is empty afterwards, also where that
-    /// answers `Err`.
+    /// Moves the bits into a [`Bitmap`] without copying them. The bitmap is empty afterwards, also after an error.
     pub fn freeze(&mut self) -> Result<Bitmap, Error>
         ensures ok { IfOk result (λ b. b ≡ self.old) }
         ensures emptied { self.new ≡ [] }

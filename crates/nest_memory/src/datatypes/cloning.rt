@@ -1,4 +1,4 @@
-//! Copies of data types and fields, written out since a derived `clone` says nothing of a type that holds itself.
+//! Clones of data types and fields. A derived `clone` has no contract for a recursive type.
 ghost use Rattle.std.specs.Prelude.{◌≡◌, IfOk, IsOkUnless, alloc_error, option_map, string_bytes};
 ghost use Rattle.nest_memory.specs.TypeTree as types;
 ghost use Rattle.nest_memory.specs.TypeOf.{type_of, field_of, field_list_of, entries_of, text_of};
@@ -11,7 +11,10 @@ use std::alloc::{AllocError, Global};
 use std::collections::BTreeMap;
 
 impl DataType {
-    /// An equal data type of its own. Refused with `Memory` alone.
+    /// Returns a deep copy of the data type.
+    ///
+    /// # Errors
+    /// [`Error::Memory`] where an allocation fails.
     pub fn clone(&self, alloc: Global) -> Result<DataType, Error>
         ensures ok { IfOk result (λ t. type_of t ≡ type_of self.now) }
         ensures err { IsOkUnless result (Memory alloc_error) }
@@ -21,7 +24,10 @@ impl DataType {
 }
 
 impl Field {
-    /// An equal field of its own. Refused with `Memory` alone.
+    /// Returns a deep copy of the field.
+    ///
+    /// # Errors
+    /// [`Error::Memory`] where an allocation fails.
     pub fn clone(&self, alloc: Global) -> Result<Field, Error>
         ensures ok { IfOk result (λ f. field_of f ≡ field_of self.now) }
         ensures err { IsOkUnless result (Memory alloc_error) }
@@ -30,8 +36,8 @@ impl Field {
     }
 }
 
-// A type without parts, or with one box, is written where its result is wanted; the other types come by one place in
-// memory, which is cleared at each call. So what those need is cleared in functions of their own.
+// Types without parts, or with one box, are returned early. The others share one local, which is cleared at each call;
+// their own functions keep what is cleared small.
 #[cycle(cloning)]
 fn copy(alloc: Global, source: &DataType) -> Result<DataType, AllocError>
     ensures { IfOk result (λ t. type_of t ≡ type_of source.now) }
@@ -197,7 +203,7 @@ fn copy_ids(alloc: Global, ids: &Option<Vec<i32>>) -> Result<Option<Vec<i32>>, A
     }
 }
 
-// Most fields have none, and then no map is walked.
+// Most fields have no metadata; then the map is not iterated.
 #[inline]
 fn copy_metadata(alloc: Global, metadata: &Metadata) -> Result<Metadata, AllocError>
     ensures { IfOk result (λ m. entries_of m.entries ≡ entries_of metadata.now.entries) }
@@ -208,7 +214,7 @@ fn copy_metadata(alloc: Global, metadata: &Metadata) -> Result<Metadata, AllocEr
     Ok(copy_entries(metadata)?)
 }
 
-// On the map's own allocator, which is `Global` too.
+// The copy uses the allocator of the map, which is `Global` too.
 #[inline(never)]
 fn copy_entries(metadata: &Metadata) -> Result<Metadata, AllocError>
     ensures { IfOk result (λ m. entries_of m.entries ≡ entries_of metadata.now.entries) }

@@ -1,4 +1,4 @@
-//! From a data type to its logical and physical types, and from a number's kind to its data type.
+//! Conversions of data types to logical and physical types, and of native types to data types.
 ghost use Rattle.std.specs.Prelude.{◌≡◌};
 ghost use Rattle.nest_memory.specs.TypeOf.{type_of};
 ghost use Rattle.nest_memory.specs.TypeTree.{logical_type};
@@ -8,7 +8,7 @@ use crate::datatypes::physical_type::{PhysicalType, PrimitiveType};
 use crate::datatypes::{DataType, IntegerType, IntervalUnit};
 
 impl DataType {
-    /// The type without its outer extensions.
+    /// Returns the data type without its outer extension types.
     pub fn to_logical_type(&self) -> &DataType
         ensures { type_of result.now ≡ logical_type (type_of self.now) }
     {
@@ -18,7 +18,7 @@ impl DataType {
         }
     }
 
-    /// How the values of the logical type lie in memory.
+    /// Returns the physical type of the logical type.
     pub fn to_physical_type(&self) -> PhysicalType
         ensures { result ≡ physical_type (type_of self.now) }
     {
@@ -87,8 +87,9 @@ impl From<IntegerType> for DataType {
     }
 }
 
-/// The data type that stands for a kind of native values: the first of those with that physical type,
-/// and decimals of 32 digits, all after the point.
+/// Returns the default data type of a native type: the first one with that physical type.
+///
+/// Those of `Int128` and `Int256` are decimals of precision 32 and scale 32.
 impl From<PrimitiveType> for DataType {
     ghost from_gives = { λ primitive t. type_of t ≡ primitive_tree primitive };
 

@@ -1,4 +1,4 @@
-//! Data types and fields as text, by `Display` and `Debug` alike, in the forms of pyarrow. Nothing takes memory.
+//! `Display` and `Debug` of data types and fields, in the format of pyarrow, without allocation.
 ghost use Rattle.std.specs.Prelude.{◌≡◌, ◌++◌, codes, decimal, false, get_or, option_map, pos};
 ghost use Rattle.std.specs.Fmt.{WritesOnOk, signed_decimal};
 ghost use Rattle.nest_memory.specs.TypeOf.{field_list_of, field_of, text_of, type_of};
@@ -222,7 +222,7 @@ fn write_items<W: fmt::Write>(f: &mut Formatter<W>, head: &str, field: &Field) -
     f.write_str(">")
 }
 
-/// A map's key and value, or its entries' type where that is no struct of two fields.
+/// Writes a map type: its key and value, or the type of its entries if that is not a struct of two fields.
 #[cycle(texts)]
 fn write_map<W: fmt::Write>(f: &mut Formatter<W>, entries: &Field, sorted: bool) -> fmt::Result
     ensures { WritesOnOk W.write_str_gives f.old result (codes "map<" ++ text_of_entries sorted (field_of entries.now)) f.new }
@@ -245,7 +245,7 @@ fn is_pair(t: &DataType) -> bool
     }
 }
 
-/// The two fields of a struct; of anything else nothing.
+/// Writes the two fields of a struct, or nothing for any other type.
 #[cycle(texts)]
 fn write_pair<W: fmt::Write>(f: &mut Formatter<W>, t: &DataType) -> fmt::Result
     ensures { WritesOnOk W.write_str_gives f.old result (text_of_pair (type_of t.now)) f.new }
@@ -268,7 +268,7 @@ fn write_parts<W: fmt::Write>(f: &mut Formatter<W>, fields: &[Field]) -> fmt::Re
     write_part(f, "value", &fields[1])
 }
 
-/// The type of a map's key or value, and its name where that is not the usual one.
+/// Writes the type of a map's key or value, and its name if that is not the usual one.
 #[cycle(texts)]
 fn write_part<W: fmt::Write>(f: &mut Formatter<W>, usual: &str, field: &Field) -> fmt::Result
     ensures { WritesOnOk W.write_str_gives f.old result (text_of_part usual.now (field_of field.now)) f.new }
@@ -302,7 +302,7 @@ fn write_unusual<W: fmt::Write>(f: &mut Formatter<W>, usual: &str, name: &str) -
     f.write_str("')")
 }
 
-/// A field: its name, its type, and whether its values may not be null.
+/// Writes a field: its name, its type, and `not null` if it is not nullable.
 #[cycle(texts)]
 fn write_field<W: fmt::Write>(f: &mut Formatter<W>, field: &Field) -> fmt::Result
     ensures { WritesOnOk W.write_str_gives f.old result (text_of_field (field_of field.now)) f.new }
@@ -339,7 +339,7 @@ fn write_fields<W: fmt::Write>(f: &mut Formatter<W>, head: &str, fields: &[Field
     f.write_str(">")
 }
 
-/// The fields of a union, each with its type id.
+/// Writes the fields of a union, each with its type id.
 #[cycle(texts)]
 fn write_union<W: fmt::Write>(
     f: &mut Formatter<W>,
@@ -359,7 +359,7 @@ fn write_union<W: fmt::Write>(
     f.write_str(">")
 }
 
-/// The type id of field k: its own, or its position where there are no ids.
+/// Writes the type id of field `k`, which is `k` if there are no ids.
 fn write_id<W: fmt::Write>(f: &mut Formatter<W>, ids: &Option<Vec<i32>>, k: usize) -> fmt::Result
     ensures { WritesOnOk W.write_str_gives f.old result (signed_decimal (id_at (option_map (λ v. v.items) ids.now) k)) f.new }
 {

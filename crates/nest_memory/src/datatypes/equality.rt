@@ -1,4 +1,4 @@
-//! Equality of data types and fields: every part is compared, up to the first that differs.
+//! Equality of data types and fields. All parts are compared, up to the first difference.
 ghost use Rattle.std.specs.Prelude.{◌≡◌, ◌↔◌, IsTrue, option_map};
 ghost use Rattle.nest_memory.specs.TypeOf.{type_of, field_of, field_list_of, entries_of, text_of};
 

@@ -1,4 +1,4 @@
-//! The fields of nested data types.
+//! Fields of nested data types.
 ghost use Rattle.std.specs.Prelude.{◌≡◌, [], IfOk, IsOkUnless, alloc_error};
 ghost use Rattle.nest_memory.specs.declared.error.Error.TheVariants.{Memory};
 
@@ -7,20 +7,20 @@ use crate::error::Error;
 use std::alloc::Global;
 use std::collections::BTreeMap;
 
-/// What users attach to a field: texts by their keys.
+/// The custom metadata of a field: strings by key.
 pub type Metadata = BTreeMap<String, String>;
 
 /// A child of a nested data type, after `Field` of `Schema.fbs` of the Arrow format.
 #[cycle(types)]
 #[derive(Drop)]
 pub struct Field {
-    /// Its name, of which the format asks nothing.
+    /// The name; any string.
     pub name: String,
-    /// The type of its values.
+    /// The data type of the values.
     pub data_type: DataType,
-    /// Whether its values may be null.
+    /// Whether values may be null.
     pub is_nullable: bool,
-    /// What users attach to it.
+    /// The custom metadata.
     pub metadata: Metadata,
 }
 
@@ -28,8 +28,10 @@ impl Field {
     ghost use Rattle.nest_memory.specs.TypeTree.{field, field_type};
     ghost use Rattle.nest_memory.specs.TypeOf.{type_of, field_of};
 
-    /// A field of that name, type and nullable flag, without metadata. Refused with `Memory` alone;
-    /// then the data type is dropped.
+    /// Returns a field without metadata.
+    ///
+    /// # Errors
+    /// [`Error::Memory`] where an allocation fails; then the data type is dropped.
     pub fn new(
         alloc: Global,
         name: &str,
@@ -47,7 +49,7 @@ impl Field {
         })
     }
 
-    /// The type of its values.
+    /// Returns the data type of the values.
     pub fn data_type(&self) -> &DataType
         ensures { type_of result.now ≡ field_type (field_of self.now) }
     {

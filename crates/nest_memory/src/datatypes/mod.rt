@@ -1,4 +1,4 @@
-//! Data types, after `datatypes` of arrow2: logical types, physical types and fields.
+//! Logical types, physical types and fields, after `datatypes` of arrow2.
 mod cloning;
 mod conversion;
 mod display;
@@ -13,7 +13,7 @@ ghost use Rattle.nest_memory.specs.declared.datatypes.UnionMode.TheVariants.{Spa
 pub use field::{Field, Metadata};
 pub use physical_type::{PhysicalType, PrimitiveType};
 
-/// The unit of a time, of a duration or of a point in time.
+/// The unit of a time, a duration or a timestamp.
 #[derive(Clone, Copy, Debug, PartialEq, Eq)]
 pub enum TimeUnit {
     Second,
@@ -25,7 +25,7 @@ pub enum TimeUnit {
 /// The unit of a calendar interval.
 #[derive(Clone, Copy, Debug, PartialEq, Eq)]
 pub enum IntervalUnit {
-    /// Whole months.
+    /// Months.
     YearMonth,
     /// Days and milliseconds.
     DayTime,
@@ -33,7 +33,7 @@ pub enum IntervalUnit {
     MonthDayNano,
 }
 
-/// The types that a dictionary's keys may have.
+/// The integer types of dictionary keys.
 #[derive(Clone, Copy, Debug, PartialEq, Eq)]
 pub enum IntegerType {
     Int8,
@@ -46,17 +46,17 @@ pub enum IntegerType {
     UInt64,
 }
 
-/// How a union finds a slot's value.
+/// The mode of a union.
 #[derive(Clone, Copy, Debug, PartialEq, Eq)]
 pub enum UnionMode {
-    /// At an offset of the slot's own.
+    /// Each slot has an offset into the child of its type.
     Dense,
-    /// At the slot's own place.
+    /// A slot has the same index in the child of its type.
     Sparse,
 }
 
 impl UnionMode {
-    /// Whether the mode is `Sparse`.
+    /// Returns whether the mode is `Sparse`.
     pub fn is_sparse(&self) -> bool
         ensures { IsTrue result ↔ (self.now ≡ Sparse) }
     {
@@ -67,78 +67,78 @@ impl UnionMode {
     }
 }
 
-/// The logical types of arrays, after `Schema.fbs` of the Arrow format.
+/// The logical type of an array, after `Schema.fbs` of the Arrow format.
 #[cycle(types)]
 #[derive(Drop)]
 pub enum DataType {
-    /// Only nulls.
+    /// Nulls only.
     Null,
-    /// Truths, of one bit.
+    /// Booleans, of one bit each.
     Boolean,
-    /// Signed numbers of 8 bits.
+    /// Signed integers of 8 bits.
     Int8,
-    /// Signed numbers of 16 bits.
+    /// Signed integers of 16 bits.
     Int16,
-    /// Signed numbers of 32 bits.
+    /// Signed integers of 32 bits.
     Int32,
-    /// Signed numbers of 64 bits.
+    /// Signed integers of 64 bits.
     Int64,
-    /// Unsigned numbers of 8 bits.
+    /// Unsigned integers of 8 bits.
     UInt8,
-    /// Unsigned numbers of 16 bits.
+    /// Unsigned integers of 16 bits.
     UInt16,
-    /// Unsigned numbers of 32 bits.
+    /// Unsigned integers of 32 bits.
     UInt32,
-    /// Unsigned numbers of 64 bits.
+    /// Unsigned integers of 64 bits.
     UInt64,
-    /// Floats of 16 bits; no array of them exists here.
+    /// Floats of 16 bits, of which arrays are not implemented.
     Float16,
-    /// Floats of 32 bits; no array of them exists here.
+    /// Floats of 32 bits, of which arrays are not implemented.
     Float32,
-    /// Floats of 64 bits; no array of them exists here.
+    /// Floats of 64 bits, of which arrays are not implemented.
     Float64,
-    /// A count of units since 1970 in 64 bits, with a time zone where it has one.
+    /// Units since the epoch (1970-01-01) in 64 bits, with an optional time zone.
     Timestamp(TimeUnit, Option<String>),
-    /// Days since 1970, in 32 bits.
+    /// Days since the epoch, in 32 bits.
     Date32,
-    /// Milliseconds since 1970, in 64 bits.
+    /// Milliseconds since the epoch, in 64 bits.
     Date64,
-    /// A count of units since midnight, in 32 bits.
+    /// Units since midnight, in 32 bits.
     Time32(TimeUnit),
-    /// A count of units since midnight, in 64 bits.
+    /// Units since midnight, in 64 bits.
     Time64(TimeUnit),
-    /// A count of units, in 64 bits.
+    /// A number of units, in 64 bits.
     Duration(TimeUnit),
-    /// A span of the calendar.
+    /// A calendar interval.
     Interval(IntervalUnit),
-    /// Bytes, by offsets of 32 bits.
+    /// Bytes, with 32-bit offsets.
     Binary,
-    /// So many bytes in each slot.
+    /// Bytes; each slot has this many.
     FixedSizeBinary(usize),
-    /// Bytes, by offsets of 64 bits.
+    /// Bytes, with 64-bit offsets.
     LargeBinary,
-    /// UTF-8, by offsets of 32 bits.
+    /// UTF-8 strings, with 32-bit offsets.
     Utf8,
-    /// UTF-8, by offsets of 64 bits.
+    /// UTF-8 strings, with 64-bit offsets.
     LargeUtf8,
-    /// Lists of the field's values, by offsets of 32 bits.
+    /// Lists with 32-bit offsets, and the field of their items.
     List(Box<Field>),
-    /// Lists of so many of the field's values.
+    /// Lists of this many items each, and the field of the items.
     FixedSizeList(Box<Field>, usize),
-    /// Lists of the field's values, by offsets of 64 bits.
+    /// Lists with 64-bit offsets, and the field of their items.
     LargeList(Box<Field>),
-    /// Records of one value a field.
+    /// Structs of these fields.
     Struct(Vec<Field>),
-    /// One value of one of the fields. A slot names its field by an id, or by its position where there are no ids.
+    /// Unions of these fields, with optional type ids. Without ids, a field's type id is its position.
     Union(Vec<Field>, Option<Vec<i32>>, UnionMode),
-    /// Lists of entries, a struct of a key and a value, and whether the keys are sorted.
+    /// Maps: the field of the entries, which are structs of a key and a value, and whether the keys are sorted.
     Map(Box<Field>, bool),
-    /// Keys into values of a type, and whether the values are ordered.
+    /// Dictionary-encoded values: the type of the keys, that of the values, and whether the values are ordered.
     Dictionary(IntegerType, Box<DataType>, bool),
-    /// Decimal numbers of 128 bits: the digits in all, and those after the point.
+    /// Decimals of 128 bits: the precision and the scale, in digits.
     Decimal(usize, usize),
-    /// Decimal numbers of 256 bits: the digits in all, and those after the point.
+    /// Decimals of 256 bits: the precision and the scale, in digits.
     Decimal256(usize, usize),
-    /// A type of the user's: its name, the type that stores it, and its metadata.
+    /// An extension type: its name, its storage type and its metadata.
     Extension(String, Box<DataType>, Option<String>),
 }

@@ -1,4 +1,4 @@
-//! What a data type is made of. Each of these looks through extensions.
+//! The parts of a data type. Each method looks through extension types.
 ghost use Rattle.std.specs.Prelude.{◌≡◌, ◌↔◌, IsTrue, Some, option_map, unwrap_or, length};
 ghost use Rattle.nest_memory.specs.TypeOf.{type_of, field_of, field_list_of};
 ghost use Rattle.nest_memory.specs.TypeTree.{count_fields, fields_of, fixed_size, has_pairs, ids_of, is_dense, is_ordered, is_pair, item_field, item_type, key_type, mode_of, own_fields, size_of, value_type};
@@ -8,7 +8,7 @@ use crate::datatypes::field::Field;
 use crate::datatypes::{DataType, IntegerType, UnionMode};
 
 impl DataType {
-    /// The field of the items of a list of any kind, or of a map's entries.
+    /// Returns the field of the items of a list of any kind, or of the entries of a map.
     pub fn item_field(&self) -> Option<&Field>
         ensures field { option_map (λ f. field_of f.now) result ≡ item_field (type_of self.now) }
     {
@@ -22,7 +22,7 @@ impl DataType {
         }
     }
 
-    /// The type of the items of a list of any kind, or of a map's entries.
+    /// Returns the data type of the items of a list of any kind, or of the entries of a map.
     pub fn item_type(&self) -> Option<&DataType>
         ensures { option_map (λ t. type_of t.now) result ≡ item_type (type_of self.now) }
     {
@@ -36,7 +36,7 @@ impl DataType {
         }
     }
 
-    /// The number of bytes or items in each slot of a fixed-size binary or a fixed-size list.
+    /// Returns the number of bytes or items in each slot of a fixed-size binary or a fixed-size list.
     pub fn size(&self) -> Option<usize>
         ensures size { result ≡ fixed_size (type_of self.now) }
         ensures or_zero { unwrap_or result 0 ≡ size_of (type_of self.now) }
@@ -48,7 +48,7 @@ impl DataType {
         }
     }
 
-    /// The fields of a struct or a union; none of any other type.
+    /// Returns the fields of a struct or a union; none of any other type.
     pub fn fields(&self) -> &[Field]
         ensures fields { field_list_of result.now ≡ fields_of (type_of self.now) }
         ensures count { length result.now ≡ count_fields (fields_of (type_of self.now)) }
@@ -60,7 +60,7 @@ impl DataType {
         }
     }
 
-    /// The ids of a union's fields, where it has some.
+    /// Returns the type ids of a union, if it has any.
     pub fn union_ids(&self) -> Option<&[i32]>
         ensures { option_map (λ ids. ids.now) result ≡ ids_of (type_of self.now) }
     {
@@ -71,7 +71,7 @@ impl DataType {
         }
     }
 
-    /// The mode of a union.
+    /// Returns the mode of a union.
     pub fn union_mode(&self) -> Option<UnionMode>
         ensures mode { result ≡ mode_of (type_of self.now) }
         ensures dense { IsTrue (is_dense (type_of self.now)) ↔ (result ≡ Some Dense) }
@@ -83,7 +83,7 @@ impl DataType {
         }
     }
 
-    /// Whether this is a map whose entries are a struct of exactly two fields, no extension of one.
+    /// Returns whether this is a map whose entries are a struct of exactly two fields, and not an extension type.
     pub fn has_pairs(&self) -> bool
         ensures { result ≡ has_pairs (type_of self.now) }
     {
@@ -94,7 +94,7 @@ impl DataType {
         }
     }
 
-    /// Whether this is a struct, no extension of one, of exactly two fields.
+    /// Returns whether this is a struct of exactly two fields, and not an extension type.
     fn is_pair(&self) -> bool
         ensures { result ≡ is_pair (type_of self.now) }
     {
@@ -104,7 +104,7 @@ impl DataType {
         }
     }
 
-    /// The type of a dictionary's keys.
+    /// Returns the type of the keys of a dictionary.
     pub fn key_type(&self) -> Option<IntegerType>
         ensures { result ≡ key_type (type_of self.now) }
     {
@@ -115,7 +115,7 @@ impl DataType {
         }
     }
 
-    /// The type of a dictionary's values.
+    /// Returns the type of the values of a dictionary.
     pub fn value_type(&self) -> Option<&DataType>
         ensures { option_map (λ t. type_of t.now) result ≡ value_type (type_of self.now) }
     {
@@ -126,7 +126,7 @@ impl DataType {
         }
     }
 
-    /// Whether this is a dictionary whose values are ordered.
+    /// Returns whether this is a dictionary whose values are ordered.
     pub fn is_ordered(&self) -> bool
         ensures { result ≡ is_ordered (type_of self.now) }
     {
@@ -137,7 +137,7 @@ impl DataType {
         }
     }
 
-    /// The fields of a struct or a union, taken out of the type; `None` of any other type.
+    /// Returns the fields of a struct or a union, moved out of the type; `None` of any other type.
     pub fn into_fields(self) -> Option<Vec<Field>>
         ensures { option_map (λ fs. field_list_of fs.items) result ≡ own_fields (type_of self) }
     {

@@ -1,8 +1,8 @@
-//! How values lie in memory.
+//! Physical types: the memory layouts of arrays.
 
 use crate::datatypes::IntegerType;
 
-/// The kinds of native values.
+/// The native types of primitive arrays.
 #[derive(Clone, Copy, Debug, PartialEq, Eq)]
 pub enum PrimitiveType {
     Int8,
@@ -22,7 +22,7 @@ pub enum PrimitiveType {
     MonthDayNano,
 }
 
-/// The layouts of the Arrow format.
+/// The layouts of the Arrow columnar format.
 #[derive(Clone, Copy, Debug, PartialEq, Eq)]
 pub enum PhysicalType {
     Null,

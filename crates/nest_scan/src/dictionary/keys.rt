@@ -1,18 +1,18 @@
-//! The keys of dictionaries, as places of values, from both ends. They take no memory.
-use crate::places::{BothEnds, Places, PlacesIter};
+//! Iterators over the keys of dictionaries, as indices of values, without allocation.
+use crate::elements::{DoubleEnded, Elements, ElementsIter};
 use nest_array::DictionaryArray;
 
-/// The place that each raw key names, also under a null. It asks that each raw key names a value.
-pub type KeysValuesIter<'a> = PlacesIter<RawKeys<'a>>;
+/// An iterator over the raw keys, also under nulls. It requires that each raw key is the index of a value.
+pub type KeysValuesIter<'a> = ElementsIter<RawKeys<'a>>;
 
-/// The place that each key names, `None` where a key is null. No key under a null is read.
-pub type KeysIter<'a> = PlacesIter<ValidKeys<'a>>;
+/// An iterator over the keys, `None` for a null. Raw keys under nulls are not read.
+pub type KeysIter<'a> = ElementsIter<ValidKeys<'a>>;
 
 /// The raw keys of a dictionary.
 #[derive(Clone, Copy)]
 pub struct RawKeys<'a>(pub &'a DictionaryArray);
 
-impl<'a> Places for RawKeys<'a> {
+impl<'a> Elements for RawKeys<'a> {
     type Item = usize;
 
     ghost array = { λ s. s.0.now };
@@ -34,19 +34,19 @@ impl<'a> Places for RawKeys<'a> {
     }
 }
 
-impl<'a> BothEnds for RawKeys<'a> {}
+impl<'a> DoubleEnded for RawKeys<'a> {}
 
-/// The keys of a dictionary that are valid.
+/// The keys of a dictionary, `None` for a null.
 #[derive(Clone, Copy)]
 pub struct ValidKeys<'a>(pub &'a DictionaryArray);
 
-impl<'a> Places for ValidKeys<'a> {
+impl<'a> Elements for ValidKeys<'a> {
     type Item = Option<usize>;
 
     ghost array = { λ s. s.0.now };
 
     ghost use Rattle.nest_scan.specs.Items.{IsKey};
-    ghost use Rattle.nest_scan.specs.Places.{IsItemOrNull};
+    ghost use Rattle.nest_scan.specs.Elements.{IsItemOrNull};
 
     ghost IsItem = { IsItemOrNull IsKey };
 
@@ -63,4 +63,4 @@ impl<'a> Places for ValidKeys<'a> {
     }
 }
 
-impl<'a> BothEnds for ValidKeys<'a> {}
+impl<'a> DoubleEnded for ValidKeys<'a> {}

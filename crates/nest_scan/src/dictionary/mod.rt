@@ -1,14 +1,14 @@
-//! The values of dictionaries, from both ends.
+//! Iterators over dictionary arrays.
 mod keys;
 mod typed;
 
 ghost use Rattle.std.specs.Prelude.{◌≡◌};
 ghost use Rattle.nest_scan.specs.Items.{EachKeyNames};
-ghost use Rattle.nest_scan.specs.Places.{all_places};
+ghost use Rattle.nest_scan.specs.Elements.{all_elements};
 
-use crate::places::{BothEnds, PlacesIter};
+use crate::elements::{DoubleEnded, ElementsIter};
 use crate::scan::{Scan, ScanValues};
-use crate::tried::{Tried, TryPlaces};
+use crate::tried::{Tried, TryElements};
 pub use keys::{KeysIter, KeysValuesIter, RawKeys, ValidKeys};
 use nest_array::{AnyScalar, DictionaryArray};
 use nest_memory::error::Error;
@@ -17,13 +17,15 @@ pub use typed::{
     DictionaryIterTyped, DictionaryValuesIterTyped, ScanKeys, TextOffset, TypedOrNull, TypedValues,
 };
 
-/// What each raw key names, also under a null: arrow2's `DictionaryValuesIter`. It asks that each raw key names a value.
-pub type DictionaryValuesIter<'a> = PlacesIter<Tried<&'a DictionaryArray>>;
+/// An iterator over the value of each raw key, also under a null: arrow2's `DictionaryValuesIter`.
+///
+/// It requires that each raw key is the index of a value.
+pub type DictionaryValuesIter<'a> = ElementsIter<Tried<&'a DictionaryArray>>;
 
-/// What each key names, `None` where a key is null. No key under a null is read.
-pub type DictionaryIter<'a> = PlacesIter<Tried<KeyedOrNull<'a>>>;
+/// An iterator over the value of each key, `None` for a null. Raw keys under nulls are not read.
+pub type DictionaryIter<'a> = ElementsIter<Tried<KeyedOrNull<'a>>>;
 
-impl<'a> TryPlaces for &'a DictionaryArray {
+impl<'a> TryElements for &'a DictionaryArray {
     type Item = AnyScalar;
 
     ghost array = { λ s. s.now };
@@ -45,19 +47,19 @@ impl<'a> TryPlaces for &'a DictionaryArray {
     }
 }
 
-impl<'a> BothEnds for &'a DictionaryArray {}
+impl<'a> DoubleEnded for &'a DictionaryArray {}
 
-/// What the keys of a dictionary name, `None` where a key is null.
+/// The values of the keys of a dictionary, `None` for a null.
 #[derive(Clone, Copy)]
 pub struct KeyedOrNull<'a>(pub &'a DictionaryArray);
 
-impl<'a> TryPlaces for KeyedOrNull<'a> {
+impl<'a> TryElements for KeyedOrNull<'a> {
     type Item = Option<AnyScalar>;
 
     ghost array = { λ s. s.0.now };
 
     ghost use Rattle.nest_scan.specs.Items.{IsKeyed};
-    ghost use Rattle.nest_scan.specs.Places.{IsItemOrNull};
+    ghost use Rattle.nest_scan.specs.Elements.{IsItemOrNull};
 
     ghost IsItem = { IsItemOrNull IsKeyed };
 
@@ -77,15 +79,15 @@ impl<'a> TryPlaces for KeyedOrNull<'a> {
     }
 }
 
-impl<'a> BothEnds for KeyedOrNull<'a> {}
+impl<'a> DoubleEnded for KeyedOrNull<'a> {}
 
 impl<'a> Scan for &'a DictionaryArray {
     type Iter = DictionaryIter<'a>;
 
-    ghost Scans = { λ a it. it ≡ all_places a.now };
+    ghost Scans = { λ a it. it ≡ all_elements a.now };
 
     fn iter(self, alloc: Global) -> DictionaryIter<'a> {
-        PlacesIter::new(alloc, KeyedOrNull(self))
+        ElementsIter::new(alloc, KeyedOrNull(self))
     }
 }
 
@@ -94,9 +96,9 @@ impl<'a> ScanValues for &'a DictionaryArray {
 
     ghost CanScanValues = { λ a. EachKeyNames a.now };
 
-    ghost ScansValues = { λ a it. it ≡ all_places a.now };
+    ghost ScansValues = { λ a it. it ≡ all_elements a.now };
 
     fn values_iter(self, alloc: Global) -> DictionaryValuesIter<'a> {
-        PlacesIter::new(alloc, self)
+        ElementsIter::new(alloc, self)
     }
 }

@@ -1,31 +1,33 @@
-//! The texts of dictionaries whose values are texts, from both ends. They take no memory.
+//! Iterators over dictionaries of strings, without allocation.
 ghost use Rattle.std.specs.Prelude.{◌≡◌, MatchOption, MatchResult};
-ghost use Rattle.nest_memory.specs.declared.error.Argument.TheVariants.{ValuesType};
+ghost use Rattle.nest_memory.specs.declared.error.ArgumentError.TheVariants.{ValuesType};
 ghost use Rattle.nest_memory.specs.declared.error.Error.TheVariants.{InvalidArgumentError};
 ghost use Rattle.nest_model.specs.Accessors.{child_of};
 ghost use Rattle.nest_model.specs.Layout.{Layout};
 ghost use Rattle.nest_model.specs.Nullness.{null_count};
 ghost use Rattle.nest_array.specs.Seen.{layout_of};
 ghost use Rattle.nest_scan.specs.Items.{AreTexts, EachKeyNames};
-ghost use Rattle.nest_scan.specs.Places.{all_places};
+ghost use Rattle.nest_scan.specs.Elements.{all_elements};
 
 use crate::dictionary::keys::{KeysIter, KeysValuesIter, RawKeys, ValidKeys};
-use crate::places::{BothEnds, Places, PlacesIter};
+use crate::elements::{DoubleEnded, Elements, ElementsIter};
 use nest_array::{AnyArray, DictionaryArray};
 use nest_flat::utf8::Utf8Array;
-use nest_memory::error::{Argument, Error};
+use nest_memory::error::{ArgumentError, Error};
 use nest_memory::offset::Offset;
 use std::alloc::AllocError;
 
-/// The text of each slot, of keys and values without nulls: arrow2's `DictionaryValuesIterTyped`.
-pub type DictionaryValuesIterTyped<'a, O> = PlacesIter<TypedValues<'a, O>>;
+/// An iterator over the string of each slot, without nulls in keys and values: arrow2's `DictionaryValuesIterTyped`.
+pub type DictionaryValuesIterTyped<'a, O> = ElementsIter<TypedValues<'a, O>>;
 
-/// The text of each slot, `None` where a key is null, of values without nulls. No key under a null is read.
-pub type DictionaryIterTyped<'a, O> = PlacesIter<TypedOrNull<'a, O>>;
+/// An iterator over the string of each slot, `None` for a null key, without nulls in the values.
+///
+/// Raw keys under nulls are not read.
+pub type DictionaryIterTyped<'a, O> = ElementsIter<TypedOrNull<'a, O>>;
 
-/// An offset by which texts are found among arrays of any kind.
+/// An offset type with a downcast to the UTF-8 arrays of that type.
 pub trait TextOffset: Offset {
-    /// The array, where it is one of texts by such offsets.
+    /// Returns the array as a UTF-8 array with these offsets, `None` where it is of another type.
     fn texts(array: &AnyArray) -> Option<&Utf8Array<Self>>
         ensures { MatchOption result
             (AreTexts Self.IS_LARGE (layout_of array.now) → ⊥)
@@ -44,7 +46,7 @@ impl TextOffset for i64 {
     }
 }
 
-/// A dictionary of texts, of which each slot is one.
+/// The strings of the slots of a dictionary.
 pub struct TypedValues<'a, O: Offset> {
     keys: &'a DictionaryArray,
     values: &'a Utf8Array<O>,
@@ -65,7 +67,7 @@ impl<'a, O: Offset> Clone for TypedValues<'a, O> {
 
 impl<'a, O: Offset> Copy for TypedValues<'a, O> {}
 
-impl<'a, O: Offset> Places for TypedValues<'a, O> {
+impl<'a, O: Offset> Elements for TypedValues<'a, O> {
     type Item = &'a str;
 
     ghost array = { λ s. s.keys.now };
@@ -88,20 +90,20 @@ impl<'a, O: Offset> Places for TypedValues<'a, O> {
     }
 }
 
-impl<'a, O: Offset> BothEnds for TypedValues<'a, O> {}
+impl<'a, O: Offset> DoubleEnded for TypedValues<'a, O> {}
 
-/// A dictionary of texts, of which a slot is null where its key is.
+/// The strings of the slots of a dictionary, `None` for a null key.
 #[derive(Clone, Copy)]
 pub struct TypedOrNull<'a, O: Offset>(TypedValues<'a, O>);
 
-impl<'a, O: Offset> Places for TypedOrNull<'a, O> {
+impl<'a, O: Offset> Elements for TypedOrNull<'a, O> {
     type Item = Option<&'a str>;
 
     ghost array = { λ s. s.0.keys.now };
 
     ghost use Rattle.nest_model.specs.Accessors.{child_of};
     ghost use Rattle.nest_scan.specs.Items.{HasNoNull, IsText};
-    ghost use Rattle.nest_scan.specs.Places.{IsItemOrNull};
+    ghost use Rattle.nest_scan.specs.Elements.{IsItemOrNull};
 
     ghost Asks = { λ a. HasNoNull (child_of a) };
 
@@ -121,60 +123,66 @@ impl<'a, O: Offset> Places for TypedOrNull<'a, O> {
     }
 }
 
-impl<'a, O: Offset> BothEnds for TypedOrNull<'a, O> {}
+impl<'a, O: Offset> DoubleEnded for TypedOrNull<'a, O> {}
 
-/// A dictionary, whose keys are gone through.
+/// A dictionary array whose keys can be iterated.
 pub trait ScanKeys {
-    /// The dictionary.
+    /// The dictionary array.
     ghost keyed: { Self → Layout };
 
-    /// The places that its keys name, `None` where a key is null. No key under a null is read.
+    /// Returns an iterator over the keys, `None` for a null. Raw keys under nulls are not read.
     fn keys_iter(&self) -> KeysIter<'_>
-        ensures { result ≡ all_places (keyed self.now) };
+        ensures { result ≡ all_elements (keyed self.now) };
 
-    /// The places that its raw keys name, also under nulls.
+    /// Returns an iterator over the raw keys, also under nulls.
     fn keys_values_iter(&self) -> KeysValuesIter<'_>
         requires { EachKeyNames (keyed self.now) }
-        ensures { result ≡ all_places (keyed self.now) };
+        ensures { result ≡ all_elements (keyed self.now) };
 
-    /// Its texts, `None` where a key is null. `ValuesType` where the values are no texts by such offsets.
+    /// Returns an iterator over the strings, `None` for a null key.
+    ///
+    /// # Errors
+    /// `InvalidArgumentError(ValuesType)` where the values are not a UTF-8 array with these offsets.
     fn iter_typed<O: TextOffset>(&self) -> Result<DictionaryIterTyped<'_, O>, Error>
         requires { null_count (child_of (keyed self.now)) ≡ 0 }
-        ensures { MatchResult result
-            (λ it. AreTexts O.IS_LARGE (child_of (keyed self.now)) × (it ≡ all_places (keyed self.now)))
-            (λ e. (AreTexts O.IS_LARGE (child_of (keyed self.now)) → ⊥) × (e ≡ InvalidArgumentError ValuesType)) };
+        ensures { let a = keyed self.now in MatchResult result
+            (λ it. AreTexts O.IS_LARGE (child_of a) × (it ≡ all_elements a))
+            (λ e. (AreTexts O.IS_LARGE (child_of a) → ⊥) × (e ≡ InvalidArgumentError ValuesType)) };
 
-    /// Its texts, where no key is null. `ValuesType` where the values are no texts by such offsets.
+    /// Returns an iterator over the strings of a dictionary without null keys.
+    ///
+    /// # Errors
+    /// `InvalidArgumentError(ValuesType)` where the values are not a UTF-8 array with these offsets.
     fn values_iter_typed<O: TextOffset>(&self) -> Result<DictionaryValuesIterTyped<'_, O>, Error>
         requires keys { null_count (keyed self.now) ≡ 0 }
         requires values { null_count (child_of (keyed self.now)) ≡ 0 }
-        ensures { MatchResult result
-            (λ it. AreTexts O.IS_LARGE (child_of (keyed self.now)) × (it ≡ all_places (keyed self.now)))
-            (λ e. (AreTexts O.IS_LARGE (child_of (keyed self.now)) → ⊥) × (e ≡ InvalidArgumentError ValuesType)) };
+        ensures { let a = keyed self.now in MatchResult result
+            (λ it. AreTexts O.IS_LARGE (child_of a) × (it ≡ all_elements a))
+            (λ e. (AreTexts O.IS_LARGE (child_of a) → ⊥) × (e ≡ InvalidArgumentError ValuesType)) };
 }
 
 impl ScanKeys for DictionaryArray {
     ghost keyed = { λ a. a };
 
     fn keys_iter(&self) -> KeysIter<'_> {
-        PlacesIter::of(ValidKeys(self))
+        ElementsIter::of(ValidKeys(self))
     }
 
     fn keys_values_iter(&self) -> KeysValuesIter<'_> {
-        PlacesIter::of(RawKeys(self))
+        ElementsIter::of(RawKeys(self))
     }
 
     fn iter_typed<O: TextOffset>(&self) -> Result<DictionaryIterTyped<'_, O>, Error> {
         match O::texts(self.values()) {
-            Some(values) => Ok(PlacesIter::of(TypedOrNull(TypedValues { keys: self, values }))),
-            None => Err(Error::InvalidArgumentError(Argument::ValuesType)),
+            Some(values) => Ok(ElementsIter::of(TypedOrNull(TypedValues { keys: self, values }))),
+            None => Err(Error::InvalidArgumentError(ArgumentError::ValuesType)),
         }
     }
 
     fn values_iter_typed<O: TextOffset>(&self) -> Result<DictionaryValuesIterTyped<'_, O>, Error> {
         match O::texts(self.values()) {
-            Some(values) => Ok(PlacesIter::of(TypedValues { keys: self, values })),
-            None => Err(Error::InvalidArgumentError(Argument::ValuesType)),
+            Some(values) => Ok(ElementsIter::of(TypedValues { keys: self, values })),
+            None => Err(Error::InvalidArgumentError(ArgumentError::ValuesType)),
         }
     }
 }

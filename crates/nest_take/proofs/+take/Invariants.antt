@@ -3,7 +3,7 @@ use Rattle.std.specs.Prelude.{vec_capacity}
 use Rattle.nest_model.specs.Layout.{weight, weight_all}
 use Rattle.nest_array.specs.declared.any.AnyArray.{AnyArray}
 use Rattle.nest_array.specs.Seen.{layout_of, layouts_of}
-use Rattle.nest_take.specs.Taken.{IsTaken, pick_places}
+use Rattle.nest_take.specs.Taken.{IsTaken, pick_indices}
 use Rattle.nest_take.proofs.+take.Given as goal
 
 abbrev pub decreases-any::take : goal.decreases-any::take
@@ -44,7 +44,7 @@ invariant-struct_::take_all-loop-i l =
     record {
       same_length : length l.taken.items ≡ l.i;
       room : length l.children ≤ vec_capacity l.taken;
-      done : (k : ℕ) (d : AnyArray) → k < l.i → IsTaken (layout_of (get_or l.children k d)) l.places (layout_of (get_or l.taken.items k d));
+      done : (k : ℕ) (d : AnyArray) → k < l.i → IsTaken (layout_of (get_or l.children k d)) l.indices (layout_of (get_or l.taken.items k d));
     }
 
 abbrev pub invariant-union::take_fields-loop-f : goal.invariant-union::take_fields-loop-f
@@ -52,5 +52,5 @@ invariant-union::take_fields-loop-f l =
     record {
       same_length : length l.taken.items ≡ l.f;
       room : length l.fields ≤ vec_capacity l.taken;
-      done : (k : ℕ) (d : AnyArray) → k < l.f → IsTaken (layout_of (get_or l.fields k d)) (pick_places l.array k l.places) (layout_of (get_or l.taken.items k d));
+      done : (k : ℕ) (d : AnyArray) → k < l.f → IsTaken (layout_of (get_or l.fields k d)) (pick_indices l.array k l.indices) (layout_of (get_or l.taken.items k d));
     }

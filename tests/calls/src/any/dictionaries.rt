@@ -8,7 +8,7 @@ use nest_flat::any_primitive::mutable::AnyMutablePrimitive;
 use nest_flat::plain::Plain;
 use nest_flat::primitive::mutable::MutablePrimitiveArray;
 use nest_flat::utf8::mutable::MutableUtf8Array;
-use nest_memory::error::{Argument, Error};
+use nest_memory::error::{ArgumentError, Error};
 use std::alloc::Global;
 
 /// Values of any kind without children by keys of which there are 256.
@@ -25,8 +25,8 @@ fn no_numbers(alloc: Global) -> Result<Dictionaries, Error> {
 }
 
 fn push(keyed: &mut Dictionaries, value: Plain<'_>) -> Result<(), Error> {
-    if !keyed.is_whole() {
-        return Err(Error::InvalidArgumentError(Argument::Unfinished));
+    if !keyed.is_complete() {
+        return Err(Error::InvalidArgumentError(ArgumentError::Incomplete));
     }
     keyed.try_push_plain(Some(value))
 }
@@ -68,7 +68,7 @@ fn text_of(alloc: Global, array: Result<DictionaryArray, Error>) -> Result<Strin
 fn push_four(keyed: &mut Dictionaries) -> Result<(), Error> {
     push(keyed, Plain::Text("A"))?;
     push(keyed, Plain::Text("B"))?;
-    if keyed.is_whole() {
+    if keyed.is_complete() {
         keyed.push_null()?;
     }
     push(keyed, Plain::Text("A"))
@@ -97,7 +97,7 @@ fn a_number_is_found_by_its_own_kind(rt: HostRuntime) {
     let narrow = keyed.key_of(&7i32);
     let own = keyed.key_of(&7i64);
     assert!(rt; pushed == Ok(()));
-    assert!(rt; other == Err(Error::InvalidArgumentError(Argument::ItemType)));
+    assert!(rt; other == Err(Error::InvalidArgumentError(ArgumentError::ItemType)));
     assert!(rt; narrow == None);
     assert!(rt; own == Some(0));
 }

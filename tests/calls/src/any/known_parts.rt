@@ -8,7 +8,7 @@ use nest_build::array::MutableArray;
 use nest_flat::any_native::AnyNative;
 use nest_flat::plain::Plain;
 use nest_memory::datatypes::DataType;
-use nest_memory::error::{Argument, Error};
+use nest_memory::error::{ArgumentError, Error};
 use std::alloc::{AllocError, Global};
 
 /// The records of parts that were checked once, made of them again.
@@ -40,9 +40,9 @@ fn number_records(alloc: Global) -> Result<MutableStructArray, Error> {
 }
 
 /// Pushes a row of what waits in complete children.
-fn tell(records: &mut MutableStructArray) -> Result<(), Error> {
-    if !records.has_whole_children() {
-        return Err(Error::InvalidArgumentError(Argument::Unfinished));
+fn push_row(records: &mut MutableStructArray) -> Result<(), Error> {
+    if !records.has_complete_children() {
+        return Err(Error::InvalidArgumentError(ArgumentError::Incomplete));
     }
     records.push(true)
 }
@@ -51,7 +51,7 @@ fn tell(records: &mut MutableStructArray) -> Result<(), Error> {
 fn a_number_is_pushed_into_a_child_of_records(rt: HostRuntime) {
     let mut records = number_records(rt.alloc()).expect(&rt, "number records");
     let pushed = push(records.value(0), Plain::Native(AnyNative::Int64(7)));
-    let ended = tell(&mut records);
+    let ended = push_row(&mut records);
     let rows = MutableArray::len(&records);
     assert!(rt; pushed == Ok(()));
     assert!(rt; ended == Ok(()));

@@ -2,7 +2,7 @@
 
 use crate::any::records::{
     OTHER_KIND, UNFINISHED, has_offsets, kept, lists_of, nested, numbers, over, push, push_lists,
-    records_of, refused, tell, texts,
+    push_row, records_of, refused, texts,
 };
 use nest_any::{AnyMutableArray, MutableStructArray};
 use nest_array::{AnyArray, AnyKeys, DictionaryArray};
@@ -10,7 +10,7 @@ use nest_build::array::MutableArray;
 use nest_flat::any_native::AnyNative;
 use nest_flat::plain::Plain;
 use nest_memory::datatypes::{DataType, IntegerType};
-use nest_memory::error::{Argument, Error, Spec};
+use nest_memory::error::{ArgumentError, Error, SpecError};
 use std::alloc::Global;
 
 /// Dictionaries of such values, by keys of 8 bits.
@@ -21,7 +21,7 @@ fn dictionary_data_type(alloc: Global, values: DataType) -> Result<DataType, Err
 
 /// A builder that is whole.
 fn whole(builder: AnyMutableArray) -> Result<AnyMutableArray, Error> {
-    if !builder.is_whole() {
+    if !builder.is_complete() {
         drop(builder);
         return Err(UNFINISHED);
     }
@@ -133,7 +133,7 @@ fn lists_of_records_of_dictionaries_are_frozen(rt: HostRuntime) {
     let mut lists = dictionary_lists(rt.alloc()).expect(&rt, "keyed lists");
     let pushed = push_lists(&mut lists);
     let frozen = lists.as_box();
-    let is_new = lists.is_empty() && lists.is_whole();
+    let is_new = lists.is_empty() && lists.is_complete();
     let shown = is_one_string_twice(&frozen);
     assert!(rt; pushed == Ok(()));
     assert!(rt; is_new);
@@ -145,7 +145,7 @@ fn lists_of_records_of_dictionaries_are_frozen(rt: HostRuntime) {
 fn a_dictionary_has_no_child_rows(rt: HostRuntime) {
     let mut keyed = dictionary_of_strings(rt.alloc()).expect(&rt, "keyed texts");
     let childless = keyed.child(0).is_none();
-    let ended = tell(&mut keyed, true);
+    let ended = push_row(&mut keyed, true);
     let pushed = push(&mut keyed, Plain::Native(AnyNative::Int64(7)));
     let rows = keyed.len();
     assert!(rt; childless);
@@ -158,9 +158,9 @@ fn a_dictionary_has_no_child_rows(rt: HostRuntime) {
 #[test]
 fn dictionaries_over_another_child_are_rejected(rt: HostRuntime) {
     let alloc = rt.alloc();
-    let child_type = Some(Error::OutOfSpec(Spec::ChildType));
-    let not_empty = Some(Error::InvalidArgumentError(Argument::ChildNotEmpty));
-    let wrong_type = Some(Error::OutOfSpec(Spec::WrongType));
+    let child_type = Some(Error::OutOfSpec(SpecError::ChildType));
+    let not_empty = Some(Error::InvalidArgumentError(ArgumentError::ChildNotEmpty));
+    let wrong_type = Some(Error::OutOfSpec(SpecError::WrongType));
     let lists = lists_of(alloc, DataType::Int64).expect(&rt, "a data type");
     let keys = dictionary_data_type(alloc, DataType::Utf8).expect(&rt, "a data type");
     for values in [DataType::Null, keys] {
@@ -202,7 +202,7 @@ fn dictionaries_over_another_child_are_rejected(rt: HostRuntime) {
 fn push_four(keyed: &mut AnyMutableArray) -> Result<(), Error> {
     push(keyed, Plain::Text("A"))?;
     push(keyed, Plain::Text("B"))?;
-    if keyed.is_whole() {
+    if keyed.is_complete() {
         keyed.push_null()?;
     }
     push(keyed, Plain::Text("A"))

@@ -2,14 +2,14 @@
 //!
 //! A null brings records and builders of any kind a validity, and a freeze takes it.
 use crate::any::nested_dictionaries::dictionary_of_strings;
-use crate::any::records::{lists_of, numbers, over, push, records_of, tell, texts};
+use crate::any::records::{lists_of, numbers, over, push, push_row, records_of, texts};
 use nest_any::AnyMutableArray;
 use nest_build::array::MutableArray;
 use nest_flat::any_native::AnyNative;
 use nest_flat::plain::Plain;
 use nest_memory::datatypes::DataType;
 use nest_memory::datatypes::field::Field;
-use nest_memory::error::{Argument, Error};
+use nest_memory::error::{ArgumentError, Error};
 use std::alloc::Global;
 
 /// Whether a null brings a validity, and a freeze takes it.
@@ -71,7 +71,7 @@ fn records_have_no_validity_after_a_freeze(rt: HostRuntime) -> Result<(), Error>
 fn push_item(lists: &mut AnyMutableArray, number: i64) -> Result<(), Error> {
     match lists.child(0) {
         Some(items) => push(items, Plain::Native(AnyNative::Int64(number))),
-        None => Err(Error::InvalidArgumentError(Argument::Unfinished)),
+        None => Err(Error::InvalidArgumentError(ArgumentError::Incomplete)),
     }
 }
 
@@ -87,7 +87,7 @@ fn a_failed_downcast_of_a_child_changes_nothing(rt: HostRuntime) -> Result<(), E
     push_item(&mut lists, 1)?;
     assert!(rt; lists.child(1).is_none());
     assert!(rt; lists.is_empty() && lists.child(0).is_some_and(|items| items.len() == 1));
-    tell(&mut lists, true)?;
+    push_row(&mut lists, true)?;
     push_item(&mut lists, 2)?;
     assert!(rt; lists.len() == 1 && lists.child(0).is_some_and(|items| items.len() == 2));
     assert!(rt; lists.validity().is_none());

@@ -12,12 +12,12 @@ use nest_flat::utf8::mutable::MutableUtf8Array;
 use nest_memory::bitmap::mutable::MutableBitmap;
 use nest_memory::datatypes::DataType;
 use nest_memory::datatypes::field::Field;
-use nest_memory::error::{Argument, Error, Spec};
+use nest_memory::error::{ArgumentError, Error, SpecError};
 use std::alloc::{AllocError, Global};
 
-pub(super) const UNFINISHED: Error = Error::InvalidArgumentError(Argument::Unfinished);
+pub(super) const UNFINISHED: Error = Error::InvalidArgumentError(ArgumentError::Incomplete);
 
-pub(super) const OTHER_KIND: Error = Error::InvalidArgumentError(Argument::ItemType);
+pub(super) const OTHER_KIND: Error = Error::InvalidArgumentError(ArgumentError::ItemType);
 
 pub(crate) fn texts(alloc: Global) -> Result<AnyMutableArray, Error> {
     Ok(AnyMutableArray::Flat(AnyMutableFlat::Utf8(MutableUtf8Array::new(alloc)?)))
@@ -65,7 +65,7 @@ pub(crate) fn nested(
     data_type: DataType,
     child: AnyMutableArray,
 ) -> Result<AnyMutableArray, Error> {
-    if !child.is_whole() {
+    if !child.is_complete() {
         drop(child);
         drop(data_type);
         return Err(UNFINISHED);
@@ -101,18 +101,18 @@ fn string_records(alloc: Global) -> Result<MutableStructArray, Error> {
 
 /// Pushes a value into a builder that is whole.
 pub(crate) fn push(builder: &mut AnyMutableArray, value: Plain<'_>) -> Result<(), Error> {
-    if !builder.is_whole() {
+    if !builder.is_complete() {
         return Err(UNFINISHED);
     }
     builder.try_push_plain(Some(value))
 }
 
 /// Pushes a row of what waits in complete children.
-pub(crate) fn tell(builder: &mut AnyMutableArray, valid: bool) -> Result<(), Error> {
-    if !builder.has_whole_children() {
+pub(crate) fn push_row(builder: &mut AnyMutableArray, valid: bool) -> Result<(), Error> {
+    if !builder.has_complete_children() {
         return Err(UNFINISHED);
     }
-    builder.tell(valid)
+    builder.push_row(valid)
 }
 
 /// Pushes a value into the first child of a builder and pushes a row of it.
@@ -121,7 +121,7 @@ pub(crate) fn push_record(records: &mut AnyMutableArray, value: Plain<'_>) -> Re
         Some(child) => push(child, value)?,
         None => return Err(UNFINISHED),
     }
-    tell(records, true)
+    push_row(records, true)
 }
 
 /// A list of two records, and a null list.
@@ -133,8 +133,8 @@ pub(crate) fn push_lists(lists: &mut AnyMutableArray) -> Result<(), Error> {
         }
         None => {}
     }
-    tell(lists, true)?;
-    if lists.is_whole() {
+    push_row(lists, true)?;
+    if lists.is_complete() {
         lists.push_null()?;
     }
     Ok(())
@@ -199,7 +199,7 @@ fn lists_of_records_are_pushed_and_frozen(rt: HostRuntime) {
     let mut lists = two_records_and_a_null(alloc).expect(&rt, "two records and a null");
     let rows = lists.len();
     let frozen = lists.as_box();
-    let is_new = lists.is_empty() && lists.is_whole();
+    let is_new = lists.is_empty() && lists.is_complete();
     let shown = are_two_records_and_a_null(&frozen);
     assert!(rt; rows == 2);
     assert!(rt; is_new);
@@ -211,7 +211,7 @@ fn lists_of_records_are_pushed_and_frozen(rt: HostRuntime) {
 fn a_flat_builder_has_no_child_rows(rt: HostRuntime) {
     let mut flat = numbers(rt.alloc());
     let childless = flat.child(0).is_none();
-    let ended = tell(&mut flat, true);
+    let ended = push_row(&mut flat, true);
     let pushed = push(&mut flat, Plain::Text("x"));
     assert!(rt; childless);
     assert!(rt; ended == Err(OTHER_KIND));
@@ -250,9 +250,9 @@ pub(crate) fn refused(alloc: Global, filled: bool, data_type: DataType) -> Optio
 #[test]
 fn lists_over_another_child_are_rejected(rt: HostRuntime) {
     let alloc = rt.alloc();
-    let child_type = Some(Error::OutOfSpec(Spec::ChildType));
-    let not_empty = Some(Error::InvalidArgumentError(Argument::ChildNotEmpty));
-    let wrong_type = Some(Error::OutOfSpec(Spec::WrongType));
+    let child_type = Some(Error::OutOfSpec(SpecError::ChildType));
+    let not_empty = Some(Error::InvalidArgumentError(ArgumentError::ChildNotEmpty));
+    let wrong_type = Some(Error::OutOfSpec(SpecError::WrongType));
     assert!(rt;
         refused(
             alloc,
@@ -318,7 +318,7 @@ fn items_under_a_null_row(rt: HostRuntime) {
     let mut lists = nested(alloc, data_type, numbers(alloc)).expect(&rt, "lists");
     let pushed = push_two(&mut lists);
     let waits = is_unfinished(lists.as_box());
-    let ended = tell(&mut lists, false);
+    let ended = push_row(&mut lists, false);
     let frozen = lists.as_box();
     let shown = is_null_of_two(&frozen);
     assert!(rt; pushed == Ok(()));
@@ -350,7 +350,7 @@ fn half_a_row(alloc: Global) -> Result<AnyMutableArray, Error> {
 #[test]
 fn half_a_row_waits(rt: HostRuntime) {
     let mut records = half_a_row(rt.alloc()).expect(&rt, "half a row");
-    let ended = tell(&mut records, true);
+    let ended = push_row(&mut records, true);
     let waits = is_unfinished(records.as_box());
     let rows = records.len();
     let waiting = match records.child(1) {
@@ -398,7 +398,7 @@ fn have_rows(any: &AnyMutableArray, count: usize) -> bool {
 
 /// Whether a null was added, at each level or at none.
 fn add_null(records: &mut AnyMutableArray) -> bool {
-    records.is_whole() && records.push_null().is_ok()
+    records.is_complete() && records.push_null().is_ok()
 }
 
 // Holds where any one allocation fails.
@@ -471,7 +471,7 @@ type RecordLists = MutableListArray<i32, MutableStructArray>;
 
 fn no_lists(alloc: Global) -> Result<RecordLists, Error> {
     let records = string_records(alloc)?;
-    if !records.is_whole() || !records.is_empty() {
+    if !records.is_complete() || !records.is_empty() {
         drop(records);
         return Err(UNFINISHED);
     }
@@ -489,10 +489,10 @@ fn push_text(lists: &mut RecordLists) -> Result<(), Error> {
 /// Pushes the record, and the list of it.
 fn push_to_both(lists: &mut RecordLists) -> Result<(), Error> {
     let records = lists.mut_values();
-    if records.has_whole_children() {
+    if records.has_complete_children() {
         records.push(true)?;
     }
-    if lists.values().is_whole() {
+    if lists.values().is_complete() {
         lists.try_push_valid()?;
     }
     Ok(())
@@ -528,7 +528,7 @@ fn waits(alloc: Global, lists: &mut RecordLists) -> bool {
         }
         Err(error) => error == UNFINISHED,
     };
-    boxed && shared && frozen && !lists.is_whole()
+    boxed && shared && frozen && !lists.is_complete()
 }
 
 /// A record waits in a builder of lists over records until it is pushed.
@@ -548,11 +548,11 @@ fn an_unfinished_record_blocks_its_list(rt: HostRuntime) {
 }
 
 /// Pushes a row of what waits in a complete child.
-fn tell_list(lists: &mut ListBuilder) -> Result<(), Error> {
-    if !lists.has_whole_children() {
+fn push_list_row(lists: &mut ListBuilder) -> Result<(), Error> {
+    if !lists.has_complete_children() {
         return Err(UNFINISHED);
     }
-    lists.tell(true)
+    lists.push_row(true)
 }
 
 /// A number that is pushed into the child that a builder of lists lends is in the next row.
@@ -567,7 +567,7 @@ fn what_is_written_to_a_lent_child_stays(rt: HostRuntime) {
     };
     let no_records = lists.as_struct_mut().is_none();
     let ended = match lists.as_list_mut() {
-        Some(lists) => tell_list(lists),
+        Some(lists) => push_list_row(lists),
         None => Err(UNFINISHED),
     };
     let rows = lists.len();

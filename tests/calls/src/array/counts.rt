@@ -247,10 +247,10 @@ fn each_null(rt: HostRuntime) {
 fn a_count_stops_at_the_largest_number(rt: HostRuntime) {
     let mut steps = Steps::new();
     assert!(rt; steps.count() == 0);
-    steps.tell(2);
+    steps.add(2);
     assert!(rt; steps.count() == 2);
-    steps.tell(u64::MAX);
+    steps.add(u64::MAX);
     assert!(rt; steps.count() == u64::MAX);
-    steps.tell(1);
+    steps.add(1);
     assert!(rt; steps.count() == u64::MAX);
 }

@@ -12,7 +12,7 @@ use nest_array::{AnyArray, AnyKeys, DictionaryArray, DictionaryKey};
 use nest_flat::primitive::PrimitiveArray;
 use nest_flat::utf8::mutable::MutableUtf8Array;
 use nest_memory::datatypes::DataType;
-use nest_memory::error::{Error, Spec};
+use nest_memory::error::{Error, SpecError};
 use std::alloc::Global;
 use std::process::Abort;
 
@@ -184,7 +184,7 @@ fn null_keys_may_be_any_raw_keys(rt: HostRuntime) {
     assert!(rt; array.len() == 2);
     assert!(rt; !array.in_range(0));
     assert!(rt; !array.all_in_range());
-    let refused = Err(Error::OutOfSpec(Spec::KeyRange));
+    let refused = Err(Error::OutOfSpec(SpecError::KeyRange));
     assert!(rt; array.set_validity(None) == refused);
     assert!(rt; array.null_count() == 2);
     let cut = array.sliced(1, 1);
@@ -211,11 +211,11 @@ fn validities_under_which_keys_name_values(rt: HostRuntime) {
     let array = strings_by(alloc, &[0, 9], nulls, &[Some("x")]).expect(&rt, "two nulls");
     let bits = validity(alloc, Some(&[false, true])).expect(&rt, "two bits");
     let (array, refused) = kept(array.with_validity(bits));
-    assert!(rt; refused == Some(Error::OutOfSpec(Spec::KeyRange)));
+    assert!(rt; refused == Some(Error::OutOfSpec(SpecError::KeyRange)));
     assert!(rt; array.null_count() == 2);
     let bits = validity(alloc, Some(&[true])).expect(&rt, "a bit");
     let (array, refused) = kept(array.with_validity(bits));
-    assert!(rt; refused == Some(Error::OutOfSpec(Spec::ValidityLength)));
+    assert!(rt; refused == Some(Error::OutOfSpec(SpecError::ValidityLength)));
     assert!(rt; array.null_count() == 2);
     let bits = validity(alloc, Some(&[true, false])).expect(&rt, "two bits");
     let (array, refused) = kept(array.with_validity(bits));
@@ -229,7 +229,7 @@ fn validities_are_replaced(rt: HostRuntime) {
     let array = four_strings(alloc).expect(&rt, "four texts");
     let mut any = array.boxed();
     let bits = validity(alloc, Some(&[false, true])).expect(&rt, "two bits");
-    let refused = Err(Error::OutOfSpec(Spec::ValidityLength));
+    let refused = Err(Error::OutOfSpec(SpecError::ValidityLength));
     assert!(rt; any.set_validity(bits) == refused);
     assert!(rt; any.null_count() == 1);
     assert!(rt; any.set_validity(None) == Ok(()));

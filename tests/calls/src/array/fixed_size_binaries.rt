@@ -5,7 +5,7 @@ use nest_memory::bitmap::immutable::Bitmap;
 use nest_memory::buffer::Buffer;
 use nest_memory::datatypes::DataType;
 use nest_memory::datatypes::physical_type::PhysicalType;
-use nest_memory::error::{Error, Spec};
+use nest_memory::error::{Error, SpecError};
 use std::alloc::Global;
 
 const ROWS: [[u8; 2]; 3] = [*b"ab", *b"cd", *b"ef"];
@@ -51,9 +51,9 @@ fn refusal(array: Result<FixedSizeBinaryArray, Error>) -> Option<Error> {
 fn the_first_failed_check_is_returned(rt: HostRuntime) {
     let bits = [true, false].as_slice();
     let table = [
-        (0usize, Spec::ZeroSize),
-        (4, Spec::NotMultiple),
-        (2, Spec::ValidityLength),
+        (0usize, SpecError::ZeroSize),
+        (4, SpecError::NotMultiple),
+        (2, SpecError::ValidityLength),
     ];
     for (size, failure) in table {
         let found = refused(rt.alloc(), size, b"abcdef", Some(bits)).expect(&rt, "refused");
@@ -66,7 +66,7 @@ fn the_first_failed_check_is_returned(rt: HostRuntime) {
     );
     let values = bytes_of(rt.alloc(), b"abcdef").expect(&rt, "bytes of");
     let other = FixedSizeBinaryArray::try_new(DataType::Binary, values, None);
-    assert!(rt; refusal(other) == Some(Error::OutOfSpec(Spec::WrongType)));
+    assert!(rt; refusal(other) == Some(Error::OutOfSpec(SpecError::WrongType)));
 }
 
 /// The rows, of which those with a bit that is 0 are null.
@@ -113,7 +113,7 @@ fn rows_are_the_slots(rt: HostRuntime) {
     assert!(rt; has(&array, 0, b"ab"));
     assert!(rt; holds_the_rest(array));
     let short = pairs(rt.alloc(), ROWS.as_slice(), [true, false].as_slice());
-    assert!(rt; refusal(short) == Some(Error::OutOfSpec(Spec::ValidityLength)));
+    assert!(rt; refusal(short) == Some(Error::OutOfSpec(SpecError::ValidityLength)));
 }
 
 /// A type of the caller over byte strings of two bytes.

@@ -2,7 +2,7 @@
 
 use nest_array::{Array, NullArray};
 use nest_memory::datatypes::DataType;
-use nest_memory::error::{Error, Spec};
+use nest_memory::error::{Error, SpecError};
 
 /// What a call rejected.
 fn refusal(array: Result<NullArray, Error>) -> Option<Error> {
@@ -34,7 +34,7 @@ fn a_slice_of_nothing_is_the_empty_array(rt: HostRuntime) {
 
 #[test]
 fn other_types_are_rejected(rt: HostRuntime) {
-    let wrong = Some(Error::OutOfSpec(Spec::WrongType));
+    let wrong = Some(Error::OutOfSpec(SpecError::WrongType));
     assert!(rt; refusal(NullArray::try_new(DataType::Boolean, 3)) == wrong);
     assert!(rt; refusal(NullArray::try_new(DataType::Null, 3)).is_none());
 }

@@ -7,7 +7,7 @@ use crate::array::arrays::lists_of_lists;
 use crate::array::arrays::sizes::pairs;
 use crate::array::arrays::structs::four;
 use crate::array::dictionaries::four_strings;
-use nest_array::array::Slotted;
+use nest_array::array::ArrayParts;
 use nest_array::{
     AnyKeys, DictionaryArray, FixedSizeListArray, LargeListArray, ListArray, StructArray,
     scalars_at,
@@ -131,7 +131,7 @@ fn dictionaries_of_their_own_parts(rt: HostRuntime) {
 }
 
 /// The array on shared memory, as each kind copies itself.
-fn again<A: Slotted>(alloc: Global, array: &A) -> Result<A, Error> {
+fn again<A: ArrayParts>(alloc: Global, array: &A) -> Result<A, Error> {
     array.again(alloc)
 }
 
@@ -145,7 +145,7 @@ fn each_kind_copies_itself(rt: HostRuntime) {
 }
 
 /// The n slots of it from index o, on shared memory, as each kind makes them.
-fn part<A: Slotted>(alloc: Global, array: &A, o: usize, n: usize) -> Result<A, Error> {
+fn part<A: ArrayParts>(alloc: Global, array: &A, o: usize, n: usize) -> Result<A, Error> {
     array.part(alloc, o, n)
 }
 

@@ -6,10 +6,10 @@ use nest_array::{AnyArray, FixedSizeListArray, LargeListArray, ListArray, Struct
 use nest_flat::utf8::Utf8Array;
 use nest_memory::datatypes::DataType;
 use nest_memory::datatypes::field::Field;
-use nest_memory::error::{Error, Spec};
+use nest_memory::error::{Error, SpecError};
 use std::alloc::Global;
 
-const WRONG_TYPE: Option<Error> = Some(Error::OutOfSpec(Spec::WrongType));
+const WRONG_TYPE: Option<Error> = Some(Error::OutOfSpec(SpecError::WrongType));
 
 /// Each kind under the type of another, and no fields, or not as many as children.
 #[test]
@@ -100,7 +100,7 @@ fn children_in_another_order_than_the_fields(rt: HostRuntime) {
     let alloc = rt.alloc();
     let children = two(alloc, empty_strings(alloc, &[0, 0]), numbers(alloc, &[1]));
     let refused = rejected_records(alloc, children, None);
-    assert!(rt; refused == Some(Error::OutOfSpec(Spec::ChildType)));
+    assert!(rt; refused == Some(Error::OutOfSpec(SpecError::ChildType)));
 }
 
 #[test]
@@ -112,7 +112,7 @@ fn children_of_two_lengths_before_the_validity(rt: HostRuntime) {
         empty_strings(alloc, &[0, 0, 0, 0]),
     );
     let refused = rejected_records(alloc, children, Some(&[true; 9]));
-    assert!(rt; refused == Some(Error::OutOfSpec(Spec::ChildLength)));
+    assert!(rt; refused == Some(Error::OutOfSpec(SpecError::ChildLength)));
 }
 
 /// What list types tell of their fields.

@@ -13,7 +13,7 @@ use nest_memory::buffer::Buffer;
 use nest_memory::datatypes::field::Field;
 use nest_memory::datatypes::physical_type::PhysicalType;
 use nest_memory::datatypes::{DataType, UnionMode};
-use nest_memory::error::{Argument, Error, Spec};
+use nest_memory::error::{ArgumentError, Error, SpecError};
 use std::alloc::Global;
 
 /// The items and one more, or the first error.
@@ -211,11 +211,11 @@ fn refusal(array: Result<UnionArray, Error>) -> Option<Error> {
     }
 }
 
-const NO_TYPE: Option<Error> = Some(Error::OutOfSpec(Spec::UnionType));
+const NO_TYPE: Option<Error> = Some(Error::OutOfSpec(SpecError::UnionType));
 
-const NO_SLOT: Option<Error> = Some(Error::OutOfSpec(Spec::UnionSlot));
+const NO_SLOT: Option<Error> = Some(Error::OutOfSpec(SpecError::UnionSlot));
 
-const NO_ID: Option<Error> = Some(Error::OutOfSpec(Spec::IdRange));
+const NO_ID: Option<Error> = Some(Error::OutOfSpec(SpecError::IdRange));
 
 /// Unions: of two fields of numbers by the ids 5 and 7; numbers and strings in turn, cut and cut again; one number at an
 /// offset.
@@ -319,7 +319,7 @@ fn wide(alloc: Global, n: usize) -> Result<UnionArray, Error> {
 fn as_many_fields_as_types(rt: HostRuntime) {
     let alloc = rt.alloc();
     assert!(rt; refusal(wide(alloc, 127)).is_none());
-    let many = Some(Error::OutOfSpec(Spec::TooManyFields));
+    let many = Some(Error::OutOfSpec(SpecError::TooManyFields));
     assert!(rt; refusal(wide(alloc, 128)) == many);
     assert!(rt; refusal(wide(alloc, 0)).is_none());
 }
@@ -329,23 +329,23 @@ fn as_many_fields_as_types(rt: HostRuntime) {
 fn other_errors(rt: HostRuntime) {
     let alloc = rt.alloc();
     let wrong = union_under(alloc, Ok(DataType::Int32), &[], Ok(Vec::new(alloc)), None);
-    assert!(rt; refusal(wrong) == Some(Error::OutOfSpec(Spec::WrongType)));
+    assert!(rt; refusal(wrong) == Some(Error::OutOfSpec(SpecError::WrongType)));
     let two_fields = union_type(alloc, number_fields(alloc, 2), None, UnionMode::Sparse);
     let fewer = union_under(alloc, two_fields, &[], no_numbers(alloc, 1), None);
-    assert!(rt; refusal(fewer) == Some(Error::OutOfSpec(Spec::FieldCount)));
+    assert!(rt; refusal(fewer) == Some(Error::OutOfSpec(SpecError::FieldCount)));
     let other = union_type(alloc, number_and_string(alloc), None, UnionMode::Sparse);
     let other = union_under(alloc, other, &[], no_numbers(alloc, 2), None);
-    assert!(rt; refusal(other) == Some(Error::OutOfSpec(Spec::ChildType)));
+    assert!(rt; refusal(other) == Some(Error::OutOfSpec(SpecError::ChildType)));
     let longer = single(alloc, None, &[0], &[7], Some(&[0, 0]));
-    assert!(rt; refusal(longer) == Some(Error::OutOfSpec(Spec::OffsetCount)));
+    assert!(rt; refusal(longer) == Some(Error::OutOfSpec(SpecError::OffsetCount)));
     let ids = single(alloc, Some(&[1, 2]), &[1], &[7], None);
-    assert!(rt; refusal(ids) == Some(Error::OutOfSpec(Spec::IdCount)));
+    assert!(rt; refusal(ids) == Some(Error::OutOfSpec(SpecError::IdCount)));
 }
 
 #[test]
 fn offsets_by_the_mode(rt: HostRuntime) {
     let alloc = rt.alloc();
-    let mode = Some(Error::OutOfSpec(Spec::UnionMode));
+    let mode = Some(Error::OutOfSpec(SpecError::UnionMode));
     let dense = union_type(alloc, number_fields(alloc, 1), None, UnionMode::Dense);
     let without = union_under(alloc, dense, &[], no_numbers(alloc, 1), None);
     assert!(rt; refusal(without) == mode);
@@ -478,7 +478,7 @@ fn without_memory(rt: HostRuntime) {
 #[test]
 fn a_union_takes_no_validity(rt: HostRuntime) {
     let alloc = rt.alloc();
-    let refused = Some(Error::InvalidArgumentError(Argument::NoValidity));
+    let refused = Some(Error::InvalidArgumentError(ArgumentError::NoValidity));
     let array = in_turn(alloc).expect(&rt, "four picks");
     assert!(rt; array.with_validity(alloc, None).err() == refused);
     let bits = validity(alloc, Some(&[true; 4])).expect(&rt, "four bits");

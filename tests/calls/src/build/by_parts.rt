@@ -50,11 +50,11 @@ fn a_flat_builder_by_its_parts(rt: HostRuntime) {
 
 /// Pushes a boolean and three nulls.
 fn push_four(booleans: &mut MutableBooleanArray) -> Result<bool, Error> {
-    if !booleans.is_whole() {
+    if !booleans.is_complete() {
         return Ok(false);
     }
     extend_by_push(booleans, [Some(true)])?;
-    if !booleans.is_whole() {
+    if !booleans.is_complete() {
         return Ok(false);
     }
     extend_nulls(booleans, 3)?;

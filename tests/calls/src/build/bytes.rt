@@ -6,12 +6,12 @@ use nest_build::push::{TryExtend, TryExtendFromSelf, TryPush};
 use nest_flat::binary::BinaryArray;
 use nest_flat::binary::mutable::MutableBinaryArray;
 use nest_flat::plain::Plain;
-use nest_memory::error::{Argument, Error};
+use nest_memory::error::{ArgumentError, Error};
 use std::alloc::Global;
 
 type Bytes = MutableBinaryArray<i64>;
 
-const OTHER_KIND: Error = Error::InvalidArgumentError(Argument::ItemType);
+const OTHER_KIND: Error = Error::InvalidArgumentError(ArgumentError::ItemType);
 
 /// The bytes 0 and 255, and a null.
 fn two(alloc: Global) -> Result<Bytes, Error> {
@@ -69,15 +69,15 @@ fn bytes_are_joined(rt: HostRuntime) {
 
 /// Adds bytes where nothing waits.
 fn push(builder: &mut Box<dyn MutableArray>, value: &[u8]) -> Result<(), Error> {
-    if !builder.is_whole() {
-        return Err(Error::InvalidArgumentError(Argument::Unfinished));
+    if !builder.is_complete() {
+        return Err(Error::InvalidArgumentError(ArgumentError::Incomplete));
     }
     builder.try_push_plain(Some(Plain::Bytes(value)))
 }
 
 /// Keeps the first slot.
 fn keep_one(builder: &mut Box<dyn MutableArray>) {
-    if builder.is_whole() && !builder.is_empty() {
+    if builder.is_complete() && !builder.is_empty() {
         builder.truncate(1);
     }
 }

@@ -6,7 +6,7 @@ use nest_build::dictionary::{DictionaryRows, MutableDictionaryArray};
 use nest_build::fixed_size_binary::MutableFixedSizeBinaryArray;
 use nest_build::push::{TryExtend, TryPush};
 use nest_flat::plain::Plain;
-use nest_memory::error::{Argument, Error};
+use nest_memory::error::{ArgumentError, Error};
 use std::alloc::Global;
 use std::rc::Rc;
 
@@ -14,8 +14,8 @@ use std::rc::Rc;
 type Pairs = MutableDictionaryArray<i8, MutableFixedSizeBinaryArray>;
 
 fn push_plain<B: MutableArray>(builder: &mut B, value: Plain<'_>) -> Result<(), Error> {
-    if !builder.is_whole() {
-        return Err(Error::InvalidArgumentError(Argument::Unfinished));
+    if !builder.is_complete() {
+        return Err(Error::InvalidArgumentError(ArgumentError::Incomplete));
     }
     builder.try_push_plain(Some(value))
 }
@@ -68,7 +68,7 @@ fn push_pair(pairs: &mut Pairs, last: u8) -> Result<(), Error> {
 fn push_four(pairs: &mut Pairs) -> Result<(), Error> {
     push_pair(pairs, 1)?;
     push_pair(pairs, 2)?;
-    if pairs.is_whole() {
+    if pairs.is_complete() {
         pairs.push_null()?;
     }
     push_pair(pairs, 3)
@@ -114,7 +114,7 @@ fn a_full_key_type_takes_known_values(rt: HostRuntime) {
     let rows = pairs.len();
     assert!(rt; new == Err(Error::Overflow));
     assert!(rt; longer == Err(Error::Overflow));
-    assert!(rt; other_kind == Err(Error::InvalidArgumentError(Argument::ItemType)));
+    assert!(rt; other_kind == Err(Error::InvalidArgumentError(ArgumentError::ItemType)));
     assert!(rt; known == Ok(()));
     assert!(rt; values == 128);
     assert!(rt; rows == 129);
@@ -127,7 +127,7 @@ fn a_value_of_another_size_leaves_no_key(rt: HostRuntime) {
     let refused = push_plain(&mut pairs, Plain::Bytes(b"abc"));
     let rows = pairs.len();
     let values = pairs.values().len();
-    assert!(rt; refused == Err(Error::InvalidArgumentError(Argument::ItemSize)));
+    assert!(rt; refused == Err(Error::InvalidArgumentError(ArgumentError::ItemSize)));
     assert!(rt; rows == 0);
     assert!(rt; values == 0);
 }
@@ -155,16 +155,16 @@ fn rows_reject_a_key_past_their_type(rt: HostRuntime) {
 
 /// Pushes an item of bytes.
 fn push_bytes(pairs: &mut Pairs, item: Option<&[u8]>) -> Result<(), Error> {
-    if !pairs.is_whole() {
-        return Err(Error::InvalidArgumentError(Argument::Unfinished));
+    if !pairs.is_complete() {
+        return Err(Error::InvalidArgumentError(ArgumentError::Incomplete));
     }
     pairs.try_push(item)
 }
 
 /// Pushes all items of bytes or none.
 fn extend_bytes(pairs: &mut Pairs, items: &[Option<&[u8]>]) -> Result<(), Error> {
-    if !pairs.is_whole() {
-        return Err(Error::InvalidArgumentError(Argument::Unfinished));
+    if !pairs.is_complete() {
+        return Err(Error::InvalidArgumentError(ArgumentError::Incomplete));
     }
     pairs.try_extend(items.iter().copied())
 }
@@ -205,7 +205,7 @@ fn items_of_bytes_are_values_once(rt: HostRuntime) {
 
 /// Keeps the first rows of a whole builder.
 fn keep(pairs: &mut Pairs, n: usize) {
-    if pairs.is_whole() && n <= pairs.len() {
+    if pairs.is_complete() && n <= pairs.len() {
         pairs.truncate(n);
     }
 }

@@ -9,10 +9,10 @@ use nest_build::push::{TryExtend, TryExtendFromSelf, TryPush};
 use nest_flat::plain::Plain;
 use nest_memory::bitmap::mutable::MutableBitmap;
 use nest_memory::datatypes::DataType;
-use nest_memory::error::{Argument, Error, Spec};
+use nest_memory::error::{ArgumentError, Error, SpecError};
 use std::alloc::Global;
 
-const OTHER_SIZE: Error = Error::InvalidArgumentError(Argument::ItemSize);
+const OTHER_SIZE: Error = Error::InvalidArgumentError(ArgumentError::ItemSize);
 
 fn extended(
     builder: &mut MutableFixedSizeBinaryArray,
@@ -66,7 +66,7 @@ fn plain_bytes_of_the_size_are_pushed(rt: HostRuntime) {
         .expect(&rt, "a value more");
     assert!(rt; pairs.try_push_plain(Some(Plain::Bytes(b"abc"))) == Err(OTHER_SIZE));
     let text = pairs.try_push_plain(Some(Plain::Text("ab")));
-    assert!(rt; text == Err(Error::InvalidArgumentError(Argument::ItemType)));
+    assert!(rt; text == Err(Error::InvalidArgumentError(ArgumentError::ItemType)));
     TryPush::try_push(&mut pairs, Some(b"cd".as_slice())).expect(&rt, "a row more");
     pairs.push(None).expect(&rt, "a row more");
     assert!(rt; pairs.len() == 3);
@@ -130,7 +130,7 @@ fn builders_of_one_type_are_joined(rt: HostRuntime) {
     assert!(rt; first.values().as_slice() == b"ab\0\0cd".as_slice());
     let single = MutableFixedSizeBinaryArray::new(alloc, 1);
     let other = TryExtendFromSelf::try_extend_from_self(&mut first, &single);
-    assert!(rt; other == Err(Error::InvalidArgumentError(Argument::ItemType)));
+    assert!(rt; other == Err(Error::InvalidArgumentError(ArgumentError::ItemType)));
     assert!(rt; counts(first.freeze()) == Some((3, 1)));
 }
 
@@ -169,12 +169,16 @@ fn parts_are_checked_in_order(rt: HostRuntime) {
     let alloc = rt.alloc();
     let pairs = |size: usize| DataType::FixedSizeBinary(size);
     assert!(rt;
-        of_parts(alloc, DataType::Int8, b"abc", 1) == Some(Error::OutOfSpec(Spec::WrongType))
+        of_parts(alloc, DataType::Int8, b"abc", 1) == Some(Error::OutOfSpec(SpecError::WrongType))
     );
-    assert!(rt; of_parts(alloc, pairs(0), b"abc", 1) == Some(Error::OutOfSpec(Spec::ZeroSize)));
-    assert!(rt; of_parts(alloc, pairs(2), b"abc", 2) == Some(Error::OutOfSpec(Spec::NotMultiple)));
     assert!(rt;
-        of_parts(alloc, pairs(2), b"abcd", 1) == Some(Error::OutOfSpec(Spec::ValidityLength))
+        of_parts(alloc, pairs(0), b"abc", 1) == Some(Error::OutOfSpec(SpecError::ZeroSize))
+    );
+    assert!(rt;
+        of_parts(alloc, pairs(2), b"abc", 2) == Some(Error::OutOfSpec(SpecError::NotMultiple))
+    );
+    assert!(rt;
+        of_parts(alloc, pairs(2), b"abcd", 1) == Some(Error::OutOfSpec(SpecError::ValidityLength))
     );
     assert!(rt; of_parts(alloc, pairs(2), b"abcd", 2) == None);
 }

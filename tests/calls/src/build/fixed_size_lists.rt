@@ -8,7 +8,7 @@ use nest_build::push::{TryExtend, TryPush};
 use nest_build::tried::push_all;
 use nest_flat::primitive::mutable::MutablePrimitiveArray;
 use nest_memory::datatypes::DataType;
-use nest_memory::error::{Argument, Error, Spec};
+use nest_memory::error::{ArgumentError, Error, SpecError};
 use std::alloc::Global;
 
 /// Fixed-size lists of integers.
@@ -19,15 +19,15 @@ fn no_lists(alloc: Global, size: usize) -> Result<Lists, Error> {
 }
 
 fn push(rows: &mut Lists, row: Option<&[Option<i64>]>) -> Result<(), Error> {
-    if !rows.is_whole() {
-        return Err(Error::InvalidArgumentError(Argument::Unfinished));
+    if !rows.is_complete() {
+        return Err(Error::InvalidArgumentError(ArgumentError::Incomplete));
     }
     rows.try_push(row.map(|items| items.iter().copied()))
 }
 
-const ITEM_SIZE: Result<(), Error> = Err(Error::InvalidArgumentError(Argument::ItemSize));
+const ITEM_SIZE: Result<(), Error> = Err(Error::InvalidArgumentError(ArgumentError::ItemSize));
 
-const UNFINISHED: Result<(), Error> = Err(Error::InvalidArgumentError(Argument::Unfinished));
+const UNFINISHED: Result<(), Error> = Err(Error::InvalidArgumentError(ArgumentError::Incomplete));
 
 /// How long the frozen array and its items are; the array is dropped.
 fn frozen_lens(array: Result<FixedSizeListArray, Error>) -> Option<(usize, usize)> {
@@ -59,8 +59,8 @@ fn rows_of_another_size_are_rejected(rt: HostRuntime) {
 
 /// Pushes a row of the values of a slice.
 fn push_slice(rows: &mut Lists, row: Option<&[Option<i64>]>) -> Result<(), Error> {
-    if !rows.is_whole() {
-        return Err(Error::InvalidArgumentError(Argument::Unfinished));
+    if !rows.is_complete() {
+        return Err(Error::InvalidArgumentError(ArgumentError::Incomplete));
     }
     rows.try_push_slice(row)
 }
@@ -120,7 +120,7 @@ fn push_valid_and_null(rows: &mut Lists) -> Result<(bool, bool), Error> {
 
 /// Keeps the first of two rows, the second of which is null.
 fn keep_first(rows: &mut Lists) -> bool {
-    if !rows.is_whole() || rows.len() != 2 || rows.is_valid(1) {
+    if !rows.is_complete() || rows.len() != 2 || rows.is_valid(1) {
         return false;
     }
     rows.truncate(1);
@@ -159,21 +159,21 @@ fn not_made(made: Result<Lists, Error>) -> Option<Error> {
 #[test]
 fn lists_of_a_data_type_and_size(rt: HostRuntime) {
     let alloc = rt.alloc();
-    assert!(rt; not_made(no_lists(alloc, 0)) == Some(Error::OutOfSpec(Spec::ZeroSize)));
+    assert!(rt; not_made(no_lists(alloc, 0)) == Some(Error::OutOfSpec(SpecError::ZeroSize)));
     let pairs = FixedSizeListArray::default_datatype(alloc, DataType::Int64, 2).expect(
         &rt,
         "a data type",
     );
     let child = MutablePrimitiveArray::new(alloc);
     let wrong = MutableFixedSizeListArray::new_from(alloc, child, pairs, 3);
-    assert!(rt; not_made(wrong) == Some(Error::OutOfSpec(Spec::WrongType)));
+    assert!(rt; not_made(wrong) == Some(Error::OutOfSpec(SpecError::WrongType)));
     let pairs = FixedSizeListArray::default_datatype(alloc, DataType::Utf8, 2).expect(
         &rt,
         "a data type",
     );
     let child = MutablePrimitiveArray::new(alloc);
     let wrong = MutableFixedSizeListArray::new_from(alloc, child, pairs, 2);
-    assert!(rt; not_made(wrong) == Some(Error::OutOfSpec(Spec::ChildType)));
+    assert!(rt; not_made(wrong) == Some(Error::OutOfSpec(SpecError::ChildType)));
     let child = MutablePrimitiveArray::new(alloc);
     let named = MutableFixedSizeListArray::new_with_field(alloc, child, "x", false, 2);
     assert!(rt; not_made(named) == None);
@@ -194,9 +194,9 @@ fn push_each(
 ) -> Result<bool, Error> {
     match items {
         Ok(items) => {
-            if !rows.is_whole() {
+            if !rows.is_complete() {
                 drop(items);
-                return Err(Error::InvalidArgumentError(Argument::Unfinished));
+                return Err(Error::InvalidArgumentError(ArgumentError::Incomplete));
             }
             let marks = push_all(alloc, rows, items)?;
             Ok(marks.as_slice() == [true, false, true].as_slice())
@@ -240,7 +240,7 @@ fn push_row(
 ) -> Result<(), Error> {
     match row {
         Ok(row) => {
-            if !rows.is_whole() {
+            if !rows.is_complete() {
                 drop(row);
                 return UNFINISHED;
             }
@@ -277,7 +277,7 @@ fn extend(
 ) -> Result<(), Error> {
     match items {
         Ok(items) => {
-            if !rows.is_whole() {
+            if !rows.is_complete() {
                 drop(items);
                 return UNFINISHED;
             }

@@ -9,15 +9,15 @@ use nest_flat::any_primitive::mutable::AnyMutablePrimitive;
 use nest_flat::boolean::mutable::MutableBooleanArray;
 use nest_flat::plain::Plain;
 use nest_flat::primitive::mutable::MutablePrimitiveArray;
-use nest_memory::error::{Argument, Error};
+use nest_memory::error::{ArgumentError, Error};
 use std::alloc::Global;
 use std::test::Fail;
 
 const SEVEN: Plain<'static> = Plain::Native(AnyNative::Int64(7));
 
 fn push_plain<B: MutableArray>(builder: &mut B, value: Option<Plain<'_>>) -> Result<(), Error> {
-    if !builder.is_whole() {
-        return Err(Error::InvalidArgumentError(Argument::Unfinished));
+    if !builder.is_complete() {
+        return Err(Error::InvalidArgumentError(ArgumentError::Incomplete));
     }
     builder.try_push_plain(value)
 }
@@ -31,7 +31,7 @@ fn slots_are(array: &AnyArray, expected: [Option<i64>; 2]) -> bool {
 
 /// 7 and a null are taken, a text and a number of another kind are not.
 fn take_values<B: MutableArray>(builder: &mut B) -> Result<bool, Error> {
-    let other_kind = Err(Error::InvalidArgumentError(Argument::ItemType));
+    let other_kind = Err(Error::InvalidArgumentError(ArgumentError::ItemType));
     push_plain(builder, Some(SEVEN))?;
     let no_validity = builder.validity().is_none();
     push_plain(builder, None)?;
@@ -91,7 +91,7 @@ fn join_kinds(
     builder: &mut AnyMutablePrimitive,
     more: &AnyMutablePrimitive,
 ) -> Result<bool, Error> {
-    let other_kind = Err(Error::InvalidArgumentError(Argument::ItemType));
+    let other_kind = Err(Error::InvalidArgumentError(ArgumentError::ItemType));
     let small = AnyMutablePrimitive::Int32(MutablePrimitiveArray::new(alloc));
     let refused = builder.try_extend_from_self(&small) == other_kind;
     drop(small);
@@ -133,12 +133,12 @@ fn a_builder_of_any_native_kind(rt: HostRuntime) {
 fn cut_all<B: MutableArray>(builder: &mut B) -> Result<bool, Error> {
     builder.reserve(10)?;
     builder.shrink_to_fit()?;
-    if !builder.is_whole() || builder.len() != 2 {
+    if !builder.is_complete() || builder.len() != 2 {
         return Ok(false);
     }
     builder.truncate(2);
     let kept = builder.len() == 2;
-    if builder.is_whole() {
+    if builder.is_complete() {
         builder.truncate(0);
     }
     Ok(kept && builder.is_empty())
@@ -167,11 +167,11 @@ fn push_numbers(alloc: Global, numbers: &mut MutablePrimitiveArray<i64>) -> Resu
     Ok(MutableArray::len(numbers) == 3)
 }
 
-fn push_truths(alloc: Global, booleans: &mut MutableBooleanArray) -> Result<bool, Error> {
+fn push_booleans(alloc: Global, booleans: &mut MutableBooleanArray) -> Result<bool, Error> {
     TryPush::try_push(booleans, None::<bool>)?;
     TryExtend::try_extend(booleans, vec![in alloc; Some(true), Some(false)]?)?;
     push_plain(booleans, Some(Plain::Boolean(true)))?;
-    let other_kind = Err(Error::InvalidArgumentError(Argument::ItemType));
+    let other_kind = Err(Error::InvalidArgumentError(ArgumentError::ItemType));
     Ok(push_plain(booleans, Some(SEVEN)) == other_kind)
 }
 
@@ -189,7 +189,7 @@ fn items_of_its_type_are_pushed(rt: HostRuntime) {
     let pushed = push_numbers(rt.alloc(), &mut numbers);
     assert!(rt; pushed == Ok(true));
     let mut booleans = MutableBooleanArray::new(rt.alloc());
-    let pushed = push_truths(rt.alloc(), &mut booleans);
+    let pushed = push_booleans(rt.alloc(), &mut booleans);
     let held = holds_booleans(&booleans);
     assert!(rt; pushed == Ok(true));
     assert!(rt; held);

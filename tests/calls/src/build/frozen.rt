@@ -16,7 +16,7 @@ use nest_build::tried::push_all;
 use nest_flat::primitive::mutable::MutablePrimitiveArray;
 use nest_flat::utf8::mutable::MutableUtf8Array;
 use nest_memory::datatypes::DataType;
-use nest_memory::error::{Argument, Error};
+use nest_memory::error::{ArgumentError, Error};
 use std::alloc::Global;
 
 type Numbers = MutablePrimitiveArray<i64>;
@@ -24,7 +24,7 @@ type Numbers = MutablePrimitiveArray<i64>;
 /// Fixed-size lists.
 type SizedLists = MutableFixedSizeListArray<Numbers>;
 
-const ITEM_SIZE: Error = Error::InvalidArgumentError(Argument::ItemSize);
+const ITEM_SIZE: Error = Error::InvalidArgumentError(ArgumentError::ItemSize);
 
 fn no_lists(alloc: Global, size: usize) -> Result<SizedLists, Error> {
     MutableFixedSizeListArray::new(alloc, MutablePrimitiveArray::new(alloc), size)
@@ -155,7 +155,7 @@ fn a_child_that_lost_items_makes_no_row(rt: HostRuntime) -> Result<(), Error> {
     let mut rows: MutableListArray<i32, Numbers> = MutableListArray::new(alloc, numbers)?;
     rows.try_push(row(alloc, &[Some(1), Some(2)])?)?;
     rows.mut_values().truncate(1);
-    let unfinished = Err(Error::InvalidArgumentError(Argument::Unfinished));
+    let unfinished = Err(Error::InvalidArgumentError(ArgumentError::Incomplete));
     assert!(rt; rows.try_push_valid() == unfinished);
     assert!(rt; rows.len() == 1 && rows.values().len() == 1);
     Ok(())
@@ -176,6 +176,6 @@ fn values_with_a_row_make_no_dictionary(rt: HostRuntime) -> Result<(), Error> {
     texts.try_push(Some("A"))?;
     let made: Result<MutableDictionaryArray<i8, MutableUtf8Array<i32>>, Error> =
         MutableDictionaryArray::try_from_values(alloc, texts);
-    assert!(rt; made.err() == Some(Error::InvalidArgumentError(Argument::ChildNotEmpty)));
+    assert!(rt; made.err() == Some(Error::InvalidArgumentError(ArgumentError::ChildNotEmpty)));
     Ok(())
 }

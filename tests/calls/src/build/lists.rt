@@ -2,6 +2,7 @@
 
 use nest_array::{AnyArray, ListArray};
 use nest_build::array::MutableArray;
+use nest_build::fixed_size_binary::MutableFixedSizeBinaryArray;
 use nest_build::list::MutableListArray;
 use nest_build::null::MutableNullArray;
 use nest_build::push::{TryExtend, TryExtendFromSelf, TryPush};
@@ -11,7 +12,7 @@ use nest_flat::plain::Plain;
 use nest_flat::primitive::mutable::MutablePrimitiveArray;
 use nest_memory::bitmap::mutable::MutableBitmap;
 use nest_memory::datatypes::DataType;
-use nest_memory::error::{Argument, Error, Spec};
+use nest_memory::error::{ArgumentError, Error, SpecError};
 use nest_memory::offsets::Offsets;
 use std::alloc::{AllocError, Global};
 use std::mem;
@@ -72,9 +73,9 @@ fn text_of(alloc: Global, array: Result<ListArray, Error>) -> Result<String, Err
 }
 
 fn push_rows(rows: &mut Lists) -> Result<(), Error> {
-    let rows_told = [Some([Some(1), None].as_slice()), None, Some([].as_slice())];
-    for row in rows_told {
-        if rows.is_whole() {
+    let encoded_rows = [Some([Some(1), None].as_slice()), None, Some([].as_slice())];
+    for row in encoded_rows {
+        if rows.is_complete() {
             rows.try_push(row.map(|items| items.iter().copied()))?;
         }
     }
@@ -120,14 +121,64 @@ fn refusal(array: Result<ListArray, Error>) -> Option<Error> {
     }
 }
 
+/// Pushes a row of the values of a slice.
+fn push_slice(rows: &mut Lists, row: Option<&[Option<i64>]>) -> Result<(), Error> {
+    if !rows.is_complete() {
+        return Err(Error::InvalidArgumentError(ArgumentError::Incomplete));
+    }
+    rows.try_push_slice(row)
+}
+
+/// A value and a null, a null row, no value, and one value.
+#[test]
+fn rows_of_slices(rt: HostRuntime) {
+    let mut rows = no_lists(rt.alloc()).expect(&rt, "no row");
+    let two = push_slice(&mut rows, Some(&[Some(1), None]));
+    let null = push_slice(&mut rows, None);
+    let none = push_slice(&mut rows, Some(&[]));
+    let one = push_slice(&mut rows, Some(&[Some(3)]));
+    let array = rows.freeze();
+    assert!(rt; two == Ok(()) && null == Ok(()) && none == Ok(()) && one == Ok(()));
+    assert!(rt; offsets_are(&array, [0i32, 2, 2, 2, 3].as_slice()));
+    let text = text_of(rt.alloc(), array).expect(&rt, "its text");
+    assert!(rt; text.as_str() == "[ 1 null ] null [ ] [ 3 ] ");
+}
+
+/// Lists of byte strings of length 2.
+type PairLists = MutableListArray<i32, MutableFixedSizeBinaryArray>;
+
+/// Pushes a row of the byte strings of a slice.
+fn push_pairs(rows: &mut PairLists, row: &[Option<&[u8]>]) -> Result<(), Error> {
+    if !rows.is_complete() {
+        return Err(Error::InvalidArgumentError(ArgumentError::Incomplete));
+    }
+    rows.try_push_slice(Some(row))
+}
+
+/// A value of another length rejects its row and removes the values before it.
+#[test]
+fn a_slice_with_a_rejected_value_adds_no_row(rt: HostRuntime) {
+    let pairs = MutableFixedSizeBinaryArray::new(rt.alloc(), 2);
+    let mut rows: PairLists = MutableListArray::new(rt.alloc(), pairs).expect(&rt, "no row");
+    let mixed = [Some(b"ab".as_slice()), Some(b"c".as_slice())];
+    let refused = push_pairs(&mut rows, mixed.as_slice());
+    let before = (rows.len(), rows.values().len());
+    let taken = push_pairs(&mut rows, [Some(b"ab".as_slice()), None].as_slice());
+    let after = (rows.len(), rows.values().len());
+    assert!(rt; refused == Err(Error::InvalidArgumentError(ArgumentError::ItemSize)));
+    assert!(rt; before == (0, 0));
+    assert!(rt; taken == Ok(()));
+    assert!(rt; after == (1, 2));
+}
+
 /// The items of a builder wait until their row is pushed.
 fn wait_and_push(rows: &mut Lists) -> Result<bool, Error> {
     TryPush::try_push(rows.mut_values(), Some(7i64))?;
-    let waits = !rows.is_whole();
-    let unfinished = Some(Error::InvalidArgumentError(Argument::Unfinished));
+    let waits = !rows.is_complete();
+    let unfinished = Some(Error::InvalidArgumentError(ArgumentError::Incomplete));
     let refused = refusal(rows.freeze()) == unfinished;
-    tell(rows)?;
-    Ok(waits && refused && rows.is_whole() && rows.len() == 1)
+    push_row(rows)?;
+    Ok(waits && refused && rows.is_complete() && rows.len() == 1)
 }
 
 /// Items wait until their row is pushed, and a builder with waiting items is not frozen.
@@ -136,7 +187,7 @@ fn items_wait_for_their_row(rt: HostRuntime) {
     let mut rows = no_lists(rt.alloc()).expect(&rt, "no row");
     assert!(rt; wait_and_push(&mut rows) == Ok(true));
     let array = rows.freeze();
-    assert!(rt; rows.is_whole());
+    assert!(rt; rows.is_complete());
     assert!(rt; text_of(rt.alloc(), array).expect(&rt, "its text").as_str() == "[ 7 ] ");
 }
 
@@ -148,7 +199,7 @@ fn rejected_rows_change_nothing(rt: HostRuntime) {
     };
     let mut accepted = 0usize;
     for turn in 0..12u32 {
-        assert!(rt; rows.is_whole());
+        assert!(rt; rows.is_complete());
         let row = if turn % 3 == 2 {
             None
         } else {
@@ -164,11 +215,11 @@ fn rejected_rows_change_nothing(rt: HostRuntime) {
         assert!(rt; error == Error::Memory(AllocError));
     }
     assert!(rt; rows.len() == 0);
-    assert!(rt; rows.is_whole());
+    assert!(rt; rows.is_complete());
 }
 
 /// Pushes a row of the items that wait.
-fn tell(rows: &mut Lists) -> Result<(), Error> {
+fn push_row(rows: &mut Lists) -> Result<(), Error> {
     rows.try_push_valid()
 }
 
@@ -193,7 +244,7 @@ fn push_lengths(rows: &mut Lists, lengths: &[Option<usize>]) -> Result<(), Error
 fn rows_by_their_lengths(rt: HostRuntime) {
     let mut rows = three_waiting(rt.alloc()).expect(&rt, "three waiting");
     let too_few = push_lengths(&mut rows, [Some(2)].as_slice());
-    assert!(rt; too_few == Err(Error::InvalidArgumentError(Argument::LengthsSum)));
+    assert!(rt; too_few == Err(Error::InvalidArgumentError(ArgumentError::LengthsSum)));
     assert!(rt; rows.len() == 0);
     assert!(rt; rows.validity().is_none());
     assert!(rt; push_lengths(&mut rows, [Some(2), None, Some(1)].as_slice()) == Ok(()));
@@ -220,7 +271,7 @@ fn a_child_with_rows_makes_no_lists(rt: HostRuntime) {
     let alloc = rt.alloc();
     let mut child = MutablePrimitiveArray::<i64>::new(alloc);
     TryPush::try_push(&mut child, Some(1i64)).expect(&rt, "a row more");
-    let not_empty = Some(Error::InvalidArgumentError(Argument::ChildNotEmpty));
+    let not_empty = Some(Error::InvalidArgumentError(ArgumentError::ChildNotEmpty));
     assert!(rt; not_made(MutableListArray::new(alloc, child)) == not_empty);
 }
 
@@ -229,11 +280,11 @@ fn lists_of_a_data_type(rt: HostRuntime) {
     let alloc = rt.alloc();
     let child = MutablePrimitiveArray::new(alloc);
     let wrong = MutableListArray::new_from(alloc, child, DataType::Int64, 2);
-    assert!(rt; not_made(wrong) == Some(Error::OutOfSpec(Spec::WrongType)));
+    assert!(rt; not_made(wrong) == Some(Error::OutOfSpec(SpecError::WrongType)));
     let texts = ListArray::default_datatype(alloc, DataType::Utf8).expect(&rt, "a data type");
     let child = MutablePrimitiveArray::new(alloc);
     let wrong = MutableListArray::new_from(alloc, child, texts, 2);
-    assert!(rt; not_made(wrong) == Some(Error::OutOfSpec(Spec::ChildType)));
+    assert!(rt; not_made(wrong) == Some(Error::OutOfSpec(SpecError::ChildType)));
     let numbers = ListArray::default_datatype(alloc, DataType::Int64).expect(&rt, "a data type");
     let child = MutablePrimitiveArray::new(alloc);
     assert!(rt; not_made(MutableListArray::new_from(alloc, child, numbers, 2)) == None);
@@ -247,7 +298,7 @@ fn lists_of_a_data_type(rt: HostRuntime) {
 
 fn push_each(rows: &mut Lists, items: &[Option<&[Option<i64>]>]) -> Result<(), Error> {
     for item in items {
-        if rows.is_whole() {
+        if rows.is_complete() {
             rows.try_push(item.map(|items| items.iter().copied()))?;
         }
     }
@@ -259,33 +310,33 @@ type BoxedLists = MutableListArray<i64, Box<dyn MutableArray>>;
 
 fn push_below(rows: &mut BoxedLists, value: Option<Plain<'_>>) -> Result<(), Error> {
     let child = rows.mut_values();
-    if !child.is_whole() {
-        return Err(Error::InvalidArgumentError(Argument::Unfinished));
+    if !child.is_complete() {
+        return Err(Error::InvalidArgumentError(ArgumentError::Incomplete));
     }
     child.try_push_plain(value)
 }
 
 fn push_boxed(rows: &mut BoxedLists) -> Result<(), Error> {
-    if !rows.values().is_whole() {
-        return Err(Error::InvalidArgumentError(Argument::Unfinished));
+    if !rows.values().is_complete() {
+        return Err(Error::InvalidArgumentError(ArgumentError::Incomplete));
     }
     rows.try_push_valid()
 }
 
 /// Whether 7 and a null are taken, a text isn't, and a row of both is pushed.
 fn take_both(rows: &mut BoxedLists) -> bool {
-    let other_kind = Err(Error::InvalidArgumentError(Argument::ItemType));
+    let other_kind = Err(Error::InvalidArgumentError(ArgumentError::ItemType));
     let taken = push_below(rows, Some(SEVEN)).is_ok();
     let text = push_below(rows, Some(Plain::Text("x"))) == other_kind;
     let null = push_below(rows, None).is_ok();
-    let waits = !rows.is_whole();
-    taken && text && null && waits && push_boxed(rows).is_ok() && rows.is_whole()
+    let waits = !rows.is_complete();
+    taken && text && null && waits && push_boxed(rows).is_ok() && rows.is_complete()
 }
 
 /// Whether the list takes no value, and its one row is valid and no value.
 fn accepts_no_value(rows: &mut BoxedLists) -> bool {
-    let other_kind = Err(Error::InvalidArgumentError(Argument::ItemType));
-    if !rows.is_whole() || rows.try_push_plain(Some(SEVEN)) != other_kind {
+    let other_kind = Err(Error::InvalidArgumentError(ArgumentError::ItemType));
+    if !rows.is_complete() || rows.try_push_plain(Some(SEVEN)) != other_kind {
         return false;
     }
     rows.len() == 1 && rows.is_valid(0) && !rows.holds(0, &SEVEN)
@@ -309,7 +360,7 @@ fn len_of(array: Result<AnyArray, Error>) -> Option<usize> {
 fn a_boxed_child_takes_the_items(rt: HostRuntime) {
     let numbers: MutablePrimitiveArray<i64> = MutablePrimitiveArray::new(rt.alloc());
     let child: Box<dyn MutableArray> = Box::new(rt.alloc(), numbers).expect(&rt, "memory");
-    assert!(rt; child.is_whole());
+    assert!(rt; child.is_complete());
     let mut rows: BoxedLists = MutableListArray::new(rt.alloc(), child).expect(&rt, "memory");
     let both = take_both(&mut rows);
     let lists = accepts_no_value(&mut rows);
@@ -321,7 +372,7 @@ fn a_boxed_child_takes_the_items(rt: HostRuntime) {
 
 /// Whether a null is taken below, and a row of it is pushed.
 fn take_null(rows: &mut BoxedLists) -> bool {
-    push_below(rows, None).is_ok() && push_boxed(rows).is_ok() && rows.is_whole()
+    push_below(rows, None).is_ok() && push_boxed(rows).is_ok() && rows.is_complete()
 }
 
 /// A boxed builder of lists of numbers is the child of a builder of lists.
@@ -333,7 +384,7 @@ fn a_boxed_builder_of_lists_takes_rows(rt: HostRuntime) {
         numbers,
     ).expect(&rt, "memory");
     let child: Box<dyn MutableArray> = Box::new(rt.alloc(), lists).expect(&rt, "memory");
-    assert!(rt; child.is_whole());
+    assert!(rt; child.is_complete());
     let mut rows: BoxedLists = MutableListArray::new(rt.alloc(), child).expect(&rt, "memory");
     let taken = take_null(&mut rows) && take_null(&mut rows);
     let found = len_of(rows.into_box());
@@ -346,12 +397,12 @@ type Nested = MutableListArray<i32, BoxedLists>;
 
 fn push_outer(rows: &mut Nested) -> Result<(), Error> {
     let child = rows.mut_values();
-    if !child.is_whole() {
-        return Err(Error::InvalidArgumentError(Argument::Unfinished));
+    if !child.is_complete() {
+        return Err(Error::InvalidArgumentError(ArgumentError::Incomplete));
     }
     child.push_null()?;
-    if !rows.values().is_whole() {
-        return Err(Error::InvalidArgumentError(Argument::Unfinished));
+    if !rows.values().is_complete() {
+        return Err(Error::InvalidArgumentError(ArgumentError::Incomplete));
     }
     rows.try_push_valid()
 }
@@ -368,9 +419,9 @@ fn shared_len(array: Result<Rc<AnyArray>, Error>) -> Option<usize> {
 fn a_list_over_a_list_of_a_boxed_builder_is_filled_again(rt: HostRuntime) {
     let numbers: MutablePrimitiveArray<i64> = MutablePrimitiveArray::new(rt.alloc());
     let child: Box<dyn MutableArray> = Box::new(rt.alloc(), numbers).expect(&rt, "memory");
-    assert!(rt; child.is_whole());
+    assert!(rt; child.is_complete());
     let inner: BoxedLists = MutableListArray::new(rt.alloc(), child).expect(&rt, "memory");
-    assert!(rt; inner.is_whole());
+    assert!(rt; inner.is_complete());
     let mut rows: Nested = MutableListArray::new(rt.alloc(), inner).expect(&rt, "memory");
     let ended = push_outer(&mut rows).is_ok() && push_outer(&mut rows).is_ok();
     let first = shared_len(rows.as_arc(rt.alloc()));
@@ -385,17 +436,17 @@ fn a_list_over_a_list_of_a_boxed_builder_is_filled_again(rt: HostRuntime) {
 /// Pushes a row over another child, then over the one before.
 fn push_over_both(rows: &mut BoxedLists, other: &mut Box<dyn MutableArray>) -> (bool, bool) {
     mem::swap(rows.mut_values(), other);
-    let unfinished = Err(Error::InvalidArgumentError(Argument::Unfinished));
-    let refused = !rows.is_whole() && push_boxed(rows) == unfinished;
+    let unfinished = Err(Error::InvalidArgumentError(ArgumentError::Incomplete));
+    let refused = !rows.is_complete() && push_boxed(rows) == unfinished;
     mem::swap(rows.mut_values(), other);
-    (refused, rows.is_whole() && push_boxed(rows).is_ok())
+    (refused, rows.is_complete() && push_boxed(rows).is_ok())
 }
 
 #[test]
 fn a_child_of_another_type_makes_no_row(rt: HostRuntime) {
     let numbers: MutablePrimitiveArray<i64> = MutablePrimitiveArray::new(rt.alloc());
     let child: Box<dyn MutableArray> = Box::new(rt.alloc(), numbers).expect(&rt, "memory");
-    assert!(rt; child.is_whole());
+    assert!(rt; child.is_complete());
     let mut rows: BoxedLists = MutableListArray::new(rt.alloc(), child).expect(&rt, "memory");
     let nulls = MutableNullArray::new(rt.alloc(), DataType::Null, 0);
     let mut other: Box<dyn MutableArray> = Box::new(rt.alloc(), nulls).expect(&rt, "memory");
@@ -406,10 +457,10 @@ fn a_child_of_another_type_makes_no_row(rt: HostRuntime) {
 /// Slices, room, and a null.
 fn keep_first(rows: &mut Lists) -> Result<(), Error> {
     rows.reserve(4)?;
-    if rows.is_whole() {
+    if rows.is_complete() {
         rows.push_null()?;
     }
-    if rows.is_whole() && rows.len() == 3 {
+    if rows.is_complete() && rows.len() == 3 {
         rows.truncate(1);
     }
     rows.shrink_to_fit()
@@ -424,7 +475,7 @@ fn rows_are_truncated_with_their_items(rt: HostRuntime) {
     ];
     push_each(&mut rows, two.as_slice()).expect(&rt, "each row");
     keep_first(&mut rows).expect(&rt, "keep first");
-    assert!(rt; rows.is_whole());
+    assert!(rt; rows.is_complete());
     assert!(rt; rows.values().len() == 1);
     let array = rows.freeze();
     assert!(rt; text_of(rt.alloc(), array).expect(&rt, "its text").as_str() == "[ 1 ] ");
@@ -446,19 +497,19 @@ fn by_offsets(alloc: Global, ends: &[usize], bits: usize) -> Result<Lists, Error
 fn lists_by_offsets(rt: HostRuntime) {
     let alloc = rt.alloc();
     let short = by_offsets(alloc, [2].as_slice(), 1);
-    assert!(rt; not_made(short) == Some(Error::InvalidArgumentError(Argument::LengthsSum)));
+    assert!(rt; not_made(short) == Some(Error::InvalidArgumentError(ArgumentError::LengthsSum)));
     let long = by_offsets(alloc, [2, 1].as_slice(), 3);
-    assert!(rt; not_made(long) == Some(Error::OutOfSpec(Spec::ValidityLength)));
+    assert!(rt; not_made(long) == Some(Error::OutOfSpec(SpecError::ValidityLength)));
     let mut rows = by_offsets(alloc, [2, 1].as_slice(), 2).expect(&rt, "by offsets");
-    assert!(rt; rows.is_whole());
+    assert!(rt; rows.is_complete());
     assert!(rt; rows.offsets().len_proxy() == 2);
     let array = rows.freeze();
     assert!(rt; text_of(alloc, array).expect(&rt, "its text").as_str() == "[ 1 2 ] [ 3 ] ");
 }
 /// Adds another builder's rows where both are whole.
 fn join(rows: &mut Lists, other: &Lists) -> Result<(), Error> {
-    if !rows.is_whole() || !other.is_whole() {
-        return Err(Error::InvalidArgumentError(Argument::Unfinished));
+    if !rows.is_complete() || !other.is_complete() {
+        return Err(Error::InvalidArgumentError(ArgumentError::Incomplete));
     }
     rows.try_extend_from_self(other)
 }
@@ -507,6 +558,8 @@ fn rows_of_another_type_are_not_joined(rt: HostRuntime) {
         &rt,
         "new with field",
     );
-    assert!(rt; join(&mut rows, &other) == Err(Error::InvalidArgumentError(Argument::ItemType)));
+    assert!(rt;
+        join(&mut rows, &other) == Err(Error::InvalidArgumentError(ArgumentError::ItemType))
+    );
     assert!(rt; rows.len() == 0);
 }

@@ -5,10 +5,10 @@
 
 use nest_array::FixedSizeBinaryArray;
 use nest_build::fixed_size_binary::MutableFixedSizeBinaryArray;
-use nest_memory::error::{Argument, Error, Spec};
+use nest_memory::error::{ArgumentError, Error, SpecError};
 use std::alloc::Global;
 
-const OTHER_SIZE: Error = Error::InvalidArgumentError(Argument::ItemSize);
+const OTHER_SIZE: Error = Error::InvalidArgumentError(ArgumentError::ItemSize);
 
 /// How many slots, nulls and bytes an array has, and whether a validity is there; it is dropped.
 fn counts(
@@ -51,7 +51,7 @@ fn arrays_of_items(rt: HostRuntime) {
 #[test]
 fn items_of_another_size_make_no_array(rt: HostRuntime) {
     let items = [Some(b"ab".as_slice()), None, Some(b"c".as_slice())];
-    let zero = Err(Error::OutOfSpec(Spec::ZeroSize));
+    let zero = Err(Error::OutOfSpec(SpecError::ZeroSize));
     assert!(rt; counts(array_of(rt.alloc(), items.as_slice(), 0)) == zero);
     assert!(rt; counts(array_of(rt.alloc(), items.as_slice(), 1)) == Err(OTHER_SIZE));
     assert!(rt; counts(array_of(rt.alloc(), items.as_slice(), 2)) == Err(OTHER_SIZE));
@@ -93,7 +93,7 @@ fn frozen(
 #[test]
 fn builders_of_items(rt: HostRuntime) {
     let items = [Some(b"ab".as_slice()), None, Some(b"c".as_slice())];
-    let zero = Err(Error::OutOfSpec(Spec::ZeroSize));
+    let zero = Err(Error::OutOfSpec(SpecError::ZeroSize));
     assert!(rt; counts(frozen(builder_of(rt.alloc(), &items[..2], 2))) == Ok((2, 1, 4, true)));
     assert!(rt; counts(frozen(builder_of(rt.alloc(), items.as_slice(), 2))) == Err(OTHER_SIZE));
     assert!(rt; counts(frozen(builder_of(rt.alloc(), items.as_slice(), 0))) == zero);

@@ -8,17 +8,17 @@ use nest_build::null::MutableNullArray;
 use nest_build::push::TryExtend;
 use nest_flat::primitive::mutable::MutablePrimitiveArray;
 use nest_memory::datatypes::DataType;
-use nest_memory::error::{Argument, Error};
+use nest_memory::error::{ArgumentError, Error};
 use std::alloc::Global;
 use std::mem;
 
-const UNFINISHED: Error = Error::InvalidArgumentError(Argument::Unfinished);
+const UNFINISHED: Error = Error::InvalidArgumentError(ArgumentError::Incomplete);
 
 /// Lists of nulls.
 type NullLists = MutableListArray<i32, MutableNullArray>;
 
 /// Pushes a row of the nulls that wait.
-fn tell(rows: &mut NullLists) -> Result<(), Error> {
+fn push_row(rows: &mut NullLists) -> Result<(), Error> {
     rows.try_push_valid()
 }
 
@@ -34,9 +34,9 @@ fn full_of_nulls(alloc: Global) -> Result<NullLists, Error> {
 #[test]
 fn a_row_ends_at_the_largest_offset_and_none_past_it(rt: HostRuntime) {
     let mut rows = full_of_nulls(rt.alloc()).expect(&rt, "full of nulls");
-    assert!(rt; tell(&mut rows) == Ok(()));
+    assert!(rt; push_row(&mut rows) == Ok(()));
     rows.mut_values().push_null().expect(&rt, "a null more");
-    assert!(rt; tell(&mut rows) == Err(Error::Overflow));
+    assert!(rt; push_row(&mut rows) == Err(Error::Overflow));
     assert!(rt; rows.len() == 1);
     assert!(rt; rows.values().len() == 2147483648);
 }
@@ -67,7 +67,7 @@ fn row(alloc: Global, a: i64) -> Result<Vec<Option<Vec<Option<i64>>>>, Error> {
 
 /// Pushes three rows, one of them null, all of them or none.
 fn push_three(alloc: Global, rows: &mut Rows) -> Result<(), Error> {
-    if !rows.is_whole() {
+    if !rows.is_complete() {
         return Err(UNFINISHED);
     }
     let three = vec![in alloc; Some(row(alloc, 1)?), None, Some(row(alloc, 2)?)]?;
@@ -76,7 +76,7 @@ fn push_three(alloc: Global, rows: &mut Rows) -> Result<(), Error> {
 
 /// Slices where it may be cut there.
 fn cut(rows: &mut Rows, n: usize) {
-    if rows.is_whole() && n <= rows.len() {
+    if rows.is_complete() && n <= rows.len() {
         rows.truncate(n);
     }
 }
@@ -91,5 +91,5 @@ fn rows_are_truncated_to_all_and_to_none(rt: HostRuntime) {
     assert!(rt; levels(&rows) == (2, 2, 4));
     cut(&mut rows, 0);
     assert!(rt; levels(&rows) == (0, 0, 0));
-    assert!(rt; rows.is_whole());
+    assert!(rt; rows.is_complete());
 }

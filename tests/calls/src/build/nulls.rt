@@ -7,7 +7,7 @@ use nest_build::array::MutableArray;
 use nest_build::null::MutableNullArray;
 use nest_flat::plain::Plain;
 use nest_memory::datatypes::DataType;
-use nest_memory::error::{Argument, Error};
+use nest_memory::error::{ArgumentError, Error};
 
 #[test]
 fn a_full_builder_takes_no_null(rt: HostRuntime) {
@@ -33,13 +33,13 @@ fn nulls_in(array: Result<AnyArray, Error>) -> Option<usize> {
 }
 
 fn push_two(nulls: &mut Box<dyn MutableArray>) -> Result<bool, Error> {
-    if !nulls.is_whole() {
+    if !nulls.is_complete() {
         return Ok(false);
     }
     nulls.push_null()?;
     nulls.try_push_plain(None)?;
     let value = nulls.try_push_plain(Some(Plain::Boolean(true)));
-    let refused = value == Err(Error::InvalidArgumentError(Argument::ItemType));
+    let refused = value == Err(Error::InvalidArgumentError(ArgumentError::ItemType));
     Ok(refused && nulls.validity().is_none() && nulls.len() == 5)
 }
 
@@ -50,7 +50,7 @@ fn nulls_are_pushed_and_frozen(rt: HostRuntime) {
     assert!(rt; push_two(&mut nulls) == Ok(true));
     nulls.reserve(7).expect(&rt, "room");
     nulls.shrink_to_fit().expect(&rt, "less room");
-    if nulls.is_whole() && nulls.len() == 5 {
+    if nulls.is_complete() && nulls.len() == 5 {
         assert!(rt; !nulls.is_valid(4));
         assert!(rt; !nulls.holds(4, &Plain::Boolean(false)));
         nulls.truncate(4);

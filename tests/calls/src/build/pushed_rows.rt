@@ -4,7 +4,7 @@
 use nest_array::{AnyArray, FixedSizeListArray, ListArray, NullArray};
 use nest_build::fixed_size_list::{FixedRows, freeze_over};
 use nest_build::list::ListRows;
-use nest_build::list::width::{FrozenRows, ToldRows};
+use nest_build::list::width::{FrozenRows, RowStore};
 use nest_flat::validity;
 use nest_memory::datatypes::DataType;
 use nest_memory::error::Error;
@@ -32,7 +32,7 @@ fn rows_are_pushed_and_frozen(rt: HostRuntime) {
 }
 
 /// Two rows, pushed by what all widths have, and two more of their own.
-fn doubled<R: ToldRows>(alloc: Global) -> Result<R, Error> {
+fn doubled<R: RowStore>(alloc: Global) -> Result<R, Error> {
     let mut rows = R::new(alloc)?;
     let mut more = R::new(alloc)?;
     rows.reserve(4)?;

@@ -9,7 +9,7 @@ use nest_flat::primitive::mutable::MutablePrimitiveArray;
 use nest_memory::bitmap::immutable::Bitmap;
 use nest_memory::buffer::Buffer;
 use nest_memory::datatypes::DataType;
-use nest_memory::error::{Error, Spec};
+use nest_memory::error::{Error, SpecError};
 use nest_memory::offset::Offset;
 use nest_memory::offsets::OffsetsBuffer;
 use std::alloc::Global;
@@ -75,7 +75,7 @@ fn no_lists(alloc: Global) -> Result<Lists, Error> {
 
 fn push_rows(rows: &mut Lists, items: &[Option<&[Option<i64>]>]) -> Result<(), Error> {
     for item in items {
-        if rows.is_whole() {
+        if rows.is_complete() {
             rows.try_push(item.map(|items| items.iter().copied()))?;
         }
     }
@@ -157,7 +157,7 @@ fn offsets_within_and_past_the_numbers(rt: HostRuntime) {
     let rows = [Some([Some(1), Some(2)].as_slice())];
     assert!(rt; are_same(within, pushed(alloc, rows.as_slice())) == Ok(true));
     let past = lists(alloc, numbers(alloc, &[1, 2, 3, 4, 5], None), &[0, 6], None).err();
-    assert!(rt; past == Some(Error::OutOfSpec(Spec::OffsetPastChild)));
+    assert!(rt; past == Some(Error::OutOfSpec(SpecError::OffsetPastChild)));
 }
 
 /// Whether the array was made, and whether it and its items have a validity; it is dropped.

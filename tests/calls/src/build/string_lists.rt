@@ -6,7 +6,7 @@ use nest_build::list::MutableListArray;
 use nest_build::push::TryPush;
 use nest_flat::utf8::Utf8Array;
 use nest_flat::utf8::mutable::MutableUtf8Array;
-use nest_memory::error::{Argument, Error};
+use nest_memory::error::{ArgumentError, Error};
 use std::alloc::Global;
 
 type Lists = MutableListArray<i32, MutableUtf8Array<i32>>;
@@ -19,8 +19,8 @@ fn no_lists(alloc: Global) -> Result<Lists, Error> {
 const WORDS: [Option<&'static str>; 3] = [Some("a"), None, Some("bc")];
 
 fn push_row(rows: &mut Lists, row: Option<&[Option<&'static str>]>) -> Result<(), Error> {
-    if !rows.is_whole() {
-        return Err(Error::InvalidArgumentError(Argument::Unfinished));
+    if !rows.is_complete() {
+        return Err(Error::InvalidArgumentError(ArgumentError::Incomplete));
     }
     rows.try_push(row.map(|items| items.iter().copied()))
 }
@@ -58,7 +58,7 @@ fn lists_of_strings_are_frozen(rt: HostRuntime) {
     let pushed = push_rows(&mut rows);
     let count = rows.len();
     let made = made_at(rows.freeze(), [0i32, 3, 3].as_slice(), b"abc");
-    let empty = rows.is_whole() && rows.is_empty();
+    let empty = rows.is_complete() && rows.is_empty();
     assert!(rt; pushed == Ok(()));
     assert!(rt; count == 2);
     assert!(rt; made);

@@ -10,12 +10,12 @@ use nest_flat::any_native::AnyNative;
 use nest_flat::binary::mutable::MutableBinaryArray;
 use nest_flat::plain::Plain;
 use nest_flat::utf8::mutable::MutableUtf8Array;
-use nest_memory::error::{Argument, Error};
+use nest_memory::error::{ArgumentError, Error};
 use std::alloc::Global;
 
 type Strings = MutableUtf8Array<i32>;
 
-const OTHER_KIND: Error = Error::InvalidArgumentError(Argument::ItemType);
+const OTHER_KIND: Error = Error::InvalidArgumentError(ArgumentError::ItemType);
 
 /// "ab", null, "".
 fn three_utf8(alloc: Global) -> Result<Strings, Error> {
@@ -31,8 +31,8 @@ fn three_utf8(alloc: Global) -> Result<Strings, Error> {
 }
 
 fn push_plain<B: MutableArray>(builder: &mut B, value: Plain<'_>) -> Result<(), Error> {
-    if !builder.is_whole() {
-        return Err(Error::InvalidArgumentError(Argument::Unfinished));
+    if !builder.is_complete() {
+        return Err(Error::InvalidArgumentError(ArgumentError::Incomplete));
     }
     builder.try_push_plain(Some(value))
 }

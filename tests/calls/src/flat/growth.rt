@@ -5,7 +5,7 @@ use nest_flat::boolean::mutable::MutableBooleanArray;
 use nest_flat::primitive::PrimitiveArray;
 use nest_flat::primitive::mutable::MutablePrimitiveArray;
 use nest_memory::datatypes::DataType;
-use nest_memory::error::{Argument, Error};
+use nest_memory::error::{ArgumentError, Error};
 use std::alloc::{AllocError, Global};
 
 const NUMBERS: [Option<i64>; 3] = [Some(1), None, Some(3)];
@@ -121,7 +121,7 @@ fn dates_take_no_plain_numbers(rt: HostRuntime) {
     assert!(rt; matches!(dates.data_type(), DataType::Date32));
     assert!(rt; dates.try_push(Some(19000)) == Ok(()));
     let refused = dates.try_extend_from_self(&plain);
-    assert!(rt; refused == Err(Error::InvalidArgumentError(Argument::ItemType)));
+    assert!(rt; refused == Err(Error::InvalidArgumentError(ArgumentError::ItemType)));
     assert!(rt; dates.len() == 1);
 }
 

@@ -18,7 +18,7 @@ pub(crate) fn no_pairs(alloc: Global) -> Result<Pairs, Error> {
 
 /// Pushes bytes.
 pub(crate) fn push(pairs: &mut Pairs, bytes: &[u8]) -> Result<(), Error> {
-    if !pairs.is_whole() {
+    if !pairs.is_complete() {
         return Err(UNFINISHED);
     }
     pairs.try_push_plain(Some(Plain::Bytes(bytes)))
@@ -83,7 +83,7 @@ impl Calls for Pairs {
     }
 
     fn is_after(&mut self, k: usize) -> bool {
-        self.is_whole()
+        self.is_complete()
             && self.len() == k
             && self.values().len() == k
             && are_numbered(self)

@@ -96,7 +96,7 @@ fn longest_list(alloc: Global) -> Result<NullLists, Error> {
 }
 
 fn push_null(lists: &mut NullLists) -> Result<(), Error> {
-    if !lists.is_whole() {
+    if !lists.is_complete() {
         return Err(UNFINISHED);
     }
     lists.push_null()
@@ -110,7 +110,7 @@ fn push_one_more(lists: &mut NullLists) -> (Result<(), Error>, Result<(), Error>
 
 /// Keeps the first n rows of a builder.
 fn take_back<B: MutableArray>(builder: &mut B, n: usize) {
-    if builder.is_whole() && n <= builder.len() {
+    if builder.is_complete() && n <= builder.len() {
         builder.truncate(n);
     }
 }

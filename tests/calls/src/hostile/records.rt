@@ -79,7 +79,7 @@ fn lists_over(
     data_type: DataType,
     child: AnyMutableArray,
 ) -> Result<AnyMutableArray, Error> {
-    if !child.is_whole() {
+    if !child.is_complete() {
         drop(child);
         drop(data_type);
         return Err(UNFINISHED);
@@ -102,7 +102,7 @@ fn no_lists(alloc: Global) -> Result<AnyMutableArray, Error> {
 fn push(lists: &mut AnyMutableArray, i: usize, value: Option<Plain<'_>>) -> Result<(), Error> {
     match lists.child(0) {
         Some(records) => match records.child(i) {
-            Some(child) if child.is_whole() => child.try_push_plain(value),
+            Some(child) if child.is_complete() => child.try_push_plain(value),
             _ => Err(UNFINISHED),
         },
         None => Err(UNFINISHED),
@@ -110,22 +110,22 @@ fn push(lists: &mut AnyMutableArray, i: usize, value: Option<Plain<'_>>) -> Resu
 }
 
 /// Pushes a row of what waits.
-fn tell(builder: &mut AnyMutableArray, valid: bool) -> Result<(), Error> {
-    if !builder.has_whole_children() {
+fn push_row(builder: &mut AnyMutableArray, valid: bool) -> Result<(), Error> {
+    if !builder.has_complete_children() {
         return Err(UNFINISHED);
     }
-    builder.tell(valid)
+    builder.push_row(valid)
 }
 
-fn tell_record(lists: &mut AnyMutableArray, valid: bool) -> Result<(), Error> {
+fn push_struct_row(lists: &mut AnyMutableArray, valid: bool) -> Result<(), Error> {
     match lists.child(0) {
-        Some(records) => tell(records, valid),
+        Some(records) => push_row(records, valid),
         None => Err(UNFINISHED),
     }
 }
 
 fn add_null(lists: &mut AnyMutableArray) -> Result<(), Error> {
-    if !lists.is_whole() {
+    if !lists.is_complete() {
         return Err(UNFINISHED);
     }
     lists.push_null()
@@ -180,11 +180,11 @@ impl Calls for AnyMutableArray {
         match k {
             0 => push(self, 0, Some(X)),
             1 => push(self, 1, Some(SEVEN)),
-            2 => tell_record(self, true),
+            2 => push_struct_row(self, true),
             3 => push(self, 0, Some(Y)),
             4 => push(self, 1, None),
-            5 => tell_record(self, false),
-            6 => tell(self, true),
+            5 => push_struct_row(self, false),
+            6 => push_row(self, true),
             _ => add_null(self),
         }
     }
@@ -206,7 +206,7 @@ impl Calls for AnyMutableArray {
             Ok(array) => {
                 let same = is_expected(&array);
                 drop(array);
-                Ok(same && self.is_whole())
+                Ok(same && self.is_complete())
             }
             Err(error) => Err(error),
         }

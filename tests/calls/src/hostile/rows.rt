@@ -31,7 +31,7 @@ fn pair_row(alloc: Global, first: i64) -> Result<Vec<Option<Vec<Option<i64>>>>, 
 
 /// Pushes two such rows and a null between them, all of them or none.
 fn extend_by_three(alloc: Global, rows: &mut PairLists) -> Result<(), Error> {
-    if !rows.is_whole() {
+    if !rows.is_complete() {
         return Err(UNFINISHED);
     }
     let three = vec![in alloc; Some(pair_row(alloc, 1)?), None, Some(pair_row(alloc, 2)?)]?;
@@ -72,10 +72,10 @@ impl Calls for PairLists {
     fn is_after(&mut self, k: usize) -> bool {
         let pairs = self.values();
         if k == 0 {
-            return self.is_whole() && has_bits(self, &[]) && has_bits(pairs, &[]);
+            return self.is_complete() && has_bits(self, &[]) && has_bits(pairs, &[]);
         }
         let numbers = [Some(1i64), None, None, None, Some(2), None, None, None];
-        self.is_whole()
+        self.is_complete()
             && has_bits(self, &[true, false, true])
             && has_ends(self.offsets(), &[2, 2, 4])
             && has_bits(pairs, &[true, false, true, false])
@@ -111,7 +111,7 @@ fn no_lists(alloc: Global) -> Result<Lists, Error> {
 
 /// Pushes a row, or a null.
 fn push(rows: &mut Lists, row: Option<&[i64]>) -> Result<(), Error> {
-    if !rows.is_whole() {
+    if !rows.is_complete() {
         return Err(UNFINISHED);
     }
     rows.try_push(row.map(|items| items.iter().map(|item| Some(*item))))
@@ -121,7 +121,7 @@ fn push(rows: &mut Lists, row: Option<&[i64]>) -> Result<(), Error> {
 fn join(alloc: Global, rows: &mut Lists) -> Result<(), Error> {
     let mut other = no_lists(alloc)?;
     let done = push_both(&mut other);
-    let joined = if done.is_ok() && rows.is_whole() && other.is_whole() {
+    let joined = if done.is_ok() && rows.is_complete() && other.is_complete() {
         rows.try_extend_from_self(&other)
     } else {
         done
@@ -167,7 +167,7 @@ impl Calls for Lists {
             2 => (2, 3),
             _ => (4, 4),
         };
-        self.is_whole()
+        self.is_complete()
             && has_bits(self, &[true, true, false, true][..rows])
             && has_ends(self.offsets(), &[1, 3, 3, 4][..rows])
             && has_values(
@@ -200,14 +200,14 @@ type BoxedLists = MutableListArray<i32, Box<dyn MutableArray>>;
 
 fn push_below(rows: &mut BoxedLists, value: Option<Plain<'_>>) -> Result<(), Error> {
     let child = rows.mut_values();
-    if !child.is_whole() {
+    if !child.is_complete() {
         return Err(UNFINISHED);
     }
     child.try_push_plain(value)
 }
 
-fn tell(rows: &mut BoxedLists) -> Result<(), Error> {
-    if !rows.values().is_whole() {
+fn push_row(rows: &mut BoxedLists) -> Result<(), Error> {
+    if !rows.values().is_complete() {
         return Err(UNFINISHED);
     }
     rows.try_push_valid()
@@ -232,7 +232,7 @@ impl Calls for BoxedLists {
         match k {
             0 => push_below(self, Some(Plain::Native(AnyNative::Int64(7)))),
             1 => push_below(self, None),
-            _ => tell(self),
+            _ => push_row(self),
         }
     }
 
@@ -243,7 +243,7 @@ impl Calls for BoxedLists {
             2 => (0, 2),
             _ => (1, 2),
         };
-        self.is_whole() == (k == 0 || k > 2)
+        self.is_complete() == (k == 0 || k > 2)
             && has_bits(self, &[true][..rows])
             && has_ends(self.offsets(), &[2][..rows])
             && has_values(self.values(), &[Some(7i64), None][..items])
@@ -269,7 +269,7 @@ fn a_row_over_a_boxed_child(rt: HostRuntime) -> Result<(), Fail> {
         Ok(child) => child,
         Err(_) => return push_rejected(&rt, true),
     };
-    assert!(rt; child.is_whole());
+    assert!(rt; child.is_complete());
     let made: Result<BoxedLists, Error> = MutableListArray::new(alloc, child);
     let refused = errors_of(&rt, alloc, made);
     push_rejected(&rt, refused > 0)

@@ -2,7 +2,7 @@
 //! made again; a freeze that finds none leaves nothing, and the run begins again.
 use nest_build::array::MutableArray;
 use nest_flat::plain::AsPlain;
-use nest_memory::error::{Argument, Error};
+use nest_memory::error::{ArgumentError, Error};
 use nest_memory::offsets::Offsets;
 use std::alloc::{AllocError, Global};
 use std::process::Abort;
@@ -10,7 +10,7 @@ use std::test::Fail;
 
 pub(crate) const MEMORY: Error = Error::Memory(AllocError);
 
-pub(crate) const UNFINISHED: Error = Error::InvalidArgumentError(Argument::Unfinished);
+pub(crate) const UNFINISHED: Error = Error::InvalidArgumentError(ArgumentError::Incomplete);
 
 /// Calls on a builder, one after another.
 pub(crate) trait Calls {

@@ -36,7 +36,7 @@ fn random(number: u64) -> u64 {
 }
 
 fn add_null<B: MutableArray>(builder: &mut B) -> Result<(), Error> {
-    if !builder.is_whole() {
+    if !builder.is_complete() {
         return Err(UNFINISHED);
     }
     builder.push_null()
@@ -44,14 +44,14 @@ fn add_null<B: MutableArray>(builder: &mut B) -> Result<(), Error> {
 
 /// Keeps the first n rows.
 fn cut<B: MutableArray>(builder: &mut B, n: usize) {
-    if builder.is_whole() && n <= builder.len() {
+    if builder.is_complete() && n <= builder.len() {
         builder.truncate(n);
     }
 }
 
 /// Whether the builder's rows are these, `None` a null.
 fn has_rows<B: MutableArray + Stepped>(builder: &B, rows: &[Option<u32>]) -> bool {
-    if !builder.is_whole() || builder.len() != rows.len() {
+    if !builder.is_complete() || builder.len() != rows.len() {
         return false;
     }
     for i in 0..builder.len() {
@@ -164,7 +164,7 @@ fn no_lists(alloc: Global) -> Result<Lists, Error> {
 
 impl Stepped for Lists {
     fn add(&mut self, number: u32) -> Result<(), Error> {
-        if !self.is_whole() {
+        if !self.is_complete() {
             return Err(UNFINISHED);
         }
         let items = counted(number);
@@ -172,7 +172,7 @@ impl Stepped for Lists {
     }
 
     fn add_rejected(&mut self, number: u32) -> Result<(), Error> {
-        if number % 2 == 0 && self.is_whole() {
+        if number % 2 == 0 && self.is_complete() {
             return self.try_push_plain(Some(Plain::Native(AnyNative::Int64(1))));
         }
         self.try_extend_from_lengths(&[Some(1)])
@@ -204,7 +204,7 @@ fn no_number_pairs(alloc: Global) -> Result<NumberPairs, Error> {
 
 impl Stepped for NumberPairs {
     fn add(&mut self, number: u32) -> Result<(), Error> {
-        if !self.is_whole() {
+        if !self.is_complete() {
             return Err(UNFINISHED);
         }
         let items = counted(number);
@@ -212,7 +212,7 @@ impl Stepped for NumberPairs {
     }
 
     fn add_rejected(&mut self, number: u32) -> Result<(), Error> {
-        if !self.is_whole() {
+        if !self.is_complete() {
             return Err(UNFINISHED);
         }
         let items = counted(number);
@@ -271,7 +271,7 @@ fn field_of(child: &AnyMutableArray, number: u32) -> Plain<'static> {
 /// Pushes the value of the number into each child.
 fn push_each(records: &mut MutableStructArray, number: u32) -> Result<(), Error> {
     for child in records.mut_values() {
-        if !child.is_whole() {
+        if !child.is_complete() {
             return Err(UNFINISHED);
         }
         let value = field_of(child, number);
@@ -288,8 +288,8 @@ fn take_back(records: &mut MutableStructArray, n: usize) {
 }
 
 /// Pushes a row of what waits in complete children.
-fn tell(records: &mut MutableStructArray) -> Result<(), Error> {
-    if !records.has_whole_children() {
+fn push_row(records: &mut MutableStructArray) -> Result<(), Error> {
+    if !records.has_complete_children() {
         return Err(UNFINISHED);
     }
     records.push(true)
@@ -299,7 +299,11 @@ impl Stepped for MutableStructArray {
     fn add(&mut self, number: u32) -> Result<(), Error> {
         let rows = MutableArray::len(self);
         let pushed = push_each(self, number);
-        let ended = if pushed.is_ok() { tell(self) } else { pushed };
+        let ended = if pushed.is_ok() {
+            push_row(self)
+        } else {
+            pushed
+        };
         if ended.is_err() {
             take_back(self, rows);
         }
@@ -307,7 +311,7 @@ impl Stepped for MutableStructArray {
     }
 
     fn add_rejected(&mut self, _number: u32) -> Result<(), Error> {
-        tell(self)
+        push_row(self)
     }
 
     fn is_row(&self, i: usize, number: u32) -> bool {

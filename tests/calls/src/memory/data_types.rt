@@ -1,7 +1,7 @@
 use nest_memory::datatypes::{
     DataType, Field, IntegerType, IntervalUnit, PhysicalType, PrimitiveType, TimeUnit, UnionMode,
 };
-use nest_memory::error::{Argument, Error, Spec};
+use nest_memory::error::{ArgumentError, Error, SpecError};
 use std::alloc::{AllocError, Global};
 use std::process::Abort;
 
@@ -267,12 +267,12 @@ fn strings_of_errors(rt: HostRuntime) {
     let alloc = rt.alloc();
     for (error, text) in [
         (
-            Error::OutOfSpec(Spec::ZeroSize),
+            Error::OutOfSpec(SpecError::ZeroSize),
             "out of specification: slots of a fixed size must have a size of at least 1",
         ),
         (
-            Error::InvalidArgumentError(Argument::Unfinished),
-            "invalid argument: a row of the builder is not whole",
+            Error::InvalidArgumentError(ArgumentError::Incomplete),
+            "invalid argument: a row of the builder is incomplete",
         ),
         (Error::Memory(AllocError), "out of memory"),
     ] {

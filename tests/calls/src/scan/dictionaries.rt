@@ -6,7 +6,7 @@ use nest_array::{AnyArray, AnyKeys, DictionaryArray};
 use nest_flat::primitive::PrimitiveArray;
 use nest_flat::utf8::Utf8Array;
 use nest_memory::datatypes::DataType;
-use nest_memory::error::{Argument, Error};
+use nest_memory::error::{ArgumentError, Error};
 use nest_scan::{
     DictionaryIterTyped, DictionaryValuesIterTyped, Scan, ScanKeys, ScanValues, TextOffset,
 };
@@ -124,7 +124,7 @@ fn typed<O: TextOffset>(
     answer
 }
 
-const NO_STRINGS: Option<Error> = Some(Error::InvalidArgumentError(Argument::ValuesType));
+const NO_STRINGS: Option<Error> = Some(Error::InvalidArgumentError(ArgumentError::ValuesType));
 
 fn large_strings(alloc: Global, offsets: &[i64], bytes: &[u8]) -> Result<AnyArray, Error> {
     match both(offsets_of(alloc, offsets), buffer(alloc, bytes)) {

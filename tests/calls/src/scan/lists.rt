@@ -3,7 +3,7 @@ use crate::scan::parts::{list_array, numbers};
 use crate::scan::walks::{expect_decoded, spell, walked};
 use nest_array::ListArray;
 use nest_memory::error::Error;
-use nest_scan::{ListIter, ListValuesIter, Scan, ScanValues, TryPlaces};
+use nest_scan::{ListIter, ListValuesIter, Scan, ScanValues, TryElements};
 use std::alloc::Global;
 
 /// [1,2], [], [3], [4,5].

@@ -2,7 +2,7 @@
 use nest_array::{AnyArray, AnyScalar, ScalarValue};
 use nest_flat::any_primitive::AnyPrimitive;
 use nest_memory::error::Error;
-use nest_scan::{BothEnds, Places, PlacesIter};
+use nest_scan::{DoubleEnded, Elements, ElementsIter};
 use std::alloc::Global;
 use std::process::Abort;
 
@@ -145,8 +145,8 @@ pub(crate) fn spell<T: Given>(item: Option<T>, text: &mut String) -> Result<(), 
 }
 
 /// Goes the turns of a walk: `>` the next item, `<` the next from the back, and else how many are left.
-pub(crate) fn walk<S: Places + BothEnds>(
-    items: &mut PlacesIter<S>,
+pub(crate) fn walk<S: Elements + DoubleEnded>(
+    items: &mut ElementsIter<S>,
     turns: &str,
     text: &mut String,
 ) -> Result<(), Error>
@@ -164,9 +164,9 @@ where
 }
 
 /// What a walk over these items encodes.
-pub(crate) fn walked<S: Places + BothEnds>(
+pub(crate) fn walked<S: Elements + DoubleEnded>(
     alloc: Global,
-    items: PlacesIter<S>,
+    items: ElementsIter<S>,
     turns: &str,
 ) -> Result<String, Error>
 where

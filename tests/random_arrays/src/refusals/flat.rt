@@ -11,7 +11,7 @@ use nest_flat::primitive::PrimitiveArray;
 use nest_flat::utf8::Utf8Array;
 use nest_memory::buffer::Buffer;
 use nest_memory::datatypes::DataType;
-use nest_memory::error::{Error, Spec};
+use nest_memory::error::{Error, SpecError};
 use nest_memory::offset::Offset;
 use nest_memory::offsets::OffsetsBuffer;
 use nest_memory::types::NativeType;
@@ -25,11 +25,11 @@ pub fn booleans(alloc: Global, rng: &mut Generator, a: &BooleanArray) -> Result<
         0 => None,
         1 => {
             own = other_layout(alloc, rng, a.data_type())?;
-            spec(Spec::WrongType)
+            spec(SpecError::WrongType)
         }
         _ => {
             validity = other_length(alloc, rng, a.len())?;
-            spec(Spec::ValidityLength)
+            spec(SpecError::ValidityLength)
         }
     };
     let answer = BooleanArray::try_new(own, a.values().clone()?, validity);
@@ -47,11 +47,11 @@ fn primitive<T: NativeType + Drop>(
         0 => None,
         1 => {
             own = other_layout(alloc, rng, a.data_type())?;
-            spec(Spec::WrongType)
+            spec(SpecError::WrongType)
         }
         _ => {
             validity = other_length(alloc, rng, a.len())?;
-            spec(Spec::ValidityLength)
+            spec(SpecError::ValidityLength)
         }
     };
     let answer = PrimitiveArray::try_new(own, a.values().clone()?, validity);
@@ -88,15 +88,15 @@ pub fn bytes<O: Offset + From<i8> + Drop>(
         0 => return invalid_offsets(alloc, rng, a.offsets()),
         1 => {
             own = other_layout(alloc, rng, a.data_type())?;
-            spec(Spec::WrongType)
+            spec(SpecError::WrongType)
         }
         2 => {
             validity = other_length(alloc, rng, a.len())?;
-            spec(Spec::ValidityLength)
+            spec(SpecError::ValidityLength)
         }
         3 if last > 0 => {
             values = shortened(a.values(), last - 1)?;
-            spec(Spec::OffsetPastChild)
+            spec(SpecError::OffsetPastChild)
         }
         _ => None,
     };
@@ -149,24 +149,24 @@ pub fn texts<O: Offset + From<i8> + Drop>(
         0 => return invalid_offsets(alloc, rng, a.offsets()),
         1 => {
             own = other_layout(alloc, rng, a.data_type())?;
-            spec(Spec::WrongType)
+            spec(SpecError::WrongType)
         }
         2 => {
             validity = other_length(alloc, rng, a.len())?;
-            spec(Spec::ValidityLength)
+            spec(SpecError::ValidityLength)
         }
         3 if last > 0 => {
             values = shortened(a.values(), last - 1)?;
-            spec(Spec::OffsetPastChild)
+            spec(SpecError::OffsetPastChild)
         }
         4 if last > first => {
             values = without_string(alloc, rng, a.values(), first, last)?;
-            spec(Spec::Text)
+            spec(SpecError::Utf8)
         }
         5 => match inside_a_character(alloc, a)? {
             Some(moved) => {
                 offsets = moved;
-                spec(Spec::Text)
+                spec(SpecError::Utf8)
             }
             None => None,
         },
@@ -183,19 +183,19 @@ pub fn codes(alloc: Global, rng: &mut Generator, a: &FixedSizeBinaryArray) -> Re
     let expected = match rng.below(5) {
         0 => {
             own = DataType::FixedSizeBinary(0);
-            spec(Spec::ZeroSize)
+            spec(SpecError::ZeroSize)
         }
         1 => {
             own = other_layout(alloc, rng, a.data_type())?;
-            spec(Spec::WrongType)
+            spec(SpecError::WrongType)
         }
         2 => {
             validity = other_length(alloc, rng, a.len())?;
-            spec(Spec::ValidityLength)
+            spec(SpecError::ValidityLength)
         }
         3 if a.size() > 1 && values.len() > 0 => {
             values = shortened(a.values(), a.values().len() - 1)?;
-            spec(Spec::NotMultiple)
+            spec(SpecError::NotMultiple)
         }
         _ => None,
     };

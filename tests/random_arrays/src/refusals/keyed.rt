@@ -4,7 +4,7 @@ use crate::refusals::{Trial, other_layout, other_type, spec, trial};
 use nest_array::{AnyKeys, DictionaryArray, DictionaryKey, new_null_array};
 use nest_flat::primitive::PrimitiveArray;
 use nest_memory::datatypes::DataType;
-use nest_memory::error::{Error, Spec};
+use nest_memory::error::{Error, SpecError};
 use random::numbers::Generator;
 use random::types::{logical, random_key_type};
 use std::alloc::Global;
@@ -40,7 +40,7 @@ pub fn keyed(alloc: Global, rng: &mut Generator, a: &DictionaryArray) -> Result<
     let expected = match rng.below(5) {
         0 => {
             own = other_layout(alloc, rng, a.data_type())?;
-            spec(Spec::WrongType)
+            spec(SpecError::WrongType)
         }
         1 => {
             let other = random_key_type(rng);
@@ -48,18 +48,18 @@ pub fn keyed(alloc: Global, rng: &mut Generator, a: &DictionaryArray) -> Result<
             if other == *key {
                 None
             } else {
-                spec(Spec::KeyType)
+                spec(SpecError::KeyType)
             }
         }
         2 => {
             let other = other_type(alloc, rng, value)?;
             values = new_null_array(alloc, other, a.values().len())?;
-            spec(Spec::ChildType)
+            spec(SpecError::ChildType)
         }
         3 => match greatest(a) {
             Some(place) => {
                 values.slice(0, place);
-                spec(Spec::KeyRange)
+                spec(SpecError::KeyRange)
             }
             None => {
                 values.slice(0, 0);
@@ -91,5 +91,5 @@ fn negative_key(alloc: Global, a: &DictionaryArray) -> Result<Trial, Error> {
         i8::wrap(keys),
         values,
     );
-    Ok(trial(answer, spec(Spec::KeyRange)))
+    Ok(trial(answer, spec(SpecError::KeyRange)))
 }

@@ -7,7 +7,7 @@ use nest_array::{
     AnyArray, FixedSizeListArray, LargeListArray, ListArray, MapArray, new_null_array,
 };
 use nest_memory::datatypes::{DataType, Field};
-use nest_memory::error::{Argument, Error, Spec};
+use nest_memory::error::{ArgumentError, Error, SpecError};
 use random::numbers::Generator;
 use random::types::logical;
 use std::alloc::Global;
@@ -37,19 +37,19 @@ pub fn lists(alloc: Global, rng: &mut Generator, a: &ListArray) -> Result<Trial,
         0 => return invalid_offsets(alloc, rng, a.offsets()),
         1 => {
             own = other_layout(alloc, rng, a.data_type())?;
-            spec(Spec::WrongType)
+            spec(SpecError::WrongType)
         }
         2 => {
             validity = other_length(alloc, rng, a.len())?;
-            spec(Spec::ValidityLength)
+            spec(SpecError::ValidityLength)
         }
         3 if last > 0 => {
             items.slice(0, last - 1);
-            spec(Spec::OffsetPastChild)
+            spec(SpecError::OffsetPastChild)
         }
         4 => {
             own = of_other_items(alloc, rng, a.data_type(), &items)?;
-            spec(Spec::ChildType)
+            spec(SpecError::ChildType)
         }
         _ => None,
     };
@@ -66,19 +66,19 @@ pub fn large_lists(alloc: Global, rng: &mut Generator, a: &LargeListArray) -> Re
         0 => return invalid_offsets(alloc, rng, a.offsets()),
         1 => {
             own = other_layout(alloc, rng, a.data_type())?;
-            spec(Spec::WrongType)
+            spec(SpecError::WrongType)
         }
         2 => {
             validity = other_length(alloc, rng, a.len())?;
-            spec(Spec::ValidityLength)
+            spec(SpecError::ValidityLength)
         }
         3 if last > 0 => {
             items.slice(0, last - 1);
-            spec(Spec::OffsetPastChild)
+            spec(SpecError::OffsetPastChild)
         }
         4 => {
             own = of_other_items(alloc, rng, a.data_type(), &items)?;
-            spec(Spec::ChildType)
+            spec(SpecError::ChildType)
         }
         _ => None,
     };
@@ -98,23 +98,23 @@ pub fn sized_lists(
         0 => {
             let field = Field::new(alloc, "item", items.data_type().clone(alloc)?, true)?;
             own = DataType::FixedSizeList(Box::new(alloc, field)?, 0);
-            spec(Spec::ZeroSize)
+            spec(SpecError::ZeroSize)
         }
         1 => {
             own = other_layout(alloc, rng, a.data_type())?;
-            spec(Spec::WrongType)
+            spec(SpecError::WrongType)
         }
         2 => {
             validity = other_length(alloc, rng, a.len())?;
-            spec(Spec::ValidityLength)
+            spec(SpecError::ValidityLength)
         }
         3 if a.size() > 1 && a.len() > 0 => {
             items.slice(0, a.values().len() - 1);
-            spec(Spec::NotMultiple)
+            spec(SpecError::NotMultiple)
         }
         4 => {
             own = of_other_items(alloc, rng, a.data_type(), &items)?;
-            spec(Spec::ChildType)
+            spec(SpecError::ChildType)
         }
         _ => None,
     };
@@ -143,24 +143,24 @@ pub fn maps(alloc: Global, rng: &mut Generator, a: &MapArray) -> Result<Trial, E
         0 => return invalid_offsets(alloc, rng, a.offsets()),
         1 => {
             own = other_layout(alloc, rng, a.data_type())?;
-            spec(Spec::WrongType)
+            spec(SpecError::WrongType)
         }
         2 => {
             validity = other_length(alloc, rng, a.len())?;
-            spec(Spec::ValidityLength)
+            spec(SpecError::ValidityLength)
         }
         3 if last > 0 => {
             entries.slice(0, last - 1);
-            spec(Spec::OffsetPastChild)
+            spec(SpecError::OffsetPastChild)
         }
         4 => {
             own = no_pairs(alloc, rng)?;
-            Some(Error::InvalidArgumentError(Argument::MapInner))
+            Some(Error::InvalidArgumentError(ArgumentError::MapInner))
         }
         5 => {
             let other = other_type(alloc, rng, a.field().data_type())?;
             entries = new_null_array(alloc, other, a.field().len())?;
-            Some(Error::InvalidArgumentError(Argument::ChildType))
+            Some(Error::InvalidArgumentError(ArgumentError::ChildType))
         }
         _ => None,
     };

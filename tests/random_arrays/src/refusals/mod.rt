@@ -11,7 +11,7 @@ use nest_array::{AnyArray, NullArray};
 use nest_memory::bitmap::Bitmap;
 use nest_memory::buffer::Buffer;
 use nest_memory::datatypes::{DataType, PrimitiveType};
-use nest_memory::error::{Error, Spec};
+use nest_memory::error::{Error, SpecError};
 use nest_memory::offset::Offset;
 use nest_memory::offsets::OffsetsBuffer;
 use random::layouts::lay_array;
@@ -37,7 +37,7 @@ fn trial<A: Drop>(answer: Result<A, Error>, expected: Option<Error>) -> Trial {
     }
 }
 
-fn spec(failure: Spec) -> Option<Error> {
+fn spec(failure: SpecError) -> Option<Error> {
     Some(Error::OutOfSpec(failure))
 }
 
@@ -110,17 +110,17 @@ fn invalid_offsets<O: Offset + From<i8> + Drop>(
         0 => None,
         1 => {
             all.truncate(0);
-            spec(Spec::Offsets)
+            spec(SpecError::Offsets)
         }
         2 => {
             all[0] = O::from(-1);
-            spec(Spec::Offsets)
+            spec(SpecError::Offsets)
         }
         _ => {
             let last = indices[indices.len() - 1].to_usize();
             all.push(O::from_usize(last + 1).ok_or(Error::Overflow)?)?;
             all.push(O::from_usize(last).ok_or(Error::Overflow)?)?;
-            spec(Spec::Offsets)
+            spec(SpecError::Offsets)
         }
     };
     Ok(trial(OffsetsBuffer::try_new(alloc, all), expected))
@@ -136,7 +136,10 @@ fn tried(alloc: Global, rng: &mut Generator, array: &AnyArray) -> Result<Trial, 
     match array {
         AnyArray::Null(a) => {
             let other = other_layout(alloc, rng, a.data_type())?;
-            Ok(trial(NullArray::try_new(other, a.len()), spec(Spec::WrongType)))
+            Ok(trial(
+                NullArray::try_new(other, a.len()),
+                spec(SpecError::WrongType),
+            ))
         }
         AnyArray::Boolean(a) => flat::booleans(alloc, rng, a),
         AnyArray::Primitive(a) => flat::natives(alloc, rng, a),

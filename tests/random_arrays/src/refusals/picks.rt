@@ -5,7 +5,7 @@ use crate::refusals::{Trial, other_layout, other_type, shortened, spec, trial};
 use nest_array::{AnyArray, UnionArray, new_null_array};
 use nest_memory::buffer::Buffer;
 use nest_memory::datatypes::{DataType, Field, UnionMode};
-use nest_memory::error::{Error, Spec};
+use nest_memory::error::{Error, SpecError};
 use random::numbers::Generator;
 use random::types::{logical, meant_field};
 use std::alloc::Global;
@@ -83,32 +83,32 @@ fn invalid_type(
     Ok(match rng.below(7) {
         0 => {
             parts.own = other_layout(alloc, rng, a.data_type())?;
-            spec(Spec::WrongType)
+            spec(SpecError::WrongType)
         }
         1 => {
             let left_out = parts.fields.pop();
             drop(left_out);
-            spec(Spec::FieldCount)
+            spec(SpecError::FieldCount)
         }
         2 => {
             let other = other_type(alloc, rng, a.fields()[place].data_type())?;
             parts.fields[place] = new_null_array(alloc, other, a.fields()[place].len())?;
-            spec(Spec::ChildType)
+            spec(SpecError::ChildType)
         }
         3 => {
             too_many(alloc, a, parts)?;
-            spec(Spec::TooManyFields)
+            spec(SpecError::TooManyFields)
         }
         4 => {
             let ids = vec![in alloc; 0; count + 1]?;
             parts.own = under_ids(alloc, a.data_type(), ids)?;
-            spec(Spec::IdCount)
+            spec(SpecError::IdCount)
         }
         5 => {
             let mut ids = vec![in alloc; 0; count]?;
             ids[place] = [-1, 128, 1000][rng.below(3)];
             parts.own = under_ids(alloc, a.data_type(), ids)?;
-            spec(Spec::IdRange)
+            spec(SpecError::IdRange)
         }
         _ => None,
     })
@@ -128,21 +128,21 @@ fn invalid_unions(
         2 if n > 0 => Ok(match a.offsets() {
             Some(offsets) => {
                 parts.offsets = Some(shortened(offsets, n - 1)?);
-                spec(Spec::OffsetCount)
+                spec(SpecError::OffsetCount)
             }
             None => {
                 parts.offsets = Some(Buffer::filled(alloc, 0, n + 1)?);
-                spec(Spec::OffsetCount)
+                spec(SpecError::OffsetCount)
             }
         }),
         3 => Ok(match a.offsets() {
             Some(_) => {
                 parts.offsets = None;
-                spec(Spec::UnionMode)
+                spec(SpecError::UnionMode)
             }
             None => {
                 parts.offsets = Some(Buffer::filled(alloc, 0, n)?);
-                spec(Spec::UnionMode)
+                spec(SpecError::UnionMode)
             }
         }),
         _ => Ok(None),
@@ -166,7 +166,7 @@ fn invalid_kind(
     }
     kinds[rng.below(a.len())] = kind;
     parts.types = Buffer::from_vec(alloc, kinds)?;
-    Ok(spec(Spec::UnionType))
+    Ok(spec(SpecError::UnionType))
 }
 
 /// An offset that names no slot of its field, or a field of a sparse union that has too few.
@@ -189,5 +189,5 @@ fn invalid_slot(
             parts.fields[field].slice(0, slot);
         }
     }
-    Ok(spec(Spec::UnionSlot))
+    Ok(spec(SpecError::UnionSlot))
 }

@@ -3,7 +3,7 @@
 use crate::refusals::{Trial, copied, other_layout, other_length, other_type, spec, trial};
 use nest_array::{AnyArray, StructArray, new_null_array};
 use nest_memory::datatypes::DataType;
-use nest_memory::error::{Error, Spec};
+use nest_memory::error::{Error, SpecError};
 use random::numbers::Generator;
 use std::alloc::Global;
 
@@ -24,29 +24,29 @@ pub fn records(alloc: Global, rng: &mut Generator, a: &StructArray) -> Result<Tr
     let expected = match rng.below(7) {
         0 => {
             own = DataType::Struct(Vec::new(alloc));
-            spec(Spec::NoFields)
+            spec(SpecError::NoFields)
         }
         1 => {
             own = other_layout(alloc, rng, a.data_type())?;
-            spec(Spec::WrongType)
+            spec(SpecError::WrongType)
         }
         2 => {
             validity = other_length(alloc, rng, a.len())?;
-            spec(Spec::ValidityLength)
+            spec(SpecError::ValidityLength)
         }
         3 => {
             let left_out = children.pop();
             drop(left_out);
-            spec(Spec::FieldCount)
+            spec(SpecError::FieldCount)
         }
         4 => {
             let other = other_type(alloc, rng, children[index].data_type())?;
             children[index] = new_null_array(alloc, other, a.len())?;
-            spec(Spec::ChildType)
+            spec(SpecError::ChildType)
         }
         5 if a.len() > 0 && children.len() > 1 => {
             children[index].slice(0, a.len() - 1);
-            spec(Spec::ChildLength)
+            spec(SpecError::ChildLength)
         }
         _ => None,
     };

@@ -1,8 +1,8 @@
-use Rattle.nest_model.specs.BuilderWhole.{IsWhole}
+use Rattle.nest_model.specs.BuilderComplete.{IsComplete}
 use Rattle.bench_array.specs.Trees.{list_tree}
 use Rattle.bench_array.proofs.building.push_lists.Given as goal
 
 abbrev pub invariant-rows : goal.invariant-rows
 invariant-rows l = record {
-  whole : IsWhole (list_tree l.builder.data_type l.builder.rows l.builder.values);
+  whole : IsComplete (list_tree l.builder.data_type l.builder.rows l.builder.values);
 }

@@ -10,9 +10,9 @@ use Rattle.cli_args.specs.Requests.{indices}
 use Rattle.cli_read.proofs.laws.text_of_taken_rows.Goals as goal
 
 pub returns : goal.returns
-returns c = λ wanted h t text some chosen said.
-    let some_of_t = subst (λ (s : SchemaModel). 0 < length s.fields) (sym chosen.0) some in
+returns c = λ wanted h t text some selected said.
+    let some_of_t = subst (λ (s : SchemaModel). 0 < length s.fields) (sym selected.0) some in
     ap (λ ls. option_map text_of_rows (selected_rows (indices wanted) (flat_map rows_of ls))) (with-columns h.schema.fields h.batches some)
-    ∙ ap (option_map text_of_rows) chosen.1
+    ∙ ap (option_map text_of_rows) selected.1
     ∙ sym (ap (λ ls. Some (text_of_rows (flat_map rows_of ls))) (with-columns t.schema.fields t.batches some_of_t))
     ∙ said

@@ -1,7 +1,10 @@
-use Rattle.std.proofs.Common.{◌≡◌, ◌∙◌, None, true, false, ap, sym, subst, map}
+use Rattle.std.proofs.Common.{◌≡◌, ◌∙◌, None, ap, sym, subst, map}
 use Rattle.nest_memory.specs.TypeOf.{field_of}
+use Rattle.std.proofs.lemmas.Bool.{not-false, not-true}
+use Rattle.std.proofs.lemmas.Bool.Decides.{not_from_Decides}
 use Rattle.std.specs.Option.{option_map}
 use Rattle.ipc.specs.Streams.{RecordBatchTree}
+use Rattle.ipc_schema.specs.SchemaEq.{same_schema-decides}
 use Rattle.ipc_schema.specs.Schemas.{SchemaModel}
 use Rattle.cli_read.specs.Readers.{remaining_batches, reader_schema}
 use Rattle.cli_read.proofs.Readers.{fresh}
@@ -14,13 +17,13 @@ use Rattle.cli_write.specs.declared.concat.AppendError.TheVariants as whys
 use Rattle.cli_write.proofs.ConcatSteps.{out-of-memory, put-more, put-schema, stops-more, unlike}
 use Rattle.cli_write.proofs.concat.append_reader.Goals as goal
 
-pub returns-then-not-same_schema-clause-error : goal.returns-then-not-same_schema-clause-error
-returns-then-not-same_schema-clause-error g c = λ form start s went p.
+pub returns-then-ne-clause-error : goal.returns-then-ne-clause-error
+returns-then-ne-clause-error g c = λ form start s went p.
     let r = reader_schema c.args.reader in
     let t = remaining_batches g.R.Read.remaining g.R.Seek.stream_position g.R.Seek.stream_bytes c.args.reader in
     let f = fresh g.R.Read.remaining g.R.Seek.stream_position g.R.Seek.stream_bytes c.args.reader in
     unlike form r s went t f
-    (λ e. let same : true ≡ false = sym (c.same_schema.ensures.1 (c.schema.ensures ∙ put-schema g.W.Write.contents form start s went c.args.writer.now p ∙ sym e ∙ sym c.schema-2.ensures)) ∙ c.if-not-same_schema.true in absurd cc)
+    (λ e. not_from_Decides _ (same_schema-decides _ _) (not-true _ (sym c.ne.ensures ∙ c.if-ne.true)) (c.schema.ensures ∙ put-schema g.W.Write.contents form start s went c.args.writer.now p ∙ sym e ∙ sym c.schema-2.ensures))
 
 pub returns-in-Err-clause-error : goal.returns-in-Err-clause-error
 returns-in-Err-clause-error g c = λ form start s went p.
@@ -34,7 +37,7 @@ pub returns-in-Ok-appended-clause-put : goal.returns-in-Ok-appended-clause-put
 returns-in-Ok-appended-clause-put g c = λ form start s went p.
     let r = reader_schema c.args.reader in
     let t = remaining_batches g.R.Read.remaining g.R.Seek.stream_position g.R.Seek.stream_bytes c.args.reader in
-    let same : r ≡ s = sym c.schema-2.ensures ∙ sym (c.same_schema.ensures.0 c.if-not-same_schema.false) ∙ c.schema.ensures ∙ put-schema g.W.Write.contents form start s went c.args.writer.now p in
+    let same : r ≡ s = sym c.schema-2.ensures ∙ sym ((same_schema-decides _ _).0 (not-false _ (sym c.ne.ensures ∙ c.if-ne.false))) ∙ c.schema.ensures ∙ put-schema g.W.Write.contents form start s went c.args.writer.now p in
     put-more g.W.Write.contents form start r s went t c.append_typed-appended.new.writer same (c.in-Ok-appended.ensures.put form start went (subst (λ (x : SchemaModel). HasWritten g.W.Write.contents form start x went c.args.writer.now) (sym same) p))
 
 pub returns-in-Err-appended-clause-error : goal.returns-in-Err-appended-clause-error
@@ -42,5 +45,5 @@ returns-in-Err-appended-clause-error g c = λ form start s went p.
     let r = reader_schema c.args.reader in
     let t = remaining_batches g.R.Read.remaining g.R.Seek.stream_position g.R.Seek.stream_bytes c.args.reader in
     let f = fresh g.R.Read.remaining g.R.Seek.stream_position g.R.Seek.stream_bytes c.args.reader in
-    let same : r ≡ s = sym c.schema-2.ensures ∙ sym (c.same_schema.ensures.0 c.if-not-same_schema.false) ∙ c.schema.ensures ∙ put-schema g.W.Write.contents form start s went c.args.writer.now p in
+    let same : r ≡ s = sym c.schema-2.ensures ∙ sym ((same_schema-decides _ _).0 (not-false _ (sym c.ne.ensures ∙ c.if-ne.false))) ∙ c.schema.ensures ∙ put-schema g.W.Write.contents form start s went c.args.writer.now p in
     stops-more form r s went t c.in-Err-appended.error f same (c.in-Err-appended.ensures.error form start went (subst (λ (x : SchemaModel). HasWritten g.W.Write.contents form start x went c.args.writer.now) (sym same) p))

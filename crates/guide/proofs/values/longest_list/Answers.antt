@@ -2,7 +2,7 @@ use Rattle.std.specs.Prelude.{Some, Ok}
 use Rattle.std.proofs.Common.{rules, ◌≡◌, ◌+◌, ◌-◌, ap, subst, ◌∙◌}
 use Rattle.nest_model.specs.Meaning.{slots_of}
 use Rattle.nest_scan.specs.Items.{IsList}
-use Rattle.nest_scan.specs.Places.{IsItemOrMemory, IsItemOrNull, PlacesLeft}
+use Rattle.nest_scan.specs.Elements.{IsItemOrMemory, IsItemOrNull, ElementsLeft}
 use Rattle.guide.specs.Columns.{max_list_length}
 use Rattle.guide.proofs.Rows.{longest_some, longest_none}
 use Rattle.guide.proofs.values.longest_list.Goals as goal

@@ -1,5 +1,5 @@
 use Rattle.std.proofs.Common.{◌≡◌, ◌+◌, ◌-◌, ◌*◌, ◌^◌, ◌<◌, refl, arith}
-use Rattle.nest_memory.specs.Cut.{cut}
+use Rattle.nest_memory.specs.Sublist.{sublist}
 use Rattle.ipc_arrays.specs.Bitmaps.{byte_value}
 use Rattle.std.specs.Int.{from_bool}
 use Rattle.ipc_arrays.proofs.Packing.{byte_more, byte_small, byte_done}
@@ -8,7 +8,7 @@ use Rattle.ipc_arrays.proofs.bits.byte_of.Goals as goal
 pub loop-i-init : goal.loop-i-init
 loop-i-init c = unfold byte_value in refl
 
-more : (c : goal.After-get_bit) → 2 * c.loop-i.byte + from_bool c.get_bit.result ≡ byte_value (cut c.args.bits.now (c.args.first + (c.min-count.result - (c.loop-i.i + 1))) (c.loop-i.i + 1))
+more : (c : goal.After-get_bit) → 2 * c.loop-i.byte + from_bool c.get_bit.result ≡ byte_value (sublist c.args.bits.now (c.args.first + (c.min-count.result - (c.loop-i.i + 1))) (c.loop-i.i + 1))
 more c = byte_more c.args.bits.now c.args.first c.min-count.result c.loop-i.i c.loop-i.byte c.get_bit.result c.loop-i-test.true (omega arith) (omega arith) c.loop-i.invariant c.get_bit.ensures
 
 pub overflow_mul-byte : goal.overflow_mul-byte

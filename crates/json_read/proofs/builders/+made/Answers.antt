@@ -4,7 +4,7 @@ use Rattle.nest_any.specs.Trees.{trees_of}
 use Rattle.nest_any.specs.Refusals.{IsOfLists, first_rows, struct_checks}
 use Rattle.nest_any.specs.Words.{Pass, physical_type, type_of}
 use Rattle.nest_array.proofs.NullMakes.{field-lighter, weight-of}
-use Rattle.nest_build.specs.Rows.{bits_told}
+use Rattle.nest_build.specs.Rows.{encoded_bits}
 use Rattle.nest_memory.specs.TypeOf.{field_of}
 use Rattle.nest_memory.specs.TypeTree.{item_type, value_type}
 use Rattle.nest_memory.specs.declared.datatypes.physical_type.PhysicalType.TheVariants as physical
@@ -75,8 +75,8 @@ records-children-requires t c =
     let e = ap fields_weight c.fields.ensures.fields in
     (omega (arith, e, fields-lighter a), ap unsupported_fields c.fields.ensures.fields ∙ (fields-read a c.requires.kind c.requires.supported).1)
 
-pub records-new-records-requires-clause-whole : goal.records-new-records-requires-clause-whole
-records-new-records-requires-clause-whole t c =
+pub records-new-records-requires-clause-complete : goal.records-new-records-requires-clause-complete
+records-new-records-requires-clause-complete t c =
     let a = type_of c.args.data_type.now in
     let bs = trees_of c.in-Ok.children.items in
     (records-fit a bs c.requires.kind c.requires.supported (subst (λ fs. AreEmptyOf fs bs) c.fields.ensures.fields c.in-Ok.ensures.ok)).0
@@ -91,5 +91,5 @@ pub records-returns-in-Ok-clone-clause-ok : goal.records-returns-in-Ok-clone-cla
 records-returns-in-Ok-clone-clause-ok t c =
     let a = type_of c.args.data_type.now in
     let bs = trees_of c.in-Ok.children.items in
-    subst (IsEmptyOf a) (sym c.new-records.ensures) (subst (λ u. IsEmptyOf a (builders.struct u (bits_told (first_rows bs) None) bs)) (sym c.in-Ok-clone.ensures.ok)
+    subst (IsEmptyOf a) (sym c.new-records.ensures) (subst (λ u. IsEmptyOf a (builders.struct u (encoded_bits (first_rows bs) None) bs)) (sym c.in-Ok-clone.ensures.ok)
     (records-empty a bs c.requires.kind (subst (λ fs. AreEmptyOf fs bs) c.fields.ensures.fields c.in-Ok.ensures.ok)))

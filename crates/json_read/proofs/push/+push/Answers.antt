@@ -6,17 +6,17 @@ use Rattle.json.specs.Value.{items_view, members_view, value_view}
 use Rattle.json.proofs.Trees.{item_smaller, member_smaller, view-Array, view-Object}
 use Rattle.nest_any.specs.Lent.{builder_at}
 use Rattle.nest_any.specs.Trees.{tree_of, trees_of}
-use Rattle.nest_any.specs.Words.{AreEachWhole, IsWhole, builder_len, builder_type, count_builders, list_child, struct_children}
+use Rattle.nest_any.specs.Words.{AreEachComplete, IsComplete, builder_len, builder_type, count_builders, list_child, struct_children}
 use Rattle.json_read.specs.DistinctNames.{HasDistinctFieldNames}
 use Rattle.json_read.specs.StructMembers.{NullsAdded, child_error, child_named, field_name_at_index}
 use Rattle.json_read.specs.FlatValues.{first_error}
 use Rattle.json_read.specs.JsonSlots.{value_error, field_slots, items_error, member_slots, members_error, length_error, slot_of, type_named}
-use Rattle.json_read.specs.RowAdded.{IsPushError, RowAdded, RowsAdded}
+use Rattle.json_read.specs.SlotAdded.{IsPushError, SlotAdded, SlotsAdded}
 use Rattle.json_read.proofs.Feeding.{fed-none, named-at, named-none}
 use Rattle.json_read.proofs.Stepping.{refuses-first}
 use Rattle.json_read.proofs.ToldLists.{list-added}
 use Rattle.json_read.proofs.TypeParts.{child-apart, child-parts, struct-apart, struct-members}
-use Rattle.json_read.proofs.Pushed.{on-ok, value-list, error-list, size-wrong, size-right, first-later, trees-count, types-count, tree-at, whole-child, child-repeated, child-reason, some-len, error-object, Coming, children-whole, records-typed, over-same, coming-children, coming-ready, coming-next, coming-stop, coming-told}
+use Rattle.json_read.proofs.Pushed.{on-ok, value-list, error-list, size-wrong, size-right, first-later, trees-count, types-count, tree-at, whole-child, child-repeated, child-reason, some-len, error-object, Coming, children-whole, records-typed, over-same, coming-children, coming-ready, coming-next, coming-stop, coming-with_row}
 use Rattle.nest_memory.specs.TypeTree.{Letters, count_fields, fields_of, fixed_size}
 use Rattle.nest_model.specs.Slot as slots
 use Rattle.nest_model.specs.Slot.{Slot, seal}
@@ -31,24 +31,24 @@ pub push_items-push_value-requires : goal.push_items-push_value-requires
 push_items-push_value-requires t c =
     let l = c.loop-item in
     let here = ap (λ v. length (json_tokens (value_view v))) c.item-item.is in
-    (omega (arith, here, item_smaller c.args.items.now l.item-index c.item-item.result c.loop-item-test.true), (l.invariant.whole, subst HasDistinctFieldNames (sym l.invariant.same_type) c.requires.distinct))
+    (omega (arith, here, item_smaller c.args.items.now l.item-index c.item-item.result c.loop-item-test.true), (l.invariant.complete, subst HasDistinctFieldNames (sym l.invariant.same_type) c.requires.distinct))
 
 pub push_list-push_items-requires : goal.push_list-push_items-requires
 push_list-push_items-requires t c =
-    let p = child-parts c.args.lists.now c.known.ensures.kind c.requires.whole c.requires.distinct in
+    let p = child-parts c.args.lists.now c.known.ensures.kind c.requires.complete c.requires.distinct in
     let v = c.child.ensures.value in
-    (omega arith, (subst IsWhole (sym v) p.2, subst (λ b. HasDistinctFieldNames (builder_type b)) (sym v) p.1))
+    (omega arith, (subst IsComplete (sym v) p.2, subst (λ b. HasDistinctFieldNames (builder_type b)) (sym v) p.1))
 
 pub push_list-returns-in-Err-clause-error : goal.push_list-returns-in-Err-clause-error
 push_list-returns-in-Err-clause-error t c =
-    let p = child-parts c.args.lists.now c.known.ensures.kind c.requires.whole c.requires.distinct in
+    let p = child-parts c.args.lists.now c.known.ensures.kind c.requires.complete c.requires.distinct in
     let typed = ap builder_type c.child.ensures.value ∙ sym p.0 in
     refuses-first c.in-Err.error (items_error (items_type (builder_type c.args.lists.now)) (items_view c.args.items.now)) (length_error c.args.size (length c.args.items.now))
     (subst (λ u. IsPushError c.in-Err.error (items_error u (items_view c.args.items.now))) typed c.in-Err.ensures.error)
 
 pub push_list-returns-then-size-items-clause-error : goal.push_list-returns-then-size-items-clause-error
 push_list-returns-then-size-items-clause-error t c =
-    let p = child-parts c.args.lists.now c.known.ensures.kind c.requires.whole c.requires.distinct in
+    let p = child-parts c.args.lists.now c.known.ensures.kind c.requires.complete c.requires.distinct in
     let typed = ap builder_type c.child.ensures.value ∙ sym p.0 in
     first-later _ _ (subst (λ u. items_error u (items_view c.args.items.now) ≡ None) typed c.in_default.ensures.valid)
     ∙ size-wrong c.args.size c.in-Some.size (length c.args.items.now) c.in-Some.is c.if-size-items.true
@@ -57,22 +57,22 @@ pub push_list-returns-clause-added : goal.push_list-returns-clause-added
 push_list-returns-clause-added t c =
     let b = c.args.lists.now in
     let d = tree_of c.push_items.new.child in
-    let p = child-parts b c.known.ensures.kind c.requires.whole c.requires.distinct in
+    let p = child-parts b c.known.ensures.kind c.requires.complete c.requires.distinct in
     let items = c.args.items.now in
-    let one = subst (λ x. RowsAdded (map (λ v. slot_of (builder_type x) (value_view v)) items) x d) c.child.ensures.value c.in_default.ensures.added in
-    let added = subst (λ u. RowsAdded (map (λ v. slot_of u (value_view v)) items) (list_child b) d) (sym p.0) one in
-    on-ok c.push_list_slot.result _ _ (λ told. list-added (map (λ v. slot_of (items_type (builder_type b)) (value_view v)) items) b d c.push_list_slot.new.lists c.known.ensures.kind c.requires.whole added told) c.push_list_slot.ensures.added
+    let one = subst (λ x. SlotsAdded (map (λ v. slot_of (builder_type x) (value_view v)) items) x d) c.child.ensures.value c.in_default.ensures.added in
+    let added = subst (λ u. SlotsAdded (map (λ v. slot_of u (value_view v)) items) (list_child b) d) (sym p.0) one in
+    on-ok c.push_list_slot.result _ _ (λ with_row. list-added (map (λ v. slot_of (items_type (builder_type b)) (value_view v)) items) b d c.push_list_slot.new.lists c.known.ensures.kind c.requires.complete added with_row) c.push_list_slot.ensures.added
 
 pub push_list-returns-clause-valid : goal.push_list-returns-clause-valid
 push_list-returns-clause-valid t c =
-    let p = child-parts c.args.lists.now c.known.ensures.kind c.requires.whole c.requires.distinct in
+    let p = child-parts c.args.lists.now c.known.ensures.kind c.requires.complete c.requires.distinct in
     let typed = ap builder_type c.child.ensures.value ∙ sym p.0 in
     let none = subst (λ u. items_error u (items_view c.args.items.now) ≡ None) typed c.in_default.ensures.valid in
     let size : length_error c.args.size (length c.args.items.now) ≡ None = elim c.match-size.branch [
       | push_list-in-Some+else-size-items w ↦ size-right c.args.size w.in-Some.size (length c.args.items.now) w.in-Some.is w.if-size-items.false
       | push_list-in_default-size w ↦ ap (λ o. length_error o (length c.args.items.now)) w.in_default-size.is
     ] in
-    on-ok c.push_list_slot.result _ _ (λ told. first-later _ _ none ∙ size) c.push_list_slot.ensures.added
+    on-ok c.push_list_slot.result _ _ (λ with_row. first-later _ _ none ∙ size) c.push_list_slot.ensures.added
 
 pub push_value-returns-in-List-clause-added : goal.push_value-returns-in-List-clause-added
 push_value-returns-in-List-clause-added t c =
@@ -80,10 +80,10 @@ push_value-returns-in-List-clause-added t c =
     let seen = ap value_view c.in-Array.is ∙ view-Array c.in-Array.items in
     let tree = ap tree_of c.in-List.is in
     let items = c.in-Array.items.items in
-    subst (λ x. OnOk c.push_list.result (RowAdded (slot_of (builder_type x) (value_view c.args.value.now)) x c.push_list.new.lists)) (sym tree)
-    (subst (λ j. OnOk c.push_list.result (RowAdded (slot_of (builder_type b) j) b c.push_list.new.lists)) (sym seen)
-    (subst (λ s. OnOk c.push_list.result (RowAdded s b c.push_list.new.lists)) (sym (value-list (builder_type b) items c.push_list.ensures.lists))
-    (subst (λ vs. OnOk c.push_list.result (RowAdded (slots.list (seal (map (λ v. slot_of (items_type (builder_type b)) (value_view v)) vs))) b c.push_list.new.lists)) c.deref.ensures.value c.push_list.ensures.added)))
+    subst (λ x. OnOk c.push_list.result (SlotAdded (slot_of (builder_type x) (value_view c.args.value.now)) x c.push_list.new.lists)) (sym tree)
+    (subst (λ j. OnOk c.push_list.result (SlotAdded (slot_of (builder_type b) j) b c.push_list.new.lists)) (sym seen)
+    (subst (λ s. OnOk c.push_list.result (SlotAdded s b c.push_list.new.lists)) (sym (value-list (builder_type b) items c.push_list.ensures.lists))
+    (subst (λ vs. OnOk c.push_list.result (SlotAdded (slots.list (seal (map (λ v. slot_of (items_type (builder_type b)) (value_view v)) vs))) b c.push_list.new.lists)) c.deref.ensures.value c.push_list.ensures.added)))
 
 pub push_value-returns-in-List-clause-valid : goal.push_value-returns-in-List-clause-valid
 push_value-returns-in-List-clause-valid t c =
@@ -146,9 +146,9 @@ pub push_member-push_value-requires : goal.push_member-push_value-requires
 push_member-push_value-requires t c =
     let b = c.args.records.now in
     let names = struct-apart (builder_type b) c.known.ensures.records c.requires.1.1.1.1 in
-    let whole = whole-child (struct_children b) c.in-Some.i (tree_of c.value.result.now) (children-whole b c.known.ensures.kind c.requires.1.1.0) c.value.ensures.value in
+    let complete = whole-child (struct_children b) c.in-Some.i (tree_of c.value.result.now) (children-whole b c.known.ensures.kind c.requires.1.1.0) c.value.ensures.value in
     let distinct = child-apart (fields_of (builder_type b)) (struct_children b) c.in-Some.i (tree_of c.value.result.now) c.requires.1.1.1.0 names.1 (sym c.value.ensures.value) in
-    (omega arith, (whole, distinct))
+    (omega arith, (complete, distinct))
 
 pub push_member-returns-in-Ok-clause-added : goal.push_member-returns-in-Ok-clause-added
 push_member-returns-in-Ok-clause-added t c =
@@ -191,7 +191,7 @@ push_members-loop-member-init t c =
       [],
       record {
         slots = refl;
-        fed = fed-none (fields_of (builder_type b)) (struct_children b) (records-typed b c.known.ensures.kind c.requires.whole);
+        fed = fed-none (fields_of (builder_type b)) (struct_children b) (records-typed b c.known.ensures.kind c.requires.complete);
         set = over-same b c.known.ensures.kind;
         faults = refl;
       },
@@ -202,7 +202,7 @@ push_members-push_member-requires t c =
     let l = c.loop-member in
     let i = l.invariant in
     let here = ap (λ m. length (json_tokens (value_view m.1))) c.member-item.is in
-    let coming : Coming c.args.records.now l.records i.0 = record { kind = c.known.ensures.kind; records = c.known.ensures.records; distinct = c.requires.distinct; whole = c.requires.whole; fed = i.1.fed; set = i.1.set } in
+    let coming : Coming c.args.records.now l.records i.0 = record { kind = c.known.ensures.kind; records = c.known.ensures.records; distinct = c.requires.distinct; complete = c.requires.complete; fed = i.1.fed; set = i.1.set } in
     let ready = coming-ready c.args.records.now l.records i.0 coming in
     (omega (arith, here, member_smaller c.args.members.now l.member-index c.member-item.result c.loop-member-test.true), (ready.0, (ready.1, ready.2)))
 
@@ -213,7 +213,7 @@ push_members-returns-in-Err-clause-error t c =
     let b = c.args.records.now in
     let xs = c.args.members.now in
     let x = c.member-item.result in
-    let coming : Coming b l.records i.0 = record { kind = c.known.ensures.kind; records = c.known.ensures.records; distinct = c.requires.distinct; whole = c.requires.whole; fed = i.1.fed; set = i.1.set } in
+    let coming : Coming b l.records i.0 = record { kind = c.known.ensures.kind; records = c.known.ensures.records; distinct = c.requires.distinct; complete = c.requires.complete; fed = i.1.fed; set = i.1.set } in
     let here : drop l.member-index xs ≡ x ∷ drop (l.member-index + 1) xs = drop_more xs l.member-index x c.loop-member-test.true ∙ ap (λ y. y ∷ drop (l.member-index + 1) xs) (sym c.member-item.is) in
     let rest = members_view (drop (l.member-index + 1) xs) in
     let stop = coming-stop b l.records i.0 x.0.now (value_view x.1) rest c.args.len c.in-Err.error coming c.requires.len c.in-Err.ensures.error in
@@ -227,7 +227,7 @@ push_members-loop-member-preserved t c =
     let fs = fields_of (builder_type b) in
     let xs = c.args.members.now in
     let x = c.member-item.result in
-    let coming : Coming b l.records i.0 = record { kind = c.known.ensures.kind; records = c.known.ensures.records; distinct = c.requires.distinct; whole = c.requires.whole; fed = i.1.fed; set = i.1.set } in
+    let coming : Coming b l.records i.0 = record { kind = c.known.ensures.kind; records = c.known.ensures.records; distinct = c.requires.distinct; complete = c.requires.complete; fed = i.1.fed; set = i.1.set } in
     let here : drop l.member-index xs ≡ x ∷ drop (l.member-index + 1) xs = drop_more xs l.member-index x c.loop-member-test.true ∙ ap (λ y. y ∷ drop (l.member-index + 1) xs) (sym c.member-item.is) in
     let rest = members_view (drop (l.member-index + 1) xs) in
     let one : Letters × Slot = (x.0.now, slot_of (type_named x.0.now fs) (value_view x.1)) in
@@ -246,28 +246,28 @@ push_struct-push_missing_nulls-requires t c =
     let b = c.args.records.now in
     let fed = c.in_ok-push_members.ensures.added in
     let ms = member_slots (fields_of (builder_type b)) (members_view c.args.members.now) in
-    let coming : Coming b c.push_members.new.records ms = record { kind = c.known.ensures.kind; records = c.known.ensures.records; distinct = c.requires.distinct; whole = c.requires.whole; fed = fed.added; set = fed.set } in
+    let coming : Coming b c.push_members.new.records ms = record { kind = c.known.ensures.kind; records = c.known.ensures.records; distinct = c.requires.distinct; complete = c.requires.complete; fed = fed.added; set = fed.set } in
     let ready = coming-ready b c.push_members.new.records ms coming in
-    subst AreEachWhole (sym c.mut_values.ensures.value) (coming-children b c.push_members.new.records ms coming)
+    subst AreEachComplete (sym c.mut_values.ensures.value) (coming-children b c.push_members.new.records ms coming)
 
 pub push_struct-push_struct_slot-requires : goal.push_struct-push_struct_slot-requires
 push_struct-push_struct_slot-requires t c =
     let b = c.args.records.now in
     let fed = c.in_ok-push_members.ensures.added in
     let ms = member_slots (fields_of (builder_type b)) (members_view c.args.members.now) in
-    let coming : Coming b c.push_members.new.records ms = record { kind = c.known.ensures.kind; records = c.known.ensures.records; distinct = c.requires.distinct; whole = c.requires.whole; fed = fed.added; set = fed.set } in
+    let coming : Coming b c.push_members.new.records ms = record { kind = c.known.ensures.kind; records = c.known.ensures.records; distinct = c.requires.distinct; complete = c.requires.complete; fed = fed.added; set = fed.set } in
     let done = subst (λ cs. NullsAdded c.len-len.result cs (trees_of c.push_missing_nulls.new.children)) c.mut_values.ensures.value c.in_ok-push_missing_nulls.ensures.completed in
-    (coming-told b c.push_members.new.records ms (trees_of c.push_missing_nulls.new.children) c.len-len.result coming c.len-len.ensures done).0
+    (coming-with_row b c.push_members.new.records ms (trees_of c.push_missing_nulls.new.children) c.len-len.result coming c.len-len.ensures done).0
 
 pub push_struct-returns-clause-added : goal.push_struct-returns-clause-added
 push_struct-returns-clause-added t c =
     let b = c.args.records.now in
     let fed = c.in_ok-push_members.ensures.added in
     let ms = member_slots (fields_of (builder_type b)) (members_view c.args.members.now) in
-    let coming : Coming b c.push_members.new.records ms = record { kind = c.known.ensures.kind; records = c.known.ensures.records; distinct = c.requires.distinct; whole = c.requires.whole; fed = fed.added; set = fed.set } in
+    let coming : Coming b c.push_members.new.records ms = record { kind = c.known.ensures.kind; records = c.known.ensures.records; distinct = c.requires.distinct; complete = c.requires.complete; fed = fed.added; set = fed.set } in
     let done = subst (λ cs. NullsAdded c.len-len.result cs (trees_of c.push_missing_nulls.new.children)) c.mut_values.ensures.value c.in_ok-push_missing_nulls.ensures.completed in
-    let told = coming-told b c.push_members.new.records ms (trees_of c.push_missing_nulls.new.children) c.len-len.result coming c.len-len.ensures done in
-    on-ok c.push_struct_slot.result _ _ (told.1 c.push_struct_slot.new.records) c.push_struct_slot.ensures.added
+    let with_row = coming-with_row b c.push_members.new.records ms (trees_of c.push_missing_nulls.new.children) c.len-len.result coming c.len-len.ensures done in
+    on-ok c.push_struct_slot.result _ _ (with_row.1 c.push_struct_slot.new.records) c.push_struct_slot.ensures.added
 
 pub push_value-returns-in-Struct-clause-added : goal.push_value-returns-in-Struct-clause-added
 push_value-returns-in-Struct-clause-added t c =
@@ -276,10 +276,10 @@ push_value-returns-in-Struct-clause-added t c =
     let tree = ap tree_of c.in-Struct.is in
     let ms = c.in-Object.members.items in
     let same = struct-members (builder_type b) c.push_struct.ensures.records in
-    subst (λ x. OnOk c.push_struct.result (RowAdded (slot_of (builder_type x) (value_view c.args.value.now)) x c.push_struct.new.records)) (sym tree)
-    (subst (λ j. OnOk c.push_struct.result (RowAdded (slot_of (builder_type b) j) b c.push_struct.new.records)) (sym seen)
-    (subst (λ fs. OnOk c.push_struct.result (RowAdded (slots.record_of (field_slots fs (member_slots fs (members_view ms)))) b c.push_struct.new.records)) (sym same)
-    (subst (λ vs. OnOk c.push_struct.result (RowAdded (slots.record_of (field_slots (fields_of (builder_type b)) (member_slots (fields_of (builder_type b)) (members_view vs)))) b c.push_struct.new.records)) c.deref-in-Struct.ensures.value c.push_struct.ensures.added)))
+    subst (λ x. OnOk c.push_struct.result (SlotAdded (slot_of (builder_type x) (value_view c.args.value.now)) x c.push_struct.new.records)) (sym tree)
+    (subst (λ j. OnOk c.push_struct.result (SlotAdded (slot_of (builder_type b) j) b c.push_struct.new.records)) (sym seen)
+    (subst (λ fs. OnOk c.push_struct.result (SlotAdded (slots.record_of (field_slots fs (member_slots fs (members_view ms)))) b c.push_struct.new.records)) (sym same)
+    (subst (λ vs. OnOk c.push_struct.result (SlotAdded (slots.record_of (field_slots (fields_of (builder_type b)) (member_slots (fields_of (builder_type b)) (members_view vs)))) b c.push_struct.new.records)) c.deref-in-Struct.ensures.value c.push_struct.ensures.added)))
 
 pub push_value-returns-in-Struct-clause-valid : goal.push_value-returns-in-Struct-clause-valid
 push_value-returns-in-Struct-clause-valid t c =

@@ -8,7 +8,7 @@ use Rattle.json_read.specs.JsonSlots.{slot_of, items_error, member_slots, member
 use Rattle.nest_memory.specs.TypeTree.{Letters, fields_of}
 use Rattle.nest_model.specs.BuilderLevels.{own_slots}
 use Rattle.nest_model.specs.BuilderTree.{builder_type}
-use Rattle.nest_model.specs.BuilderWhole.{IsWhole}
+use Rattle.nest_model.specs.BuilderComplete.{IsComplete}
 use Rattle.nest_model.specs.Slot.{Slot}
 use Rattle.json_read.proofs.push.+push.Given as goal
 
@@ -35,7 +35,7 @@ invariant-push_items-loop-item l =
     let t = builder_type (tree_of l.fn.child) in
     let rest = drop l.item-index l.items in
     record {
-      whole : IsWhole (tree_of l.child);
+      complete : IsComplete (tree_of l.child);
       same_type : builder_type (tree_of l.child) ≡ t;
       slots : own_slots (tree_of l.child) ++ map (λ v. slot_of t (value_view v)) rest ≡ own_slots (tree_of l.fn.child) ++ map (λ v. slot_of t (value_view v)) l.items;
       faults : items_error t (items_view l.items) ≡ items_error t (items_view rest);

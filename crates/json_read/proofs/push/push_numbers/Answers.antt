@@ -4,7 +4,7 @@ use Rattle.json.specs.Value.{value_view}
 use Rattle.nest_any.specs.Trees.{tree_of}
 use Rattle.nest_any.specs.Words.{builder_type}
 use Rattle.json_read.specs.JsonSlots.{values_physical_type}
-use Rattle.json_read.specs.RowAdded.{IsPushError}
+use Rattle.json_read.specs.SlotAdded.{IsPushError}
 use Rattle.json_read.proofs.Pushed.{numbers-error}
 use Rattle.json_read.proofs.push.push_numbers.Goals as goal
 

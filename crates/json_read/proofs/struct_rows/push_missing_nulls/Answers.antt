@@ -1,9 +1,9 @@
 use Rattle.std.proofs.Common.{◌≡◌, ◌<◌, length, get_or, sym, ap, ◌∙◌, subst, arith}
 use Rattle.std.proofs.lemmas.List.{get_or_default, length-set}
 use Rattle.nest_any.specs.Trees.{tree_of}
-use Rattle.json_read.specs.RowAdded.{RowAdded}
+use Rattle.json_read.specs.SlotAdded.{SlotAdded}
 use Rattle.nest_model.specs.BuilderTree.{builder_len}
-use Rattle.nest_model.specs.BuilderWhole.{IsWhole}
+use Rattle.nest_model.specs.BuilderComplete.{IsComplete}
 use Rattle.nest_model.specs.Slot as slots
 use Rattle.json_read.proofs.Completing.{added-null, completed-all, next-done, still-done, whole-at, other-here, same-here, left-more}
 use Rattle.json_read.proofs.struct_rows.push_missing_nulls.Goals as goal
@@ -14,7 +14,7 @@ push_null-requires c =
     let l = c.loop-i in
     let d = c.index-children-i-then-len-n.result in
     let bound : l.i < length c.args.children.now = omega (arith, c.loop-i-test.true, l.invariant.same_length, l.auto.i-end) in
-    subst (λ x. IsWhole (tree_of x)) (sym (l.invariant.left l.i d (omega arith))) (whole-at tree_of c.args.children.now l.i d bound c.requires)
+    subst (λ x. IsComplete (tree_of x)) (sym (l.invariant.left l.i d (omega arith))) (whole-at tree_of c.args.children.now l.i d bound c.requires)
 
 pub loop-i-preserved : goal.loop-i-preserved
 loop-i-preserved c =
@@ -30,7 +30,7 @@ loop-i-preserved c =
         done = next-done tree_of c.args.n xs l.children l.i w.push_null.new.self w.index-children-i-then-len-n.result l.invariant.same_length bound l.invariant.done
             (same-here tree_of c.args.n c.len.result (get_or xs l.i w.index-children-i-then-len-n.result) w.push_null.new.self
             (len ∙ ap (λ y. builder_len (tree_of y)) (get_or_default xs l.i x w.index-children-i-then-len-n.result bound)) w.if-len-n.true
-            (subst (λ y. RowAdded slots.null (tree_of y) (tree_of w.push_null.new.self)) (l.invariant.left l.i w.index-children-i-then-len-n.result (omega arith)) (added-null _ _ w.in_default.ensures.accepted)));
+            (subst (λ y. SlotAdded slots.null (tree_of y) (tree_of w.push_null.new.self)) (l.invariant.left l.i w.index-children-i-then-len-n.result (omega arith)) (added-null _ _ w.in_default.ensures.accepted)));
         left = left-more xs l.children l.i w.push_null.new.self l.invariant.left;
       })
       | else-len-n w ↦ rw w.children-is (record {

@@ -47,7 +47,7 @@ lines-preserved c =
       so_far = ap (λ n. with_rows (own_slots new) (parsed_rows_after (c.lines.above + 1) n (lines_of c.next_line.result.1.now))) added
           ∙ lines_next (own_slots tree) _ c.lines.above (item_total tree) _ c.lines.rest.now c.next_line.result.0.now c.next_line.result.1.now _ (slot_of_row c.in-Some.row)
           c.next_line.ensures.line c.lines.invariant.so_far (sym c.in_ok-row.ensures ∙ ap (option_map slot_of_row) c.in-Some.is) same few (row-last old.data_type old.rows items row is new pushed.accepted);
-      whole = pushed.accepted.whole;
+      complete = pushed.accepted.complete;
       same_type = type-accepted _ _ _ pushed.accepted ∙ c.lines.invariant.same_type;
       numbers = row-type old.data_type old.rows items row is new pushed.accepted;
       few = omega (arith, few, added);
@@ -58,7 +58,7 @@ lines-preserved c =
 pub lines-init : goal.lines-init
 lines-init c = record {
   so_far = (λ i. with_rows (own_slots (tree_of c.args.rows.now.data_type (c.requires.no_rows i) c.args.rows.now.values)) (parsed_rows_after 0 (c.requires.no_items i) (lines_of c.args.bytes.now))) ∙ with_no_rows (parsed_rows c.args.bytes.now);
-  whole = c.requires.whole;
+  complete = c.requires.complete;
   same_type = refl;
   numbers = c.requires.numbers;
   few = omega (arith, c.requires.no_items);

@@ -1,5 +1,5 @@
 use Rattle.std.proofs.Common.{◌≡◌, ◌++◌, ◌∙◌, sym, ap, true, false}
-use Rattle.nest_memory.specs.Cut.{cut}
+use Rattle.nest_memory.specs.Sublist.{sublist}
 use Rattle.nest_model.specs.Slot.{null}
 use Rattle.nest_model.specs.Layout.{Layout, layout_type}
 use Rattle.nest_model.specs.Meaning.{slot, slots_of}
@@ -21,7 +21,7 @@ returns c =
     let opened = c.push.new.self.items in
     row-pushed _ _ _ _ (validity_of rows) c.args.i (slot rows c.args.i) (window_slots w) c.window-row.ensures.items some c.in_ok-push.ensures.items
     (c.in_ok-push_items.ensures
-    ∙ ap (λ (a : Layout). opened ++ joined_items (cut (slots_of a) c.offset.result c.len.result)) (c.numbers.ensures ∙ c.array.ensures)
-    ∙ ap (λ o. opened ++ joined_items (cut (slots_of w.array) o c.len.result)) c.offset.ensures
-    ∙ ap (λ n. opened ++ joined_items (cut (slots_of w.array) w.offset n)) c.len.ensures)
+    ∙ ap (λ (a : Layout). opened ++ joined_items (sublist (slots_of a) c.offset.result c.len.result)) (c.numbers.ensures ∙ c.array.ensures)
+    ∙ ap (λ o. opened ++ joined_items (sublist (slots_of w.array) o c.len.result)) c.offset.ensures
+    ∙ ap (λ n. opened ++ joined_items (sublist (slots_of w.array) w.offset n)) c.len.ensures)
     c.in_ok-push-2.ensures.items

@@ -1,7 +1,7 @@
 use Rattle.std.proofs.Common.{◌≡◌, ◌∙◌, ap, sym, true, ltb, length}
 use Rattle.std.specs.List.{list_all}
 use Rattle.std.proofs.lemmas.Bool.{cond-true}
-use Rattle.nest_model.specs.Chosen.{chosen}
+use Rattle.nest_model.specs.Selected.{selected}
 use Rattle.nest_model.specs.Meaning.{slots_of}
 use Rattle.listcut_rows.proofs.BelowLength.{all-below}
 use Rattle.listcut_rows.proofs.ItemCounts.{limits-passed, passes-items}
@@ -16,4 +16,4 @@ returns-in-Overflow-clause-error c =
     let within : list_all (λ index. ltb index (length (slots_of rows))) indices ≡ true = ap (λ n. list_all (λ index. ltb index n) indices) (sym count.slots) ∙ passed in
     let below = all-below _ indices (ap (λ n. list_all (λ index. ltb index n) indices) (sym count.len) ∙ passed) in
     let limits = limits-passed c.take-taken.result c.in-Err.error rows indices c.in-Err.is c.in-Overflow.is c.take-taken.ensures.err in
-    (chosen (slots_of rows) indices, cond-true _ _ _ within, passes-items rows _ _ _ _ _ indices c.known.ensures.kind c.values.ensures (sym c.numbers.ensures ∙ c.known-2.ensures.kind) below limits)
+    (selected (slots_of rows) indices, cond-true _ _ _ within, passes-items rows _ _ _ _ _ indices c.known.ensures.kind c.values.ensures (sym c.numbers.ensures ∙ c.known-2.ensures.kind) below limits)

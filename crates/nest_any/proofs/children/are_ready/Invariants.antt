@@ -1,7 +1,7 @@
 use Rattle.std.proofs.Common.{◌≡◌, ◌+◌, ◌<◌, ◌≤◌, ◌↔◌, drop}
 use Rattle.nest_memory.specs.TypeOf.{field_list_of}
 use Rattle.nest_any.specs.Trees.{trees_of}
-use Rattle.nest_model.specs.BuilderTold.{HaveRows}
+use Rattle.nest_model.specs.BuilderAddRow.{HaveRows}
 use Rattle.nest_model.specs.BuilderTree.{builder_types}
 use Rattle.nest_model.specs.Layout.{field_types}
 use Rattle.nest_model.specs.Checks.{largest_length}

@@ -1,6 +1,6 @@
 use Rattle.std.proofs.Common.{◌↔◌, drop}
 use Rattle.nest_any.specs.Trees.{trees_of}
-use Rattle.nest_model.specs.BuilderTold.{HaveRows}
+use Rattle.nest_model.specs.BuilderAddRow.{HaveRows}
 use Rattle.nest_any.proofs.children.have_rows.Given as goal
 
 abbrev pub invariant-loop-i : goal.invariant-loop-i

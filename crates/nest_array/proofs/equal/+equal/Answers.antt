@@ -9,7 +9,7 @@ use Rattle.nest_flat.specs.SameRuns.{runs-differ}
 use Rattle.nest_array.specs.RowSlots.{Alike, IsWithin, row_slot, bound_of}
 use Rattle.nest_array.specs.Seen.{layout_of, layouts_of}
 use Rattle.nest_array.specs.SeenLists.{lists_layout}
-use Rattle.nest_array.proofs.Counts.{same-more, told-more, told-stops, null-told, tells-after, tells-more, tells-exact, tells-stopped, nodes-least}
+use Rattle.nest_array.proofs.Counts.{same-more, comparisons-more, comparisons-stops, null-shown, tells-after, tells-more, tells-exact, tells-stopped, nodes-least}
 use Rattle.nest_array.proofs.Joined.{lists-bounds, lists-joined, lists-nodes, rows-within, items-along}
 use Rattle.nest_array.proofs.Keyed.{keyed-place, keyed-alike, alike-along}
 use Rattle.nest_array.proofs.LogicalTypes.{same-items}
@@ -21,15 +21,15 @@ pub picks::same_picks-returns-then-not-is_same_pick-clause-same : goal.picks::sa
 picks::same_picks-returns-then-not-is_same_pick-clause-same t c =
     runs-differ (slot c.args.x.now) (slot c.args.y.now) c.args.o c.args.p c.args.n c.loop-k.k _ c.is_same_pick.ensures.same c.if-not-is_same_pick.true c.loop-k-test.true
 
-pub picks::same_picks-returns-then-not-is_same_pick-clause-told : goal.picks::same_picks-returns-then-not-is_same_pick-clause-told
-picks::same_picks-returns-then-not-is_same_pick-clause-told t c =
-    told-stops (slot c.args.x.now) c.args.o c.loop-k.k c.args.n _ _ _ _ _ c.if-not-is_same_pick.true c.loop-k-test.true c.loop-k.invariant.told c.is_same_pick.ensures.told refl
+pub picks::same_picks-returns-then-not-is_same_pick-clause-comparisons : goal.picks::same_picks-returns-then-not-is_same_pick-clause-comparisons
+picks::same_picks-returns-then-not-is_same_pick-clause-comparisons t c =
+    comparisons-stops (slot c.args.x.now) c.args.o c.loop-k.k c.args.n _ _ _ _ _ c.if-not-is_same_pick.true c.loop-k-test.true c.loop-k.invariant.comparisons c.is_same_pick.ensures.comparisons refl
 
 pub picks::same_picks-loop-k-preserved : goal.picks::same_picks-loop-k-preserved
 picks::same_picks-loop-k-preserved t c =
     record {
       same = same-more (slot c.args.x.now) (slot c.args.y.now) c.args.o c.args.p c.loop-k.k c.loop-k.invariant.same (c.is_same_pick.ensures.same.0 c.if-not-is_same_pick.false);
-      told = told-more (slot c.args.x.now) c.args.o c.loop-k.k _ _ _ _ _ c.if-not-is_same_pick.false c.loop-k.invariant.told c.is_same_pick.ensures.told refl;
+      comparisons = comparisons-more (slot c.args.x.now) c.args.o c.loop-k.k _ _ _ _ _ c.if-not-is_same_pick.false c.loop-k.invariant.comparisons c.is_same_pick.ensures.comparisons refl;
     }
 
 pub picks::is_same_pick-same_run-requires : goal.picks::is_same_pick-same_run-requires
@@ -62,11 +62,11 @@ picks::is_same_pick-returns-clause-same t c =
     picks-same a b c.args.i c.args.j _ _ _ _ _ _ _ p q c.if-field-other_field.false (same ∙ ap (λ f. layout_type (child_at (children_of b) f)) c.if-field-other_field.false)
     (sym c.field_at.ensures.shown) (sym c.field_at-2.ensures.shown) c.index-field.ensures.place c.index-other_field.ensures.place c.same_run.ensures.same
 
-pub picks::is_same_pick-returns-clause-told : goal.picks::is_same_pick-returns-clause-told
-picks::is_same_pick-returns-clause-told t c =
+pub picks::is_same_pick-returns-clause-comparisons : goal.picks::is_same_pick-returns-clause-comparisons
+picks::is_same_pick-returns-clause-comparisons t c =
     let a = c.args.x.now in
     let p = picks-field a c.args.i _ c.known.ensures.fits c.known.ensures.kind c.requires.within c.index-field.ensures.field in
-    tells-after _ _ _ _ _ _ c.tell.ensures c.same_run.ensures.told (pick-nodes a c.args.i _ _ _ p (sym c.field_at.ensures.shown) c.index-field.ensures.place)
+    tells-after _ _ _ _ _ _ c.add.ensures c.same_run.ensures.comparisons (pick-nodes a c.args.i _ _ _ p (sym c.field_at.ensures.shown) c.index-field.ensures.place)
 
 pub each_same_row-same_row-requires : goal.each_same_row-same_row-requires
 each_same_row-same_row-requires t c =
@@ -88,9 +88,9 @@ each_same_row-returns-then-not-same_row-clause-same t c =
     (ap (λ d. row_slot d c.row-in-loop-k.result) c.items-other_items.ensures.shown ∙ c.row-in-loop-k.ensures.slot) c.same_row.ensures.same)
     c.if-not-same_row.true c.loop-k-test.true
 
-pub each_same_row-returns-then-not-same_row-clause-told : goal.each_same_row-returns-then-not-same_row-clause-told
-each_same_row-returns-then-not-same_row-clause-told t c =
-    told-stops (slot (lists_layout c.args.xs.now)) c.args.o c.loop-k.k c.args.n _ _ _ _ _ c.if-not-same_row.true c.loop-k-test.true c.loop-k.invariant.told c.same_row.ensures.told
+pub each_same_row-returns-then-not-same_row-clause-comparisons : goal.each_same_row-returns-then-not-same_row-clause-comparisons
+each_same_row-returns-then-not-same_row-clause-comparisons t c =
+    comparisons-stops (slot (lists_layout c.args.xs.now)) c.args.o c.loop-k.k c.args.n _ _ _ _ _ c.if-not-same_row.true c.loop-k-test.true c.loop-k.invariant.comparisons c.same_row.ensures.comparisons
     (ap node_count (ap (λ d. row_slot d c.row.result) c.items-items.ensures.shown ∙ c.row.ensures.slot))
 
 pub each_same_row-loop-k-preserved : goal.each_same_row-loop-k-preserved
@@ -99,26 +99,26 @@ each_same_row-loop-k-preserved t c =
     let y = ap (λ d. row_slot d c.row-in-loop-k.result) c.items-other_items.ensures.shown ∙ c.row-in-loop-k.ensures.slot in
     record {
       same = same-more (slot (lists_layout c.args.xs.now)) (slot (lists_layout c.args.ys.now)) c.args.o c.args.p c.loop-k.k c.loop-k.invariant.same (sym x ∙ c.same_row.ensures.same.0 c.if-not-same_row.false ∙ y);
-      told = told-more (slot (lists_layout c.args.xs.now)) c.args.o c.loop-k.k _ _ _ _ _ c.if-not-same_row.false c.loop-k.invariant.told c.same_row.ensures.told (ap node_count x);
+      comparisons = comparisons-more (slot (lists_layout c.args.xs.now)) c.args.o c.loop-k.k _ _ _ _ _ c.if-not-same_row.false c.loop-k.invariant.comparisons c.same_row.ensures.comparisons (ap node_count x);
     }
 
 pub records::each_same_record-returns-then-not-is_same_record-clause-same : goal.records::each_same_record-returns-then-not-is_same_record-clause-same
 records::each_same_record-returns-then-not-is_same_record-clause-same t c =
     runs-differ (slot c.args.x.now) (slot c.args.y.now) c.args.o c.args.p c.args.n c.loop-k.k _ c.is_same_record.ensures.same c.if-not-is_same_record.true c.loop-k-test.true
 
-pub records::each_same_record-returns-then-not-is_same_record-clause-told : goal.records::each_same_record-returns-then-not-is_same_record-clause-told
-records::each_same_record-returns-then-not-is_same_record-clause-told t c =
-    told-stops (slot c.args.x.now) c.args.o c.loop-k.k c.args.n _ _ _ _ _ c.if-not-is_same_record.true c.loop-k-test.true c.loop-k.invariant.told c.is_same_record.ensures.told refl
+pub records::each_same_record-returns-then-not-is_same_record-clause-comparisons : goal.records::each_same_record-returns-then-not-is_same_record-clause-comparisons
+records::each_same_record-returns-then-not-is_same_record-clause-comparisons t c =
+    comparisons-stops (slot c.args.x.now) c.args.o c.loop-k.k c.args.n _ _ _ _ _ c.if-not-is_same_record.true c.loop-k-test.true c.loop-k.invariant.comparisons c.is_same_record.ensures.comparisons refl
 
 pub records::each_same_record-loop-k-preserved : goal.records::each_same_record-loop-k-preserved
 records::each_same_record-loop-k-preserved t c =
     record {
       same = same-more (slot c.args.x.now) (slot c.args.y.now) c.args.o c.args.p c.loop-k.k c.loop-k.invariant.same (c.is_same_record.ensures.same.0 c.if-not-is_same_record.false);
-      told = told-more (slot c.args.x.now) c.args.o c.loop-k.k _ _ _ _ _ c.if-not-is_same_record.false c.loop-k.invariant.told c.is_same_record.ensures.told refl;
+      comparisons = comparisons-more (slot c.args.x.now) c.args.o c.loop-k.k _ _ _ _ _ c.if-not-is_same_record.false c.loop-k.invariant.comparisons c.is_same_record.ensures.comparisons refl;
     }
 
-pub records::is_same_record-returns-then-is_null-clause-told : goal.records::is_same_record-returns-then-is_null-clause-told
-records::is_same_record-returns-then-is_null-clause-told t c = null-told _ _ _ _ c.tell.ensures c.is_null-null.ensures.slot
+pub records::is_same_record-returns-then-is_null-clause-comparisons : goal.records::is_same_record-returns-then-is_null-clause-comparisons
+records::is_same_record-returns-then-is_null-clause-comparisons t c = null-shown _ _ _ _ c.add.ensures c.is_null-null.ensures.slot
 
 pub records::is_same_record-same_children-requires : goal.records::is_same_record-same_children-requires
 records::is_same_record-same_children-requires t c =
@@ -144,9 +144,9 @@ records::is_same_record-returns-clause-same t c =
     (record-shown c.args.y.now _ c.args.j _ c.known-2.ensures.kind c.values-2.ensures c.is_null.ensures.place c.if-is_null.false)
     (children-typed (layout_type c.args.x.now) (layout_type c.args.y.now) _ _ _ _ x y c.requires.alike) c.same_children.ensures.same
 
-pub records::is_same_record-returns-clause-told : goal.records::is_same_record-returns-clause-told
-records::is_same_record-returns-clause-told t c =
-    tells-after _ _ _ _ _ _ c.tell.ensures c.same_children.ensures.told
+pub records::is_same_record-returns-clause-comparisons : goal.records::is_same_record-returns-clause-comparisons
+records::is_same_record-returns-clause-comparisons t c =
+    tells-after _ _ _ _ _ _ c.add.ensures c.same_children.ensures.comparisons
     (record-nodes _ _ c.args.i (record-shown c.args.x.now _ c.args.i _ c.known.ensures.kind c.values.ensures c.is_null-null.ensures.place c.if-null.false))
 
 pub records::same_records-same_children-requires : goal.records::same_records-same_children-requires
@@ -173,9 +173,9 @@ records::same_records-returns-then-is_full-2-clause-same t c =
     (λ i h. records-shown c.args.y.now _ c.args.p c.args.n i c.known-then-is_full-2.ensures.kind c.values-then-is_full-2.ensures (c.is_full-then-is_full.ensures.0 c.if-is_full-2.true) h)
     (children-typed (layout_type c.args.x.now) (layout_type c.args.y.now) _ _ _ _ x y c.requires.alike) c.same_children.ensures.same
 
-pub records::same_records-returns-then-is_full-2-clause-told : goal.records::same_records-returns-then-is_full-2-clause-told
-records::same_records-returns-then-is_full-2-clause-told t c =
-    tells-more _ _ _ _ c.args.n _ _ (tells-exact _ _ _ c.args.n c.tell.ensures) c.same_children.ensures.told
+pub records::same_records-returns-then-is_full-2-clause-comparisons : goal.records::same_records-returns-then-is_full-2-clause-comparisons
+records::same_records-returns-then-is_full-2-clause-comparisons t c =
+    tells-more _ _ _ _ c.args.n _ _ (tells-exact _ _ _ c.args.n c.add.ensures) c.same_children.ensures.comparisons
     (sym (records-nodes (slot c.args.x.now) (layouts_of c.values.result.now) c.args.o c.args.n c.args.n (λ i h. records-shown c.args.x.now _ c.args.o c.args.n i c.known.ensures.kind c.values.ensures (c.is_full.ensures.0 c.if-is_full.true) h) (omega arith)))
 
 pub same_row-returns-then-count-other_count-clause-same : goal.same_row-returns-then-count-other_count-clause-same
@@ -187,9 +187,9 @@ same_row-returns-clause-same t c =
     rw (c.in-Some.is, c.in-Some-other_row.is)
     (lists-same _ _ _ (same-along _ _ _ _ _ refl (ap (run (slot (layout_of c.args.other_items.now)) c.in-Some-other_row.other_start) c.if-count-other_count.false) c.same_run.ensures.same))
 
-pub same_row-returns-clause-told : goal.same_row-returns-clause-told
-same_row-returns-clause-told t c =
-    tells-after _ _ _ _ _ _ c.tell.ensures c.same_run.ensures.told
+pub same_row-returns-clause-comparisons : goal.same_row-returns-clause-comparisons
+same_row-returns-clause-comparisons t c =
+    tells-after _ _ _ _ _ _ c.add.ensures c.same_run.ensures.comparisons
     (ap (λ r. node_count (row_slot (layout_of c.args.items.now) r)) c.in-Some.is ∙ row-nodes (layout_of c.args.items.now) c.in-Some.start c.in-Some.count)
 
 pub same_rows-returns-in_default-clause-same : goal.same_rows-returns-in_default-clause-same
@@ -198,8 +198,8 @@ same_rows-returns-in_default-clause-same t c = (
   λ e. absurd (c.in_default.ensures.same (lists-bounds (lists_layout c.args.xs.now) (lists_layout c.args.ys.now) c.args.o c.args.p c.args.n c.known_rows.ensures c.known_rows-2.ensures c.requires.within c.requires.other_within (c.are_full.ensures.0 c.if-not-are_full.false) (c.are_full-else-not-are_full.ensures.0 c.if-not-are_full-2.false) e)),
 )
 
-pub same_rows-returns-in_default-clause-told : goal.same_rows-returns-in_default-clause-told
-same_rows-returns-in_default-clause-told t c = tells-stopped _ _ c.args.n _ c.in_default.ensures.told (nodes-least (slot (lists_layout c.args.xs.now)) c.args.o c.args.n)
+pub same_rows-returns-in_default-clause-comparisons : goal.same_rows-returns-in_default-clause-comparisons
+same_rows-returns-in_default-clause-comparisons t c = tells-stopped _ _ c.args.n _ c.in_default.ensures.comparisons (nodes-least (slot (lists_layout c.args.xs.now)) c.args.o c.args.n)
 
 pub same_rows-same_run-requires : goal.same_rows-same_run-requires
 same_rows-same_run-requires t c =
@@ -231,10 +231,10 @@ same_rows-returns-clause-same t c =
     (same-along _ _ _ _ _ (items-along (layout_of c.items-items.result.now) (child_of a) c.span-start.result.0 (bound_of a c.args.o) c.in-Some.total c.items-items.ensures.shown c.span-start.ensures.start)
     (items-along (layout_of c.items-other_items.result.now) (child_of b) c.span-other_start.result.0 (bound_of b c.args.p) c.in-Some.total c.items-other_items.ensures.shown c.span-other_start.ensures.start) c.same_run.ensures.same)
 
-pub same_rows-returns-clause-told : goal.same_rows-returns-clause-told
-same_rows-returns-clause-told t c =
+pub same_rows-returns-clause-comparisons : goal.same_rows-returns-clause-comparisons
+same_rows-returns-clause-comparisons t c =
     let a = lists_layout c.args.xs.now in
-    tells-more _ _ _ _ c.args.n _ _ (tells-exact _ _ _ c.args.n c.in-Some.ensures.told) c.same_run.ensures.told
+    tells-more _ _ _ _ c.args.n _ _ (tells-exact _ _ _ c.args.n c.in-Some.ensures.comparisons) c.same_run.ensures.comparisons
     (ap (λ ss. c.args.n + node_counts ss) (items-along (layout_of c.items-items.result.now) (child_of a) c.span-start.result.0 (bound_of a c.args.o) c.in-Some.total c.items-items.ensures.shown c.span-start.ensures.start)
     ∙ sym (lists-nodes a c.args.o c.args.n c.in-Some.total c.known_rows.ensures c.requires.within (c.are_full.ensures.0 c.if-not-are_full.false) c.in-Some.ensures.same.1))
 
@@ -242,15 +242,15 @@ pub keyed::same_keyed-returns-then-not-is_same_keyed-clause-same : goal.keyed::s
 keyed::same_keyed-returns-then-not-is_same_keyed-clause-same t c =
     runs-differ (slot c.args.x.now) (slot c.args.y.now) c.args.o c.args.p c.args.n c.loop-k.k _ c.is_same_keyed.ensures.same c.if-not-is_same_keyed.true c.loop-k-test.true
 
-pub keyed::same_keyed-returns-then-not-is_same_keyed-clause-told : goal.keyed::same_keyed-returns-then-not-is_same_keyed-clause-told
-keyed::same_keyed-returns-then-not-is_same_keyed-clause-told t c =
-    told-stops (slot c.args.x.now) c.args.o c.loop-k.k c.args.n _ _ _ _ _ c.if-not-is_same_keyed.true c.loop-k-test.true c.loop-k.invariant.told c.is_same_keyed.ensures.told refl
+pub keyed::same_keyed-returns-then-not-is_same_keyed-clause-comparisons : goal.keyed::same_keyed-returns-then-not-is_same_keyed-clause-comparisons
+keyed::same_keyed-returns-then-not-is_same_keyed-clause-comparisons t c =
+    comparisons-stops (slot c.args.x.now) c.args.o c.loop-k.k c.args.n _ _ _ _ _ c.if-not-is_same_keyed.true c.loop-k-test.true c.loop-k.invariant.comparisons c.is_same_keyed.ensures.comparisons refl
 
 pub keyed::same_keyed-loop-k-preserved : goal.keyed::same_keyed-loop-k-preserved
 keyed::same_keyed-loop-k-preserved t c =
     record {
       same = same-more (slot c.args.x.now) (slot c.args.y.now) c.args.o c.args.p c.loop-k.k c.loop-k.invariant.same (c.is_same_keyed.ensures.same.0 c.if-not-is_same_keyed.false);
-      told = told-more (slot c.args.x.now) c.args.o c.loop-k.k _ _ _ _ _ c.if-not-is_same_keyed.false c.loop-k.invariant.told c.is_same_keyed.ensures.told refl;
+      comparisons = comparisons-more (slot c.args.x.now) c.args.o c.loop-k.k _ _ _ _ _ c.if-not-is_same_keyed.false c.loop-k.invariant.comparisons c.is_same_keyed.ensures.comparisons refl;
     }
 
 pub keyed::is_same_keyed-same_run-requires : goal.keyed::is_same_keyed-same_run-requires
@@ -274,6 +274,6 @@ keyed::is_same_keyed-same_run-requires t c =
       ),
     )
 
-pub keyed::is_same_keyed-returns-else-is_null_value-clause-told : goal.keyed::is_same_keyed-returns-else-is_null_value-clause-told
-keyed::is_same_keyed-returns-else-is_null_value-clause-told t c =
-    null-told _ _ _ _ c.tell.ensures c.is_null_value.ensures
+pub keyed::is_same_keyed-returns-else-is_null_value-clause-comparisons : goal.keyed::is_same_keyed-returns-else-is_null_value-clause-comparisons
+keyed::is_same_keyed-returns-else-is_null_value-clause-comparisons t c =
+    null-shown _ _ _ _ c.add.ensures c.is_null_value.ensures

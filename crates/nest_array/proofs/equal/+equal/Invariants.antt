@@ -43,28 +43,28 @@ abbrev pub invariant-each_same_row-loop-k : goal.invariant-each_same_row-loop-k
 invariant-each_same_row-loop-k l =
     record {
       same : run (slot (lists_layout l.xs)) l.o l.k ≡ run (slot (lists_layout l.ys)) l.p l.k;
-      told : l.steps ≡ l.initial.steps + node_counts (run (slot (lists_layout l.xs)) l.o l.k);
+      comparisons : l.steps ≡ l.initial.steps + node_counts (run (slot (lists_layout l.xs)) l.o l.k);
     }
 
 abbrev pub invariant-records::each_same_record-loop-k : goal.invariant-records::each_same_record-loop-k
 invariant-records::each_same_record-loop-k l =
     record {
       same : run (slot l.x) l.o l.k ≡ run (slot l.y) l.p l.k;
-      told : l.steps ≡ l.initial.steps + node_counts (run (slot l.x) l.o l.k);
+      comparisons : l.steps ≡ l.initial.steps + node_counts (run (slot l.x) l.o l.k);
     }
 
 abbrev pub invariant-records::same_children-loop-x : goal.invariant-records::same_children-loop-x
 invariant-records::same_children-loop-x l =
     record {
       left : Left l.xs l.ys l.x-iterator.a.rest.now l.x-iterator.b.rest.now l.o l.p l.n;
-      told : l.steps + children_nodes (layouts_of l.x-iterator.a.rest.now) l.o l.n ≡ l.initial.steps + children_nodes (layouts_of l.xs) l.o l.n;
+      comparisons : l.steps + children_nodes (layouts_of l.x-iterator.a.rest.now) l.o l.n ≡ l.initial.steps + children_nodes (layouts_of l.xs) l.o l.n;
     }
 
 abbrev pub invariant-picks::same_picks-loop-k : goal.invariant-picks::same_picks-loop-k
 invariant-picks::same_picks-loop-k l =
     record {
       same : run (slot l.x) l.o l.k ≡ run (slot l.y) l.p l.k;
-      told : l.steps ≡ l.initial.steps + node_counts (run (slot l.x) l.o l.k);
+      comparisons : l.steps ≡ l.initial.steps + node_counts (run (slot l.x) l.o l.k);
     }
 
 abbrev pub decreases-keyed::same_keyed : goal.decreases-keyed::same_keyed
@@ -77,5 +77,5 @@ abbrev pub invariant-keyed::same_keyed-loop-k : goal.invariant-keyed::same_keyed
 invariant-keyed::same_keyed-loop-k l =
     record {
       same : run (slot l.x) l.o l.k ≡ run (slot l.y) l.p l.k;
-      told : l.steps ≡ l.initial.steps + node_counts (run (slot l.x) l.o l.k);
+      comparisons : l.steps ≡ l.initial.steps + node_counts (run (slot l.x) l.o l.k);
     }

@@ -3,4 +3,4 @@ use Rattle.nest_array.specs.RowSlots.{EachValid}
 use Rattle.nest_array.proofs.equal.is_full.Given as goal
 
 abbrev pub invariant-loop-k : goal.invariant-loop-k
-invariant-loop-k g l = EachValid (validity_of (g.A.Slotted.parts l.a)) l.o l.k
+invariant-loop-k g l = EachValid (validity_of (g.A.ArrayParts.parts l.a)) l.o l.k

@@ -1,4 +1,4 @@
-//! New validities and copies of arrays of lists by large offsets.
+//! Validity and copies of `LargeListArray`.
 ghost use Rattle.std.specs.Prelude.{◌≡◌, IfOk, IsOkUnless, MatchResult, alloc_error};
 ghost use Rattle.nest_array.specs.Words.{HasValidity, Memory, RefusesValidity, layout_of, with_validity};
 
@@ -11,8 +11,10 @@ use std::alloc::Global;
 use std::rc::Rc;
 
 impl LargeListArray {
-    /// Takes a new validity. `ValidityLength` where it has not a bit for each slot; the array stays
-    /// as it was then.
+    /// Replaces the validity.
+    ///
+    /// # Errors
+    /// `ValidityLength` if `validity` does not have one bit per slot. The array is unchanged then.
     pub fn set_validity(&mut self, validity: Option<Bitmap>) -> Result<(), Error>
         ensures { MatchResult result
             (λ _. HasValidity self.old validity self.new)
@@ -22,7 +24,7 @@ impl LargeListArray {
         validity::replace(&mut self.ranges.validity, validity, count)
     }
 
-    /// The array under a new validity, or as it was beside the refusal.
+    /// Returns the array with this validity, or the unchanged array with the error of `set_validity`.
     pub fn with_validity(
         self,
         validity: Option<Bitmap>,
@@ -38,7 +40,10 @@ impl LargeListArray {
         }
     }
 
-    /// The same array, on shared memory: the items have one owner more.
+    /// Returns a copy of the array that shares its memory. The items get one more owner.
+    ///
+    /// # Errors
+    /// `Memory` if an allocation fails.
     pub fn clone(&self, alloc: Global) -> Result<LargeListArray, Error>
         ensures ok { IfOk result (λ a. a ≡ self.now) }
         ensures err { IsOkUnless result (Memory alloc_error) }
@@ -50,14 +55,17 @@ impl LargeListArray {
         })
     }
 
-    /// The same array in its variant.
+    /// Returns the array as an `AnyArray`.
     pub fn boxed(self) -> AnyArray
         ensures { layout_of result ≡ self }
     {
         AnyArray::LargeList(self)
     }
 
-    /// The same array, owned by what shares it.
+    /// Returns the array as an `AnyArray` in an `Rc`.
+    ///
+    /// # Errors
+    /// `Memory` if the allocation fails.
     pub fn arced(self, alloc: Global) -> Result<Rc<AnyArray>, Error>
         ensures ok { IfOk result (λ r. layout_of r.value ≡ self) }
         ensures err { IsOkUnless result (Memory alloc_error) }

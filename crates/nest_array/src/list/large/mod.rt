@@ -1,11 +1,11 @@
-//! Arrays of lists by large offsets.
+//! List arrays with 64-bit offsets.
 mod copies;
 mod nulls;
 
 ghost use Rattle.std.specs.Prelude.{◌≡◌, ◌+◌, ◌≤◌, ◌<◌, ◌↔◌, true, IsTrue, IfOk, IsOkUnless, MatchResult, option_map, alloc_error};
 ghost use Rattle.nest_model.specs.Layout as layouts;
 ghost use Rattle.nest_model.specs.Slot as slots;
-ghost use Rattle.nest_array.specs.Words.{Fits, IsCut, Memory, RefusesOrMemory, TopFits, begin, child_of, cut, cut_layout, extent, is_null_at, layout_of, layout_type, len, null_count, offsets_of, seal, slot, slots_of, type_of, validity_of, where_valid, window_parts, window_slots};
+ghost use Rattle.nest_array.specs.Words.{Fits, IsSlice, Memory, RefusesOrMemory, TopFits, begin, child_of, sublist, slice_layout, extent, is_null_at, layout_of, layout_type, len, null_count, offsets_of, seal, slot, slots_of, type_of, validity_of, where_valid, window_parts, window_slots};
 
 use crate::any::AnyArray;
 use crate::list::ranges::{self, Ranges};
@@ -19,7 +19,7 @@ use std::alloc::Global;
 use std::marker::Model;
 use std::rc::Rc;
 
-/// Lists of items of any kind, by offsets of 64 bits: the Variable-size List Layout of the Arrow format.
+/// An array of lists by 64-bit offsets: the Variable-size List Layout of the Arrow format.
 #[cycle(array)]
 #[derive(Drop)]
 pub struct LargeListArray {
@@ -52,12 +52,15 @@ impl Model for LargeListArray {
 }
 
 impl LargeListArray {
-    /// The array of these parts.
+    /// Returns the array with these parts.
     ///
     /// # Errors
-    /// `OffsetPastChild` where the last offset is past the items, `ValidityLength` where the validity has another
-    /// length, `WrongType` where the physical type isn't `LargeList`, `ChildType` where the items have another data type than
-    /// its field: the first of these. Then `Memory`, for the box of the items.
+    /// The first that applies:
+    /// - `OffsetPastChild` if the last offset is past the end of `values`.
+    /// - `ValidityLength` if the validity does not have one bit per slot.
+    /// - `WrongType` if the physical type is not `LargeList`.
+    /// - `ChildType` if the data type of `values` is not that of the field.
+    /// - `Memory` if an allocation fails.
     pub fn try_new(
         alloc: Global,
         data_type: DataType,
@@ -69,7 +72,7 @@ impl LargeListArray {
             MatchResult result (λ a. Fits parts × (a ≡ parts)) (λ e. RefusesOrMemory e parts) }
     {
         let ranges = Ranges { offsets, validity };
-        if let Some(error) = ranges::fault(&data_type, &ranges, &values) {
+        if let Some(error) = ranges::first_error(&data_type, &ranges, &values) {
             drop(values);
             drop(ranges);
             drop(data_type);
@@ -78,7 +81,10 @@ impl LargeListArray {
         LargeListArray::of(alloc, data_type, ranges, values)
     }
 
-    /// The array of parts that fit. `Memory` alone is refused.
+    /// Returns the array with these parts.
+    ///
+    /// # Errors
+    /// `Memory` if an allocation fails.
     pub fn new(
         alloc: Global,
         data_type: DataType,
@@ -94,7 +100,7 @@ impl LargeListArray {
         LargeListArray::of(alloc, data_type, Ranges { offsets, validity }, values)
     }
 
-    // The array of parts that were checked.
+    // Returns the array with parts that are already checked.
     fn of(
         alloc: Global,
         data_type: DataType,
@@ -119,7 +125,7 @@ impl LargeListArray {
         }
     }
 
-    /// What holds of every such array.
+    /// States the invariant of every such array. It does nothing at run time.
     pub fn known(&self)
         ensures fits { TopFits self.now }
         ensures kind { self.now ≡ layouts.list true (layout_type self.now) (offsets_of self.now) (child_of self.now) (validity_of self.now) }
@@ -127,42 +133,42 @@ impl LargeListArray {
         let _ = &self.data_type;
     }
 
-    /// How many slots it has.
+    /// Returns the number of slots.
     pub fn len(&self) -> usize
         ensures { result ≡ len self.now }
     {
         self.ranges.len()
     }
 
-    /// Its data type.
+    /// Returns the data type.
     pub fn data_type(&self) -> &DataType
         ensures { type_of result.now ≡ layout_type self.now }
     {
         &self.data_type
     }
 
-    /// Its offsets, one more than slots.
+    /// Returns the offsets, one more than slots.
     pub fn offsets(&self) -> &OffsetsBuffer<i64>
         ensures { result.now ≡ offsets_of self.now }
     {
         &self.ranges.offsets
     }
 
-    /// The items of all slots.
+    /// Returns the items of all slots.
     pub fn values(&self) -> &AnyArray
         ensures { layout_of result.now ≡ child_of self.now }
     {
         &self.values
     }
 
-    /// Which slots are valid, a bit a slot; without it all are.
+    /// Returns the validity, one bit per slot. Without a validity all slots are valid.
     pub fn validity(&self) -> Option<&Bitmap>
         ensures { option_map (λ b. b.now) result ≡ validity_of self.now }
     {
         self.ranges.validity.as_ref()
     }
 
-    /// Whether slot i is null.
+    /// Returns whether slot `i` is null.
     pub fn is_null(&self, i: usize) -> bool
         requires { i < len self.now }
         ensures slot { IsTrue result ↔ (slot self.now i ≡ slots.null) }
@@ -171,14 +177,14 @@ impl LargeListArray {
         !validity::is_valid(&self.ranges.validity, i)
     }
 
-    /// How many slots are null.
+    /// Returns the number of null slots.
     pub fn null_count(&self) -> usize
         ensures { result ≡ null_count self.now }
     {
         validity::null_count(&self.ranges.validity)
     }
 
-    /// Where the items of slot i begin, and how many there are.
+    /// Returns the offset and the number of the items of slot `i`.
     pub(crate) fn range(&self, i: usize) -> (usize, usize)
         requires { i < len self.now }
         ensures start { result.0 ≡ begin (offsets_of self.now) i }
@@ -188,10 +194,13 @@ impl LargeListArray {
         self.ranges.range(i)
     }
 
-    /// The items of slot i, also under a null.
+    /// Returns the items of slot `i`, even if the slot is null.
+    ///
+    /// # Errors
+    /// `Memory` if an allocation fails.
     pub fn value(&self, alloc: Global, i: usize) -> Result<AnyArray, Error>
         requires { i < len self.now }
-        ensures parts { IfOk result (λ a. layout_of a ≡ cut_layout (child_of self.now) (begin (offsets_of self.now) i) (extent (offsets_of self.now) i)) }
+        ensures parts { IfOk result (λ a. layout_of a ≡ slice_layout (child_of self.now) (begin (offsets_of self.now) i) (extent (offsets_of self.now) i)) }
         ensures items { IfOk result (λ a. slot self.now i ≡ where_valid (validity_of self.now) i (slots.list (seal (slots_of (layout_of a))))) }
         ensures err { IsOkUnless result (Memory alloc_error) }
     {
@@ -200,7 +209,7 @@ impl LargeListArray {
         values.part(alloc, start, count)
     }
 
-    /// The items of slot i, also under a null, borrowed.
+    /// Returns a window over the items of slot `i`, even if the slot is null.
     pub fn window(&self, i: usize) -> Window<'_>
         requires { i < len self.now }
         ensures parts { result ≡ window_parts (child_of self.now) (begin (offsets_of self.now) i) (extent (offsets_of self.now) i) }
@@ -211,25 +220,25 @@ impl LargeListArray {
         Window::new(values, start, count)
     }
 
-    /// Keeps the n slots from place o.
+    /// Keeps `n` slots from index `o`.
     pub fn slice(&mut self, o: usize, n: usize)
         requires { o + n ≤ len self.old }
-        ensures { IsCut self.old o n self.new }
+        ensures { IsSlice self.old o n self.new }
     {
         self.cut(o, n);
     }
 
     fn cut(&mut self, o: usize, n: usize)
         requires { o + n ≤ len self.old }
-        ensures { self.new ≡ cut_layout self.old o n }
+        ensures { self.new ≡ slice_layout self.old o n }
     {
         self.ranges.slice(o, n);
     }
 
-    /// The n slots from place o.
+    /// Returns the slice of `n` slots from index `o`.
     pub fn sliced(self, o: usize, n: usize) -> LargeListArray
         requires { o + n ≤ len self }
-        ensures { IsCut self o n result }
+        ensures { IsSlice self o n result }
     {
         let mut cut = self;
         cut.slice(o, n);

@@ -6,10 +6,10 @@ use Rattle.nest_model.specs.BuilderAppendLaws.{len-accepted_all}
 use Rattle.nest_model.specs.BuilderReadingLaws.{took_none, took_more, refused_some}
 use Rattle.nest_build.proofs.push.extend_by_push.Goals as goal
 
-pub try_push-requires-clause-whole : goal.try_push-requires-clause-whole
-try_push-requires-clause-whole g c =
+pub try_push-requires-clause-complete : goal.try_push-requires-clause-complete
+try_push-requires-clause-complete g c =
     let so_far = c.loop-item.invariant.2 in
-    so_far.2.whole
+    so_far.2.complete
 
 pub try_push-requires-clause-can : goal.try_push-requires-clause-can
 try_push-requires-clause-can g c =
@@ -20,16 +20,16 @@ try_push-requires-clause-can g c =
     (All-pop g.B.TryPush.can_push (xs ++ x ∷ []) xs (Some x) refl ((c.requires.can it.result it.ensures.into_iter_gives).2 (xs ++ x ∷ []) c.next.new.self more)).1
 
 pub loop-item-init : goal.loop-item-init
-loop-item-init g c = (search rules, search rules, took_none g.B.TryPush.reads _ c.requires.whole)
+loop-item-init g c = (search rules, search rules, took_none g.B.TryPush.reads _ c.requires.complete)
 
 pub loop-item-preserved : goal.loop-item-preserved
 loop-item-preserved g c =
     (search rules, search rules, took_more g.B.TryPush.reads _ _ _ _ _ c.loop-item.invariant.2 c.in-Ok.ensures.ok)
 
-pub truncate-requires-clause-whole : goal.truncate-requires-clause-whole
-truncate-requires-clause-whole g c =
+pub truncate-requires-clause-complete : goal.truncate-requires-clause-complete
+truncate-requires-clause-complete g c =
     let so_far = c.loop-item.invariant.2 in
-    rw c.in-Err.ensures.err (so_far.2.whole)
+    rw c.in-Err.ensures.err (so_far.2.complete)
 
 pub truncate-requires-clause-within : goal.truncate-requires-clause-within
 truncate-requires-clause-within g c =

@@ -8,7 +8,7 @@ use Rattle.nest_build.proofs.Nulls.{null-fits_more, null-refused}
 use Rattle.nest_build.proofs.push.extend_nulls.Goals as goal
 
 pub loop-i-init : goal.loop-i-init
-loop-i-init g c = (accepted_none _ c.requires.whole, λ l. absurd (omega (arith, l)))
+loop-i-init g c = (accepted_none _ c.requires.complete, λ l. absurd (omega (arith, l)))
 
 pub loop-i-preserved : goal.loop-i-preserved
 loop-i-preserved g c =

@@ -5,10 +5,10 @@ use Rattle.nest_model.specs.BuilderReadingLaws.{took_none, tried}
 use Rattle.nest_build.proofs.Trials.{taken_front, room-left, length-last}
 use Rattle.nest_build.proofs.tried.push_all.Goals as goal
 
-pub try_push-requires-clause-whole : goal.try_push-requires-clause-whole
-try_push-requires-clause-whole g c =
+pub try_push-requires-clause-complete : goal.try_push-requires-clause-complete
+try_push-requires-clause-complete g c =
     let so_far = c.loop-item.invariant.2 in
-    so_far.2.whole
+    so_far.2.complete
 
 pub loop-item-preserved : goal.loop-item-preserved
 loop-item-preserved g c =
@@ -24,5 +24,5 @@ loop-item-preserved g c =
 
 pub loop-item-init : goal.loop-item-init
 loop-item-init g c =
-    let none = took_none g.B.TryPush.reads (g.B.MutableArray.model c.args.builder.now) c.requires.whole in
+    let none = took_none g.B.TryPush.reads (g.B.MutableArray.model c.args.builder.now) c.requires.complete in
     rw c.in_ok-marks.ensures.items (refl, omega (arith, c.in_ok-marks.ensures.capacity, c.len.ensures), none)

@@ -1,5 +1,5 @@
 use Rattle.std.proofs.Common.{sym, ◌∙◌, subst}
-use Rattle.nest_model.specs.Decide.{pass-no_fault}
+use Rattle.nest_model.specs.Decide.{pass-no_error}
 use Rattle.nest_model.specs.Fits.{checks}
 use Rattle.nest_memory.specs.TypeOf.{type_of}
 use Rattle.nest_model.specs.Layout as layouts
@@ -10,8 +10,8 @@ use Rattle.nest_concat.proofs.Made.{boolean-kind, of-kind}
 use Rattle.nest_concat.proofs.LaidParts.{boolean-laid, boolean-room, length-room}
 use Rattle.nest_concat.proofs.boolean.join.Goals as goal
 
-pub truths-requires : goal.truths-requires
-truths-requires c =
+pub booleans-requires : goal.booleans-requires
+booleans-requires c =
     let a = c.args.array.now in
     record { kind = of-kind (layout_type a) _ c.args.windows.now c.requires.within (boolean-kind a _ _ _ c.known.ensures.fits c.known.ensures.kind); total = c.requires.total }
 
@@ -26,7 +26,7 @@ pub returns-in-Err-clause-err : goal.returns-in-Err-clause-err
 returns-in-Err-clause-err c =
     let a = c.args.array.now in
     let ws = c.args.windows.now in
-    absurd (pass-no_fault (checks (layouts.boolean (type_of c.in_ok-data_type.data_type) c.in_ok-values.values c.in_ok-validity.validity)) c.in-Err.error
+    absurd (pass-no_error (checks (layouts.boolean (type_of c.in_ok-data_type.data_type) c.in_ok-values.values c.in_ok-validity.validity)) c.in-Err.error
     (boolean-joined (layout_type a) _ ws _ _ c.requires.within (boolean-kind a _ _ _ c.known.ensures.fits c.known.ensures.kind) (c.in_ok-data_type.ensures.ok ∙ c.data_type.ensures) c.in_ok-values.ensures.ok c.in_ok-validity.ensures.ok).0
     c.in-Err.ensures)
 

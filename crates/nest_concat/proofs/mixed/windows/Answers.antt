@@ -11,22 +11,22 @@ use Rattle.nest_concat.proofs.mixed.windows.Goals as goal
 pub new-requires-in-loop-place : goal.new-requires-in-loop-place
 new-requires-in-loop-place c =
     let xs = c.args.arrays.now in
-    let ps = c.args.places.now in
+    let ps = c.args.indices.now in
     let n = c.loop-place.place-index in
-    let r = place-there xs ps n c.requires.places c.loop-place-test.true in
+    let r = place-there xs ps n c.requires.indices c.loop-place-test.true in
     omega (arith, r.1, ap len (array-is xs (get_or ps n (0, 0)).0 c.index-arrays-k.result r.0 c.index-arrays-k.is))
 
 pub loop-place-preserved : goal.loop-place-preserved
 loop-place-preserved c =
     let xs = c.args.arrays.now in
-    let ps = c.args.places.now in
+    let ps = c.args.indices.now in
     let n = c.loop-place.place-index in
     let p = get_or ps n (0, 0) in
     let x = c.new-in-loop-place.result in
     let old = c.loop-place.windows.items in
     let i = c.loop-place.invariant in
     let e = c.push_reserved-in-loop-place.ensures.items in
-    let r = place-there xs ps n c.requires.places c.loop-place-test.true in
+    let r = place-there xs ps n c.requires.indices c.loop-place-test.true in
     let m = c.new-in-loop-place.ensures.parts ∙ ap (λ a. window_parts a p.1 1) (array-is xs p.0 c.index-arrays-k.result r.0 c.index-arrays-k.is) in
     record {
       room = omega (arith, c.push_reserved-in-loop-place.ensures.capacity, i.room);
@@ -41,6 +41,6 @@ loop-place-preserved c =
 
 pub returns-clause-within : goal.returns-clause-within
 returns-clause-within c =
-    let ps = c.args.places.now in
+    let ps = c.args.indices.now in
     let i = c.loop-place.invariant in
-    λ g. windows-within (map layout_of c.args.arrays.now) ps c.loop-place.windows.items (i.gathered ∙ ap (slot_windows (map layout_of c.args.arrays.now)) (take_all c.loop-place.place-index ps c.loop-place-test.false)) i.fit c.requires.places g
+    λ g. windows-within (map layout_of c.args.arrays.now) ps c.loop-place.windows.items (i.gathered ∙ ap (slot_windows (map layout_of c.args.arrays.now)) (take_all c.loop-place.place-index ps c.loop-place-test.false)) i.fit c.requires.indices g

@@ -8,8 +8,8 @@ use Rattle.nest_concat.proofs.mixed.windows.Given as goal
 abbrev pub invariant-loop-place : goal.invariant-loop-place
 invariant-loop-place l =
     record {
-      room : length l.places + 1 ≤ vec_capacity l.windows;
+      room : length l.indices + 1 ≤ vec_capacity l.windows;
       long : length l.windows.items ≡ l.place-index + 1;
-      gathered : l.windows.items ≡ slot_windows (map layout_of l.arrays) (take l.place-index l.places);
+      gathered : l.windows.items ≡ slot_windows (map layout_of l.arrays) (take l.place-index l.indices);
       fit : AreArrays l.windows.items;
     }

@@ -3,7 +3,7 @@ use Rattle.std.specs.List.{range_with_len}
 use Rattle.std.proofs.lemmas.Int.{to_z_pos}
 use Rattle.std.proofs.lemmas.List.FromFn.{map-range_with_len_more}
 use Rattle.nest_model.specs.Accessors.{start_of, union_offsets_of}
-use Rattle.nest_model.specs.Meaning.{union_place}
+use Rattle.nest_model.specs.Meaning.{union_index}
 use Rattle.nest_concat.specs.Moved.{offset_by}
 use Rattle.nest_concat.specs.Parts.{field_at}
 use Rattle.nest_concat.proofs.Moving.{offset-is, placed}
@@ -16,7 +16,7 @@ overflow_sub-ends c =
     let f = c.index-field.result.0 in
     let q = c.index-field.result.1 in
     let y = ap (λ o. field_at a (o + i)) (sym c.offset-start.ensures) ∙ c.index-field.ensures.field in
-    let z = c.index-field.ensures.place ∙ ap (λ o. union_place (union_offsets_of a) (start_of a) (o + i)) c.offset-start.ensures in
+    let z = c.index-field.ensures.place ∙ ap (λ o. union_index (union_offsets_of a) (start_of a) (o + i)) c.offset-start.ensures in
     let r = placed c.args.window.now a c.args.ends.now c.args.counts.now i f q c.union_of-array.ensures c.known-2.ensures.fits c.known-2.ensures.kind c.requires.parts (omega (arith, c.loop-i-test.true, c.len-i-end.ensures)) c.index-field.ensures.field_there y z in
     omega (arith, r.before_end)
 
@@ -27,7 +27,7 @@ overflow_sub-counts c =
     let f = c.index-field.result.0 in
     let q = c.index-field.result.1 in
     let y = ap (λ o. field_at a (o + i)) (sym c.offset-start.ensures) ∙ c.index-field.ensures.field in
-    let z = c.index-field.ensures.place ∙ ap (λ o. union_place (union_offsets_of a) (start_of a) (o + i)) c.offset-start.ensures in
+    let z = c.index-field.ensures.place ∙ ap (λ o. union_index (union_offsets_of a) (start_of a) (o + i)) c.offset-start.ensures in
     let r = placed c.args.window.now a c.args.ends.now c.args.counts.now i f q c.union_of-array.ensures c.known-2.ensures.fits c.known-2.ensures.kind c.requires.parts (omega (arith, c.loop-i-test.true, c.len-i-end.ensures)) c.index-field.ensures.field_there y z in
     omega (arith, r.room)
 
@@ -38,7 +38,7 @@ overflow_cast-counts c =
     let f = c.index-field.result.0 in
     let q = c.index-field.result.1 in
     let y = ap (λ o. field_at a (o + i)) (sym c.offset-start.ensures) ∙ c.index-field.ensures.field in
-    let z = c.index-field.ensures.place ∙ ap (λ o. union_place (union_offsets_of a) (start_of a) (o + i)) c.offset-start.ensures in
+    let z = c.index-field.ensures.place ∙ ap (λ o. union_index (union_offsets_of a) (start_of a) (o + i)) c.offset-start.ensures in
     let r = placed c.args.window.now a c.args.ends.now c.args.counts.now i f q c.union_of-array.ensures c.known-2.ensures.fits c.known-2.ensures.kind c.requires.parts (omega (arith, c.loop-i-test.true, c.len-i-end.ensures)) c.index-field.ensures.field_there y z in
     omega (arith, r.fits)
 
@@ -53,7 +53,7 @@ loop-i-preserved c =
     let f = c.index-field.result.0 in
     let q = c.index-field.result.1 in
     let y = ap (λ o. field_at a (o + i)) (sym c.offset-start.ensures) ∙ c.index-field.ensures.field in
-    let z = c.index-field.ensures.place ∙ ap (λ o. union_place (union_offsets_of a) (start_of a) (o + i)) c.offset-start.ensures in
+    let z = c.index-field.ensures.place ∙ ap (λ o. union_index (union_offsets_of a) (start_of a) (o + i)) c.offset-start.ensures in
     let r = placed w a ends counts i f q c.union_of-array.ensures c.known-2.ensures.fits c.known-2.ensures.kind c.requires.parts (omega (arith, c.loop-i-test.true, c.len-i-end.ensures)) c.index-field.ensures.field_there y z in
     let n = get_or counts f 0 - (get_or ends f 0 - q) in
     let g = offset_by ends counts w in

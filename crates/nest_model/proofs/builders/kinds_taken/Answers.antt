@@ -5,8 +5,8 @@ use Rattle.nest_model.proofs.builders.kinds_taken.Goals as goal
 pub returns-clause-appended : goal.returns-clause-appended
 returns-clause-appended c = takes-appended
 
-pub returns-clause-cut : goal.returns-clause-cut
-returns-clause-cut c = takes-cut
+pub returns-clause-truncated : goal.returns-clause-truncated
+returns-clause-truncated c = takes-cut
 
 pub returns-clause-one_kind : goal.returns-clause-one_kind
 returns-clause-one_kind c = takes-one

@@ -2,11 +2,11 @@ use Rattle.std.specs.Str.{IsUtf8}
 use Rattle.std.proofs.Common.{◌≡◌, rules, ℕ, ◌<◌, ◌≤◌, List, [], ◌∷◌, refl, subst, arith}
 use Rattle.std.proofs.lemmas.Str.{IsUtf8-encode, IsCharBoundary-start}
 use lib.Utf8.{encode}
-use Rattle.nest_memory.specs.Cut.{cut}
+use Rattle.nest_memory.specs.Sublist.{sublist}
 use Rattle.nest_model.specs.Part.{begin, extent}
 use Rattle.nest_model.proofs.refusal_examples.texts_refused.Goals as goal
 
--- the second slot would begin with a byte that continues a character
+-- Slot 1 would begin with a UTF-8 continuation byte.
 pub returns-clause-inside_a_character : goal.returns-clause-inside_a_character
 returns-clause-inside_a_character c =
     let a : 4 ≤ 4 = omega arith in
@@ -28,7 +28,7 @@ returns-clause-taken c =
       (
         λ i k.
             let e : 0 ≡ i = omega arith in
-            subst (λ j. IsUtf8 (cut bytes (begin offsets j) (extent offsets j))) e accent,
+            subst (λ j. IsUtf8 (sublist bytes (begin offsets j) (extent offsets j))) e accent,
         (tt, (refl, tt)),
       ),
     )

@@ -9,7 +9,7 @@ use Rattle.nest_take.proofs.null.take.Goals as goal
 pub returns-clause-ok : goal.returns-clause-ok
 returns-clause-ok c =
     let a = c.args.array.now in
-    let is = c.args.places.now in
+    let is = c.args.indices.now in
     let t = layout_type a in
     let n = subst (λ z. IsTaken z is (layouts.null t (length is))) (sym c.known.ensures.kind) (null-taken t (len a) is c.requires) in
     let e = c.in_ok-data_type.ensures.ok ∙ c.data_type.ensures in

@@ -2,7 +2,7 @@ use Rattle.std.proofs.Common.{◌++◌, ◌+◌, ◌∷◌, [], ap, ◌∙◌, a
 use Rattle.std.specs.Prelude.{option_map}
 use Rattle.std.proofs.lemmas.Result.{err_from_is_err_and}
 use Rattle.nest_memory.specs.Rising.{last_of}
-use Rattle.nest_take.specs.Places.{count_at}
+use Rattle.nest_take.specs.Indices.{count_at}
 use Rattle.nest_take.proofs.Made.{only-memory}
 use Rattle.nest_take.proofs.Pieces.{ends-more, ends-within}
 use Rattle.nest_take.proofs.spans.offsets_at.Goals as goal
@@ -10,7 +10,7 @@ use Rattle.nest_take.proofs.spans.offsets_at.Goals as goal
 pub returns-in_err-try_push_usize-clause-err : goal.returns-in_err-try_push_usize-clause-err
 returns-in_err-try_push_usize-clause-err g c =
     let n = count_at c.args.offsets.now (option_map (λ b. b.now) c.args.validity) in
-    let w = ends-within n c.args.places.now c.loop-place.ends c.loop-place.place-index c.loop-place-test.true c.loop-place.invariant in
+    let w = ends-within n c.args.indices.now c.loop-place.ends c.loop-place.place-index c.loop-place-test.true c.loop-place.invariant in
     let x = c.in_err-try_push_usize.ensures in
     let p = err_from_is_err_and c.from_residual-in_err-try_push_usize.result c.from_residual-in_err-try_push_usize.ensures.1 in
     rw p.1 (p.2 ∙ only-memory _ g.O.Offset.largest (last_of c.loop-place.ends + c.range.result.1) x.overflow.0 (omega (arith, w, c.requires.room, c.range.ensures.count)) x.errors)
@@ -21,4 +21,4 @@ loop-place-preserved g c =
     let es = c.loop-place.ends in
     c.in_ok-try_push_usize.ensures.ok
     ∙ ap (λ m. es ++ (last_of es + m) ∷ []) c.range.ensures.count
-    ∙ ends-more n c.args.places.now es c.loop-place.place-index c.loop-place-test.true c.loop-place.invariant
+    ∙ ends-more n c.args.indices.now es c.loop-place.place-index c.loop-place-test.true c.loop-place.invariant

@@ -15,8 +15,8 @@ overflow_cast-counts c =
     let a = c.args.array.now in
     let g = c.index-field.result.0 in
     let d : IsDense a = record { kind = c.known.ensures.kind; dense = c.requires.dense } in
-    let q : Picks a (get_or c.args.places.now c.loop-place.place-index 0) g c.index-field.result.1 = record { field = c.index-field.ensures.field; place = c.index-field.ensures.place } in
-    let x = pick-later a g c.index-field.result.1 c.args.places.now c.loop-place.place-index d c.loop-place-test.true q in
+    let q : Picks a (get_or c.args.indices.now c.loop-place.place-index 0) g c.index-field.result.1 = record { field = c.index-field.ensures.field; place = c.index-field.ensures.place } in
+    let x = pick-later a g c.index-field.result.1 c.args.indices.now c.loop-place.place-index d c.loop-place-test.true q in
     let y = c.loop-place.invariant.counted.each g in
     let z = c.requires.few g in
     omega arith
@@ -26,8 +26,8 @@ overflow_add-counts c =
     let a = c.args.array.now in
     let g = c.index-field.result.0 in
     let d : IsDense a = record { kind = c.known.ensures.kind; dense = c.requires.dense } in
-    let q : Picks a (get_or c.args.places.now c.loop-place.place-index 0) g c.index-field.result.1 = record { field = c.index-field.ensures.field; place = c.index-field.ensures.place } in
-    let x = pick-later a g c.index-field.result.1 c.args.places.now c.loop-place.place-index d c.loop-place-test.true q in
+    let q : Picks a (get_or c.args.indices.now c.loop-place.place-index 0) g c.index-field.result.1 = record { field = c.index-field.ensures.field; place = c.index-field.ensures.place } in
+    let x = pick-later a g c.index-field.result.1 c.args.indices.now c.loop-place.place-index d c.loop-place-test.true q in
     let y = c.loop-place.invariant.counted.each g in
     let z = c.requires.few g in
     omega arith
@@ -35,7 +35,7 @@ overflow_add-counts c =
 pub loop-place-preserved : goal.loop-place-preserved
 loop-place-preserved c =
     let a = c.args.array.now in
-    let is = c.args.places.now in
+    let is = c.args.indices.now in
     let k = c.loop-place.place-index in
     let g = c.index-field.result.0 in
     let i = c.loop-place.invariant in

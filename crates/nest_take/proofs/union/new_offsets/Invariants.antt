@@ -7,8 +7,8 @@ use Rattle.nest_take.proofs.union.new_offsets.Given as goal
 abbrev pub invariant-loop-place : goal.invariant-loop-place
 invariant-loop-place l =
     record {
-      room : length l.places ≤ vec_capacity l.offsets;
+      room : length l.indices ≤ vec_capacity l.offsets;
       same_length : length l.offsets.items ≡ l.place-index;
-      counted : AreCounts l.array (take l.place-index l.places) l.counts;
-      done : l.offsets.items ≡ offsets_in l.array (take l.place-index l.places);
+      counted : AreCounts l.array (take l.place-index l.indices) l.counts;
+      done : l.offsets.items ≡ offsets_in l.array (take l.place-index l.indices);
     }

@@ -6,7 +6,7 @@ use Rattle.nest_take.proofs.union.picks_of.Goals as goal
 pub loop-place-preserved : goal.loop-place-preserved
 loop-place-preserved c =
     let a = c.args.array.now in
-    let is = c.args.places.now in
+    let is = c.args.indices.now in
     let k = c.loop-place.place-index in
     let d : IsDense a = record { kind = c.known.ensures.kind; dense = c.requires.dense } in
     let q : Picks a (get_or is k 0) c.index-picked.result.0 c.index-picked.result.1 = record { field = c.index-picked.ensures.field; place = c.index-picked.ensures.place } in

@@ -1,7 +1,7 @@
 use Rattle.std.proofs.Common.{ap, ◌∙◌, subst, sym}
 use Rattle.nest_model.specs.Accessors.{bytes_of, offsets_of, validity_of}
 use Rattle.nest_model.specs.Layout.{layout_type}
-use Rattle.nest_take.specs.Places.{taken_validity}
+use Rattle.nest_take.specs.Indices.{taken_validity}
 use Rattle.nest_take.specs.Taken.{IsTaken}
 use Rattle.nest_take.proofs.Pieces.{ends-same, items-same}
 use Rattle.nest_take.proofs.SpanRows.{text-taken}
@@ -10,7 +10,7 @@ use Rattle.nest_take.proofs.utf8.take.Goals as goal
 pub new-requires : goal.new-requires
 new-requires g c =
     let a = c.args.array.now in
-    let is = c.args.places.now in
+    let is = c.args.indices.now in
     let x = c.in-Ok.ensures in
     let os = c.offsets-2.ensures in
     let va = c.validity.ensures in
@@ -23,7 +23,7 @@ new-requires g c =
 pub returns-in_ok-data_type-in-Ok-clause-ok : goal.returns-in_ok-data_type-in-Ok-clause-ok
 returns-in_ok-data_type-in-Ok-clause-ok g c =
     let a = c.args.array.now in
-    let is = c.args.places.now in
+    let is = c.args.indices.now in
     let x = c.in-Ok.ensures in
     let os = c.offsets-2.ensures in
     let va = c.validity.ensures in

@@ -6,7 +6,7 @@ use super::{
 use nest_array::{AnyArray, LargeListArray, ListArray};
 use nest_memory::datatypes::DataType;
 use nest_memory::datatypes::physical_type::PhysicalType;
-use nest_memory::error::{Error, Spec};
+use nest_memory::error::{Error, SpecError};
 use std::alloc::Global;
 
 #[test]
@@ -45,7 +45,7 @@ fn offsets_within_the_child(rt: HostRuntime) {
     assert!(rt; array.len() == 1);
     assert!(rt; has_numbers(array.value(rt.alloc(), 0), &[1, 2]));
     let past = of_five(rt.alloc(), &[0, 6]).err();
-    assert!(rt; past == Some(Error::OutOfSpec(Spec::OffsetPastChild)));
+    assert!(rt; past == Some(Error::OutOfSpec(SpecError::OffsetPastChild)));
 }
 
 /// Lists under the type of lists of numbers are rejected for their child's type.
@@ -54,7 +54,7 @@ fn children_of_their_type(rt: HostRuntime) {
     let inner = any_list(of_five(rt.alloc(), &[0, 2, 2, 3, 5]));
     let of_numbers = list_type(rt.alloc(), Ok(DataType::Int32));
     let refused = lists_under(rt.alloc(), of_numbers, inner, &[0, 2, 4], None).err();
-    assert!(rt; refused == Some(Error::OutOfSpec(Spec::ChildType)));
+    assert!(rt; refused == Some(Error::OutOfSpec(SpecError::ChildType)));
 }
 
 #[test]
@@ -104,5 +104,5 @@ fn types_of_lists(rt: HostRuntime) {
     let items = DataType::Int32;
     assert!(rt; *ListArray::get_child_type(&data_type) == items);
     let refused = LargeListArray::try_get_child(&data_type).err();
-    assert!(rt; refused == Some(Error::OutOfSpec(Spec::WrongType)));
+    assert!(rt; refused == Some(Error::OutOfSpec(SpecError::WrongType)));
 }

@@ -2,7 +2,7 @@
 use super::{has_numbers, numbers, validity};
 use nest_array::{AnyArray, Array, FixedSizeListArray, NullArray};
 use nest_memory::datatypes::DataType;
-use nest_memory::error::{Argument, Error, Spec};
+use nest_memory::error::{ArgumentError, Error, SpecError};
 use std::alloc::Global;
 
 /// Lists of so many of the items.
@@ -58,9 +58,9 @@ fn long_validity_rejected(rt: HostRuntime) {
     let bits = [false, true, true].as_slice();
     let long = validity(rt.alloc(), Some(bits)).expect(&rt, "three bits");
     let (mut cut, refused) = kept(cut.with_validity(long));
-    assert!(rt; refused == Some(Error::OutOfSpec(Spec::ValidityLength)));
+    assert!(rt; refused == Some(Error::OutOfSpec(SpecError::ValidityLength)));
     let long = validity(rt.alloc(), Some(bits)).expect(&rt, "three bits");
-    let refused = Err(Error::OutOfSpec(Spec::ValidityLength));
+    let refused = Err(Error::OutOfSpec(SpecError::ValidityLength));
     assert!(rt; cut.set_validity(long) == refused);
     assert!(rt; cut.len() == 2);
     assert!(rt; cut.null_count() == 0);
@@ -78,8 +78,8 @@ fn refusal(alloc: Global, size: usize) -> Option<Error> {
 #[test]
 fn sizes_that_divide(rt: HostRuntime) {
     let spec = |failure| Some(Error::OutOfSpec(failure));
-    assert!(rt; refusal(rt.alloc(), 0) == spec(Spec::ZeroSize));
-    assert!(rt; refusal(rt.alloc(), 4) == spec(Spec::NotMultiple));
+    assert!(rt; refusal(rt.alloc(), 0) == spec(SpecError::ZeroSize));
+    assert!(rt; refusal(rt.alloc(), 4) == spec(SpecError::NotMultiple));
     assert!(rt; refusal(rt.alloc(), 6).is_none());
 }
 
@@ -87,7 +87,7 @@ fn sizes_that_divide(rt: HostRuntime) {
 fn nulls_take_no_validity(rt: HostRuntime) {
     let array = NullArray::new(DataType::Null, 3);
     assert!(rt; array.null_count() == 3);
-    let refused = Some(Error::InvalidArgumentError(Argument::NoValidity));
+    let refused = Some(Error::InvalidArgumentError(ArgumentError::NoValidity));
     let bits = validity(rt.alloc(), Some(&[true, true, true])).expect(&rt, "three bits");
     assert!(rt; array.with_validity(rt.alloc(), bits).err() == refused);
     assert!(rt; array.with_validity(rt.alloc(), None).err() == refused);

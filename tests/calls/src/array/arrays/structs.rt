@@ -3,7 +3,7 @@ use super::{are_same, booleans, both, numbers, two, validity};
 use nest_array::{AnyArray, Array, StructArray};
 use nest_memory::datatypes::DataType;
 use nest_memory::datatypes::field::Field;
-use nest_memory::error::{Error, Spec};
+use nest_memory::error::{Error, SpecError};
 use std::alloc::Global;
 
 /// The type of records of a boolean and a number.
@@ -76,7 +76,7 @@ fn children_in_the_order_of_fields(rt: HostRuntime) {
     let alloc = rt.alloc();
     let children = two(alloc, numbers(alloc, &[42]), any_booleans(alloc, &[true]));
     let refused = records_under(alloc, record_type(alloc), children, None).err();
-    assert!(rt; refused == Some(Error::OutOfSpec(Spec::ChildType)));
+    assert!(rt; refused == Some(Error::OutOfSpec(SpecError::ChildType)));
 }
 
 #[test]
@@ -89,9 +89,9 @@ fn children_of_one_length(rt: HostRuntime) {
         Some(bits.as_slice()),
     )
     .err();
-    assert!(rt; refused == Some(Error::OutOfSpec(Spec::ChildLength)));
+    assert!(rt; refused == Some(Error::OutOfSpec(SpecError::ChildLength)));
     let refused = records(rt.alloc(), &[true, false], &[1, 2], Some(bits.as_slice())).err();
-    assert!(rt; refused == Some(Error::OutOfSpec(Spec::ValidityLength)));
+    assert!(rt; refused == Some(Error::OutOfSpec(SpecError::ValidityLength)));
 }
 
 #[test]
@@ -99,9 +99,9 @@ fn a_child_for_each_field(rt: HostRuntime) {
     let alloc = rt.alloc();
     let no_fields = Ok(DataType::Struct(Vec::new(alloc)));
     let refused = records_under(alloc, no_fields, Ok(Vec::new(alloc)), None).err();
-    assert!(rt; refused == Some(Error::OutOfSpec(Spec::NoFields)));
+    assert!(rt; refused == Some(Error::OutOfSpec(SpecError::NoFields)));
     let refused = records_under(alloc, record_type(alloc), Ok(Vec::new(alloc)), None).err();
-    assert!(rt; refused == Some(Error::OutOfSpec(Spec::FieldCount)));
+    assert!(rt; refused == Some(Error::OutOfSpec(SpecError::FieldCount)));
 }
 
 #[test]

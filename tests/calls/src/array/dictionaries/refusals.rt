@@ -3,7 +3,7 @@ use super::{by_keys, int32_keys, keys, texts};
 use crate::array::arrays::both;
 use nest_array::{AnyArray, AnyKeys, DictionaryArray, DictionaryKey};
 use nest_memory::datatypes::{DataType, IntegerType};
-use nest_memory::error::{Error, Spec};
+use nest_memory::error::{Error, SpecError};
 use std::alloc::Global;
 
 /// The type of values of this type by such keys.
@@ -44,13 +44,13 @@ fn refused(alloc: Global, data_type: Result<DataType, Error>) -> Option<Error> {
 fn each_check_before_the_next(rt: HostRuntime) {
     let alloc = rt.alloc();
     let spec = |failure| Some(Error::OutOfSpec(failure));
-    assert!(rt; refused(alloc, Ok(DataType::Utf8)) == spec(Spec::WrongType));
+    assert!(rt; refused(alloc, Ok(DataType::Utf8)) == spec(SpecError::WrongType));
     let other_keys = dictionary_type(alloc, IntegerType::Int8, DataType::LargeUtf8, false);
-    assert!(rt; refused(alloc, other_keys) == spec(Spec::KeyType));
+    assert!(rt; refused(alloc, other_keys) == spec(SpecError::KeyType));
     let other_values = dictionary_type(alloc, IntegerType::Int32, DataType::LargeUtf8, false);
-    assert!(rt; refused(alloc, other_values) == spec(Spec::ChildType));
+    assert!(rt; refused(alloc, other_values) == spec(SpecError::ChildType));
     let of_texts = dictionary_type(alloc, IntegerType::Int32, DataType::Utf8, false);
-    assert!(rt; refused(alloc, of_texts) == spec(Spec::KeyRange));
+    assert!(rt; refused(alloc, of_texts) == spec(SpecError::KeyRange));
 }
 
 /// Why these keys into one text are rejected.
@@ -62,7 +62,7 @@ fn rejected_keys(alloc: Global, keys: Result<AnyKeys, Error>) -> Option<Error> {
 #[test]
 fn raw_keys_under_nulls_and_negative_ones(rt: HostRuntime) {
     let alloc = rt.alloc();
-    let past = Some(Error::OutOfSpec(Spec::KeyRange));
+    let past = Some(Error::OutOfSpec(SpecError::KeyRange));
     let under_null = keys(alloc, &[0i8, 9], Some(&[true, false])).map(|keys| i8::wrap(keys));
     assert!(rt; rejected_keys(alloc, under_null) == past);
     assert!(rt; rejected_keys(alloc, int32_keys(alloc, &[-1], None)) == past);

@@ -4,7 +4,7 @@ use crate::array::empties::types::{
 };
 use nest_array::{AnyArray, DictionaryArray};
 use nest_memory::datatypes::{DataType, IntegerType};
-use nest_memory::error::{Error, Spec};
+use nest_memory::error::{Error, SpecError};
 use std::alloc::{AllocError, Global};
 
 fn lists_by_keys(alloc: Global) -> Result<DataType, Error> {
@@ -64,7 +64,7 @@ fn values_are_viewed(rt: HostRuntime) {
     let alloc = rt.alloc();
     let floats = dictionary(alloc, IntegerType::Int8, Ok(DataType::Float64));
     assert!(rt; refusal(nulls(alloc, floats, 0)) == Some(Error::NotYetImplemented));
-    let wrong = Some(Error::OutOfSpec(Spec::WrongType));
+    let wrong = Some(Error::OutOfSpec(SpecError::WrongType));
     assert!(rt; DictionaryArray::new_null(alloc, DataType::Float64, 1).err() == wrong);
     assert!(rt; DictionaryArray::new_empty(alloc, DataType::Int8).err() == wrong);
 }

@@ -9,10 +9,10 @@ use nest_array::{
     StructArray, UnionArray,
 };
 use nest_memory::datatypes::{DataType, UnionMode};
-use nest_memory::error::{Error, Spec};
+use nest_memory::error::{Error, SpecError};
 use std::alloc::Global;
 
-const WRONG: Option<Error> = Some(Error::OutOfSpec(Spec::WrongType));
+const WRONG: Option<Error> = Some(Error::OutOfSpec(SpecError::WrongType));
 
 /// What a call rejected, or why its type wasn't there.
 fn refused<A: Drop>(array: Result<A, Error>) -> Option<Error> {

@@ -3,10 +3,10 @@ use crate::array::empties::types::{
     extension, list, map, none, nulls, numbers, one, records, refusal, sized, two,
 };
 use nest_memory::datatypes::DataType;
-use nest_memory::error::{Argument, Error, Spec};
+use nest_memory::error::{ArgumentError, Error, SpecError};
 use std::alloc::Global;
 
-const NO_SIZE: Option<Error> = Some(Error::OutOfSpec(Spec::ZeroSize));
+const NO_SIZE: Option<Error> = Some(Error::OutOfSpec(SpecError::ZeroSize));
 
 const TOO_LONG: Option<Error> = Some(Error::Overflow);
 
@@ -60,7 +60,7 @@ fn children_from_the_left(rt: HostRuntime) {
     assert!(rt; refusal(nulls(alloc, records(float_first), 1)) == NO_FLOATS);
     let bytes_first = two(alloc, no_bytes(alloc), Ok(DataType::Float32));
     assert!(rt; refusal(nulls(alloc, records(bytes_first), 1)) == NO_SIZE);
-    let no_fields = Some(Error::OutOfSpec(Spec::NoFields));
+    let no_fields = Some(Error::OutOfSpec(SpecError::NoFields));
     assert!(rt; refusal(nulls(alloc, records(numbers(alloc, 0)), 1)) == no_fields);
     assert!(rt; refusal(none(alloc, records(numbers(alloc, 0)))) == no_fields);
 }
@@ -69,7 +69,7 @@ fn children_from_the_left(rt: HostRuntime) {
 #[test]
 fn entries_of_maps(rt: HostRuntime) {
     let alloc = rt.alloc();
-    let no_pairs = Some(Error::InvalidArgumentError(Argument::MapInner));
+    let no_pairs = Some(Error::InvalidArgumentError(ArgumentError::MapInner));
     assert!(rt; refusal(none(alloc, map(alloc, Ok(DataType::Int8)))) == no_pairs);
     let single = records(one(alloc, Ok(DataType::Int8)));
     assert!(rt; refusal(nulls(alloc, map(alloc, single), usize::MAX)) == no_pairs);

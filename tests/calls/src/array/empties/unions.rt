@@ -4,7 +4,7 @@ use crate::array::empties::types::{
 };
 use nest_array::{AnyArray, AnyScalar, UnionArray};
 use nest_memory::datatypes::{DataType, UnionMode};
-use nest_memory::error::{Error, Spec};
+use nest_memory::error::{Error, SpecError};
 use std::alloc::Global;
 
 fn number_or_string(alloc: Global, ids: Option<&[i32]>) -> Result<DataType, Error> {
@@ -105,7 +105,7 @@ fn without_ids_the_first_field(rt: HostRuntime) {
 #[test]
 fn without_fields(rt: HostRuntime) {
     let alloc = rt.alloc();
-    let nothing = Some(Error::OutOfSpec(Spec::UnionType));
+    let nothing = Some(Error::OutOfSpec(SpecError::UnionType));
     let empty = union(alloc, numbers(alloc, 0), None, UnionMode::Sparse);
     assert!(rt; refusal(nulls(alloc, empty, 0)) == None);
     let empty = union(alloc, numbers(alloc, 0), None, UnionMode::Sparse);
@@ -141,15 +141,15 @@ fn dense_slots_one_after_another(rt: HostRuntime) {
 fn refused_types(rt: HostRuntime) {
     let alloc = rt.alloc();
     let many = union(alloc, numbers(alloc, 128), None, UnionMode::Sparse);
-    assert!(rt; refusal(none(alloc, many)) == Some(Error::OutOfSpec(Spec::TooManyFields)));
+    assert!(rt; refusal(none(alloc, many)) == Some(Error::OutOfSpec(SpecError::TooManyFields)));
     let most = union(alloc, numbers(alloc, 127), None, UnionMode::Sparse);
     assert!(rt; refusal(nulls(alloc, most, 1)) == None);
     let ids = union(alloc, numbers(alloc, 1), Some(&[1, 2]), UnionMode::Sparse);
-    assert!(rt; refusal(nulls(alloc, ids, 0)) == Some(Error::OutOfSpec(Spec::IdCount)));
+    assert!(rt; refusal(nulls(alloc, ids, 0)) == Some(Error::OutOfSpec(SpecError::IdCount)));
     let ids = union(alloc, numbers(alloc, 1), Some(&[200]), UnionMode::Sparse);
-    assert!(rt; refusal(nulls(alloc, ids, 0)) == Some(Error::OutOfSpec(Spec::IdRange)));
+    assert!(rt; refusal(nulls(alloc, ids, 0)) == Some(Error::OutOfSpec(SpecError::IdRange)));
     let ids = union(alloc, numbers(alloc, 1), Some(&[-1]), UnionMode::Dense);
-    assert!(rt; refusal(none(alloc, ids)) == Some(Error::OutOfSpec(Spec::IdRange)));
+    assert!(rt; refusal(none(alloc, ids)) == Some(Error::OutOfSpec(SpecError::IdRange)));
     let ids = union(alloc, numbers(alloc, 1), Some(&[127]), UnionMode::Dense);
     assert!(rt; refusal(nulls(alloc, list(alloc, ids), 3)) == None);
 }

@@ -2,7 +2,7 @@
 use super::{entries, has_entry, maps_of, two_maps};
 use crate::array::arrays::validity;
 use nest_array::{Array, MapArray};
-use nest_memory::error::{Error, Spec};
+use nest_memory::error::{Error, SpecError};
 
 #[test]
 fn sliced_to_the_second_map(rt: HostRuntime) {
@@ -59,9 +59,9 @@ fn new_validity_by_its_length(rt: HostRuntime) {
     let array = two_maps(rt.alloc()).expect(&rt, "two maps");
     let long = validity(rt.alloc(), Some(&[false, true, true])).expect(&rt, "three bits");
     let (mut array, refused): (MapArray, Option<Error>) = kept(array.with_validity(long));
-    assert!(rt; refused == Some(Error::OutOfSpec(Spec::ValidityLength)));
+    assert!(rt; refused == Some(Error::OutOfSpec(SpecError::ValidityLength)));
     let long = validity(rt.alloc(), Some(&[false, true, true])).expect(&rt, "three bits");
-    let refused = Err(Error::OutOfSpec(Spec::ValidityLength));
+    let refused = Err(Error::OutOfSpec(SpecError::ValidityLength));
     assert!(rt; array.set_validity(long) == refused);
     assert!(rt; array.null_count() == 0);
     let bits = validity(rt.alloc(), Some(&[false, true])).expect(&rt, "two bits");

@@ -2,10 +2,10 @@
 use super::{entries, map_type, maps_of, maps_under, pair_type, string_field};
 use crate::array::arrays::{list_type, numbers, two};
 use nest_memory::datatypes::DataType;
-use nest_memory::error::{Argument, Error, Spec};
+use nest_memory::error::{ArgumentError, Error, SpecError};
 use std::alloc::Global;
 
-const MAP_INNER: Option<Error> = Some(Error::InvalidArgumentError(Argument::MapInner));
+const MAP_INNER: Option<Error> = Some(Error::InvalidArgumentError(ArgumentError::MapInner));
 
 /// An extension of this type.
 fn extension(alloc: Global, inner: Result<DataType, Error>) -> Result<DataType, Error> {
@@ -63,18 +63,18 @@ fn first_of_the_checks(rt: HostRuntime) {
     let alloc = rt.alloc();
     let long = Some([true, true, true].as_slice());
     let past = maps_under(alloc, Ok(DataType::Int32), entries(alloc), &[0, 1, 4], long).err();
-    assert!(rt; past == Some(Error::OutOfSpec(Spec::OffsetPastChild)));
+    assert!(rt; past == Some(Error::OutOfSpec(SpecError::OffsetPastChild)));
     let lists = list_type(alloc, Ok(DataType::Int32));
     let refused = maps_under(alloc, lists, entries(alloc), &[0, 1, 2], long).err();
-    assert!(rt; refused == Some(Error::OutOfSpec(Spec::WrongType)));
+    assert!(rt; refused == Some(Error::OutOfSpec(SpecError::WrongType)));
     let inner = map_type(alloc, triple_type(alloc));
     let refused = maps_under(alloc, inner, entries(alloc), &[0, 1, 2], long).err();
     assert!(rt; refused == MAP_INNER);
     let data_type = map_type(alloc, pair_type(alloc));
     let refused = maps_under(alloc, data_type, numbers(alloc, &[1, 2]), &[0, 1, 2], long).err();
-    assert!(rt; refused == Some(Error::InvalidArgumentError(Argument::ChildType)));
+    assert!(rt; refused == Some(Error::InvalidArgumentError(ArgumentError::ChildType)));
     let refused = maps_of(alloc, entries(alloc), &[0, 1, 2], long).err();
-    assert!(rt; refused == Some(Error::OutOfSpec(Spec::ValidityLength)));
+    assert!(rt; refused == Some(Error::OutOfSpec(SpecError::ValidityLength)));
 }
 
 #[test]
@@ -86,5 +86,5 @@ fn no_offset_past_the_entries(rt: HostRuntime) {
             .is_none()
     );
     let past = maps_of(alloc, entries(alloc), &[0, 4], None).err();
-    assert!(rt; past == Some(Error::OutOfSpec(Spec::OffsetPastChild)));
+    assert!(rt; past == Some(Error::OutOfSpec(SpecError::OffsetPastChild)));
 }

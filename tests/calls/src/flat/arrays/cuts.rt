@@ -2,7 +2,7 @@
 use super::{binaries, booleans, numbers, texts, validity};
 use nest_flat::primitive::PrimitiveArray;
 use nest_memory::datatypes::DataType;
-use nest_memory::error::{Error, Spec};
+use nest_memory::error::{Error, SpecError};
 use std::alloc::Global;
 
 /// The slots 1, null and 3.
@@ -86,7 +86,7 @@ fn new_validity_moved(rt: HostRuntime) {
 #[test]
 fn short_validity_rejected(rt: HostRuntime) {
     let mut array = three(rt.alloc()).expect(&rt, "three slots");
-    let refused = Err(Error::OutOfSpec(Spec::ValidityLength));
+    let refused = Err(Error::OutOfSpec(SpecError::ValidityLength));
     let short = validity(rt.alloc(), Some(&[false, false])).expect(&rt, "two bits");
     assert!(rt; array.set_validity(short) == refused);
     assert!(rt; array.len() == 3);
@@ -107,7 +107,7 @@ fn validity_by_value(rt: HostRuntime) {
     let array = three(rt.alloc()).expect(&rt, "three slots");
     let short = validity(rt.alloc(), Some(&[false])).expect(&rt, "one bit");
     let (array, refused) = kept(array.with_validity(short));
-    assert!(rt; refused == Some(Error::OutOfSpec(Spec::ValidityLength)));
+    assert!(rt; refused == Some(Error::OutOfSpec(SpecError::ValidityLength)));
     assert!(rt; array.null_count() == 1);
     let (array, refused) = kept(array.with_validity(None));
     assert!(rt; refused.is_none());

@@ -6,7 +6,7 @@ use nest_flat::boolean::BooleanArray;
 use nest_flat::primitive::PrimitiveArray;
 use nest_flat::utf8::Utf8Array;
 use nest_memory::datatypes::{DataType, IntervalUnit};
-use nest_memory::error::{Error, Spec};
+use nest_memory::error::{Error, SpecError};
 use nest_memory::types::{days_ms, months_days_ns};
 
 /// What a call rejected.
@@ -42,7 +42,7 @@ fn spans_are_zeros(rt: HostRuntime) {
 }
 
 #[test]
-fn null_truths(rt: HostRuntime) {
+fn null_booleans(rt: HostRuntime) {
     let booleans = BooleanArray::new_null(rt.alloc(), DataType::Boolean, 9).expect(&rt, "booleans");
     assert!(rt; booleans.null_count() == 9);
     assert!(rt; booleans.values().unset_bits() == 9);
@@ -91,7 +91,7 @@ fn strings_sliced_to_nothing_are_the_empty_array(rt: HostRuntime) {
 
 #[test]
 fn other_types_come_first(rt: HostRuntime) {
-    let wrong = Some(Error::OutOfSpec(Spec::WrongType));
+    let wrong = Some(Error::OutOfSpec(SpecError::WrongType));
     let alloc = rt.alloc();
     assert!(rt; refusal(PrimitiveArray::<i32>::new_null(alloc, DataType::Float32, 1)) == wrong);
     assert!(rt; refusal(PrimitiveArray::<i64>::new_empty(alloc, DataType::Date32)) == wrong);

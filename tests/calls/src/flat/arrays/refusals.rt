@@ -1,7 +1,7 @@
 //! The first check that fails is the one that is decoded.
 use super::{binaries, booleans, numbers, texts};
 use nest_memory::datatypes::DataType;
-use nest_memory::error::{Error, Spec};
+use nest_memory::error::{Error, SpecError};
 
 /// Strings may not be cut inside a character: of a, é, b the offsets 0, 2, 4 are rejected as text, 0, 5 as past the bytes; 1, 3
 /// is the slot é.
@@ -10,8 +10,8 @@ fn strings_end_with_characters(rt: HostRuntime) {
     // a, é in two bytes, b
     let bytes = [0x61, 0xc3, 0xa9, 0x62].as_slice();
     for (offsets, failure) in [
-        ([0, 2, 4].as_slice(), Spec::Text),
-        ([0, 5].as_slice(), Spec::OffsetPastChild),
+        ([0, 2, 4].as_slice(), SpecError::Utf8),
+        ([0, 5].as_slice(), SpecError::OffsetPastChild),
     ] {
         let refused = texts(rt.alloc(), bytes, offsets, None).err();
         assert!(rt; refused == Some(Error::OutOfSpec(failure)));
@@ -26,9 +26,9 @@ fn strings_end_with_characters(rt: HostRuntime) {
 fn natives_of_their_data_type(rt: HostRuntime) {
     let long = Some([true, true, true].as_slice());
     let refused = numbers(rt.alloc(), DataType::Int64, &[7, 8], None).err();
-    assert!(rt; refused == Some(Error::OutOfSpec(Spec::WrongType)));
+    assert!(rt; refused == Some(Error::OutOfSpec(SpecError::WrongType)));
     let refused = numbers(rt.alloc(), DataType::Int64, &[7, 8], long).err();
-    assert!(rt; refused == Some(Error::OutOfSpec(Spec::ValidityLength)));
+    assert!(rt; refused == Some(Error::OutOfSpec(SpecError::ValidityLength)));
     let dates = numbers(rt.alloc(), DataType::Date32, &[7, 8], None).expect(&rt, "two days");
     let date = DataType::Date32;
     assert!(rt; *dates.data_type() == date);
@@ -39,9 +39,9 @@ fn natives_of_their_data_type(rt: HostRuntime) {
 fn binary_and_boolean_without_memory(rt: HostRuntime) {
     let long = Some([true, true, true].as_slice());
     let past = binaries(rt.alloc(), &[1, 2], &[0, 3], long).err();
-    assert!(rt; past == Some(Error::OutOfSpec(Spec::OffsetPastChild)));
+    assert!(rt; past == Some(Error::OutOfSpec(SpecError::OffsetPastChild)));
     let unlike = binaries(rt.alloc(), &[1, 2], &[0, 2], long).err();
-    assert!(rt; unlike == Some(Error::OutOfSpec(Spec::ValidityLength)));
+    assert!(rt; unlike == Some(Error::OutOfSpec(SpecError::ValidityLength)));
     let unlike = booleans(rt.alloc(), &[true], long).err();
-    assert!(rt; unlike == Some(Error::OutOfSpec(Spec::ValidityLength)));
+    assert!(rt; unlike == Some(Error::OutOfSpec(SpecError::ValidityLength)));
 }

@@ -2,7 +2,7 @@
 use super::unless_without_memory;
 use nest_memory::bitmap::immutable::Bitmap;
 use nest_memory::bitmap::mutable::MutableBitmap;
-use nest_memory::error::{Error, Spec};
+use nest_memory::error::{Error, SpecError};
 use std::alloc::Global;
 
 fn bitmap_of(alloc: Global, bytes: &[u8], len: usize) -> Result<Bitmap, Error> {
@@ -83,7 +83,7 @@ fn unset_bits_of_slices(rt: HostRuntime) {
 #[test]
 fn short_bitmap(rt: HostRuntime) {
     let refused = bitmap_of(rt.alloc(), &[1], 9).err();
-    assert!(rt; refused == Some(Error::OutOfSpec(Spec::ValidityLength)));
+    assert!(rt; refused == Some(Error::OutOfSpec(SpecError::ValidityLength)));
 }
 
 #[test]

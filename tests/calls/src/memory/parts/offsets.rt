@@ -1,11 +1,11 @@
 //! Offsets that never change, and what their constructors reject.
 use super::unless_without_memory;
-use nest_memory::error::{Error, Spec};
+use nest_memory::error::{Error, SpecError};
 use nest_memory::offset::Offset;
 use nest_memory::offsets::{Offsets, OffsetsBuffer};
 use std::alloc::Global;
 
-const WRONG: Option<Error> = Some(Error::OutOfSpec(Spec::Offsets));
+const WRONG: Option<Error> = Some(Error::OutOfSpec(SpecError::Offsets));
 
 fn offsets_of(alloc: Global, parts: &[i32]) -> Result<OffsetsBuffer<i32>, Error> {
     OffsetsBuffer::try_new(alloc, Vec::from_slice(alloc, parts)?)

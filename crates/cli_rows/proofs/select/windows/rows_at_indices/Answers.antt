@@ -1,6 +1,6 @@
 use Rattle.std.proofs.Common.{◌≡◌, ◌<◌, get_or, length, map, sym, ap, ◌∙◌, arith}
 use Rattle.std.specs.List.{flat_map}
-use Rattle.nest_memory.specs.Cut.{cut}
+use Rattle.nest_memory.specs.Sublist.{sublist}
 use Rattle.nest_model.specs.Meaning.{len}
 use Rattle.nest_model.specs.Runs.{length-cut}
 use Rattle.nest_array.specs.Seen.{layout_of}
@@ -29,10 +29,10 @@ loop-index-preserved c =
     let m = located-len arrays k x at.array c.index-arrays-k.is in
     let w = at.within in
     let within : i < len (layout_of x) = omega (arith, m, w) in
-    let row : cut (rows_of (layout_of x)) i 1 ≡ cut all place 1 = located-row arrays k i place x at.array c.index-arrays-k.is within at.place_is in
+    let row : sublist (rows_of (layout_of x)) i 1 ≡ sublist all place 1 = located-row arrays k i place x at.array c.index-arrays-k.is within at.place_is in
     let l = rows-length (layout_of x) in
-    let one : length (cut all place 1) ≡ 1 = ap length (sym row) ∙ length-cut (rows_of (layout_of x)) i 1 (omega (arith, l, within)) in (
-      flat-more rows_in (λ p. cut all p 1) c.args.wanted.now c.loop-index.index-index place c.loop-index.windows.items c.push.new.self.items c.one_row.result c.loop-index-test.true is c.in_ok-push.ensures.items
+    let one : length (sublist all place 1) ≡ 1 = ap length (sym row) ∙ length-cut (rows_of (layout_of x)) i 1 (omega (arith, l, within)) in (
+      flat-more rows_in (λ p. sublist all p 1) c.args.wanted.now c.loop-index.index-index place c.loop-index.windows.items c.push.new.self.items c.one_row.result c.loop-index-test.true is c.in_ok-push.ensures.items
           (ap rows_in c.one_row.ensures ∙ window-rows (layout_of x) i 1 ∙ row) c.loop-index.invariant.0,
       place-more all c.args.wanted.now c.loop-index.index-index place c.loop-index-test.true is one c.loop-index.invariant.1,
     )

@@ -7,7 +7,7 @@ use Rattle.json_write.proofs.traits.WriteSlot.write_items.Goals as goal
 
 pub loop-k-preserved : goal.loop-k-preserved
 loop-k-preserved g c plain =
-    let a = g.Self.Slotted.parts c.args.self.now in
+    let a = g.Self.ArrayParts.parts c.args.self.now in
     let done = c.loop-k.invariant plain in
     let one = c.write_comma.ensures done.plain (search rules) in
     let two = c.write_slot.ensures one.plain (search rules) in

@@ -2,7 +2,7 @@ use Rattle.std.specs.Prelude.{◌↔◌, ◌≢◌, IsTrue}
 use Rattle.std.proofs.Common.{ap, subst, arith}
 use Rattle.nest_model.specs.BuilderTree.{builder_len}
 use Rattle.nest_model.specs.Slot as slots
-use Rattle.nest_build.specs.Told.{own_slot}
+use Rattle.nest_build.specs.Shown.{own_slot}
 use Rattle.nest_any.specs.Trees.{tree_of}
 use Rattle.nest_any.proofs.TellLaws.{rows-count}
 use Rattle.nest_any.proofs.lists.ListBuilder.is_valid.Goals as goal

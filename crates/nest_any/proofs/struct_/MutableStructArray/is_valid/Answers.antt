@@ -1,6 +1,6 @@
 use Rattle.std.specs.Prelude.{◌≢◌, ◌↔◌, IsTrue}
 use Rattle.std.proofs.Common.{◌<◌, sym, subst}
-use Rattle.nest_build.specs.Told.{own_slot}
+use Rattle.nest_build.specs.Shown.{own_slot}
 use Rattle.nest_model.specs.BuilderTree.{builder_len}
 use Rattle.nest_model.specs.Slot as slots
 use Rattle.nest_any.specs.Trees.{trees_of}

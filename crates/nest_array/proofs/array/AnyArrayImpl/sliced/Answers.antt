@@ -1,6 +1,6 @@
 use Rattle.std.proofs.Common.{◌∙◌}
-use Rattle.nest_model.specs.CutLaws.{is-cut}
+use Rattle.nest_model.specs.SliceLaws.{is-cut}
 use Rattle.nest_array.proofs.array.AnyArrayImpl.sliced.Goals as goal
 
-pub returns-clause-cut : goal.returns-clause-cut
-returns-clause-cut g c = is-cut _ _ _ _ c.requires (c.into_any.ensures ∙ c.in_ok-part.ensures.ok)
+pub returns-clause-slice : goal.returns-clause-slice
+returns-clause-slice g c = is-cut _ _ _ _ c.requires (c.into_any.ensures ∙ c.in_ok-part.ensures.ok)

@@ -8,15 +8,15 @@ pub returns-then-not-is_same_slot-clause-same : goal.returns-then-not-is_same_sl
 returns-then-not-is_same_slot-clause-same g c =
     runs-differ (slot (g.A.FlatArray.layout c.args.a)) (slot (g.A.FlatArray.layout c.args.b)) c.args.o c.args.p c.args.n c.loop-k.k _ c.is_same_slot.ensures c.if-not-is_same_slot.true c.loop-k-test.true
 
-pub returns-then-not-is_same_slot-clause-told : goal.returns-then-not-is_same_slot-clause-told
-returns-then-not-is_same_slot-clause-told g c = tells-stopped _ _ (c.loop-k.k + 1) _ (omega (arith, c.tell.ensures, c.loop-k.invariant.told)) (omega (arith, c.loop-k-test.true))
+pub returns-then-not-is_same_slot-clause-comparisons : goal.returns-then-not-is_same_slot-clause-comparisons
+returns-then-not-is_same_slot-clause-comparisons g c = tells-stopped _ _ (c.loop-k.k + 1) _ (omega (arith, c.add.ensures, c.loop-k.invariant.comparisons)) (omega (arith, c.loop-k-test.true))
 
 pub loop-k-preserved : goal.loop-k-preserved
 loop-k-preserved g c =
     record {
       same = same-more (slot (g.A.FlatArray.layout c.args.a)) (slot (g.A.FlatArray.layout c.args.b)) c.args.o c.args.p c.loop-k.k c.loop-k.invariant.same (c.is_same_slot.ensures.0 c.if-not-is_same_slot.false);
-      told = c.loop-k.invariant.told;
+      comparisons = c.loop-k.invariant.comparisons;
     }
 
-pub returns-clause-told : goal.returns-clause-told
-returns-clause-told g c = tells-exact _ _ _ _ (omega (arith, c.tell-2.ensures, c.loop-k.invariant.told))
+pub returns-clause-comparisons : goal.returns-clause-comparisons
+returns-clause-comparisons g c = tells-exact _ _ _ _ (omega (arith, c.add-2.ensures, c.loop-k.invariant.comparisons))

@@ -6,5 +6,5 @@ abbrev pub invariant-loop-k : goal.invariant-loop-k
 invariant-loop-k g l =
     record {
       same : run (slot (g.A.FlatArray.layout l.a)) l.o l.k ≡ run (slot (g.A.FlatArray.layout l.b)) l.p l.k;
-      told : l.steps ≡ l.initial.steps;
+      comparisons : l.steps ≡ l.initial.steps;
     }

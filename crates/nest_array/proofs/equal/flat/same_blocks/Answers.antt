@@ -12,7 +12,7 @@ returns-then-not-same_values-clause-differ g c =
     λ e. let u : false ≡ true = (part-differs (slot a) (slot b) c.args.o c.args.p c.args.n c.loop-done.done g.row.B _ c.same_values.ensures c.if-not-same_values.true h).1 e in cc
 
 pub returns-then-not-same_values-clause-stopped : goal.returns-then-not-same_values-clause-stopped
-returns-then-not-same_values-clause-stopped g c = omega (arith, c.tell.ensures, c.loop-done.invariant.told, c.loop-done-test.true, c.loop-done.invariant.within)
+returns-then-not-same_values-clause-stopped g c = omega (arith, c.add.ensures, c.loop-done.invariant.comparisons, c.loop-done-test.true, c.loop-done.invariant.within)
 
 pub loop-done-preserved : goal.loop-done-preserved
 loop-done-preserved g c =
@@ -21,5 +21,5 @@ loop-done-preserved g c =
     record {
       within = omega (arith, c.loop-done-test.true, c.loop-done.invariant.within);
       same = same-joined (slot a) (slot b) c.args.o c.args.p c.loop-done.done g.row.B (c.loop-done.done + g.row.B) refl c.loop-done.invariant.same (c.same_values.ensures.0 c.if-not-same_values.false);
-      told = omega (arith, c.tell.ensures, c.loop-done.invariant.told);
+      comparisons = omega (arith, c.add.ensures, c.loop-done.invariant.comparisons);
     }

@@ -8,7 +8,7 @@ invariant-loop-done g l =
     record {
       within : l.done ≤ l.n;
       same : run (slot (bare (g.A.FlatArray.layout l.a))) l.o l.done ≡ run (slot (bare (g.A.FlatArray.layout l.b))) l.p l.done;
-      told : l.steps ≡ l.initial.steps + l.done;
+      comparisons : l.steps ≡ l.initial.steps + l.done;
     }
 
 abbrev pub decreases-loop-done : goal.decreases-loop-done

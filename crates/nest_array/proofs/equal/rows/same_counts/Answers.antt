@@ -26,5 +26,5 @@ loop-k-preserved g c =
     record {
       same = bounds-more a b c.args.o c.args.p k i.same (omega (arith, p, x, y, c.if-count-other_count.false, c.span-count.ensures.start, c.span-count.ensures.end, c.span-other_count.ensures.start, c.span-other_count.ensures.end));
       counted = omega (arith, i.counted, x, c.span-count.ensures.start, c.span-count.ensures.end);
-      told = i.told;
+      comparisons = i.comparisons;
     }

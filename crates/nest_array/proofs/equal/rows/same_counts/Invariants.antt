@@ -7,5 +7,5 @@ invariant-loop-k g l =
     record {
       same : SameBounds (g.R.Rows.layout l.xs) l.o (g.S.Rows.layout l.ys) l.p l.k;
       counted : bound_of (g.R.Rows.layout l.xs) l.o + l.total ≡ bound_of (g.R.Rows.layout l.xs) (l.o + l.k);
-      told : l.steps ≡ l.initial.steps;
+      comparisons : l.steps ≡ l.initial.steps;
     }

@@ -1,4 +1,4 @@
-use Rattle.nest_model.specs.CutLaws.{is-cut}
+use Rattle.nest_model.specs.SliceLaws.{is-cut}
 use Rattle.nest_array.proofs.fixed_size_binary.FixedSizeBinaryArray.slice.Goals as goal
 
 pub returns : goal.returns

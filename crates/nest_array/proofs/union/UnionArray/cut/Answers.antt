@@ -11,4 +11,4 @@ invariant_of-self c =
     let within : c.args.o + c.args.n ≤ length c.self.inside.types = omega (arith, l, c.requires) in
     let fits = top-fits-cut (union_seen c.self.inside) c.args.o c.args.n c.self.invariant.0 within in
     let count = length-cut c.self.inside.types c.args.o c.args.n within in
-    rw (c.slice.ensures, c.cut_offsets.ensures) (fits, omega (arith, count, c.self.invariant.1, within), c.self.invariant.2)
+    rw (c.slice.ensures, c.slice_offsets.ensures) (fits, omega (arith, count, c.self.invariant.1, within), c.self.invariant.2)

@@ -5,12 +5,12 @@ use Rattle.nest_memory.specs.declared.datatypes.physical_type.PhysicalType.TheVa
 use Rattle.nest_memory.specs.declared.datatypes.physical_type.PrimitiveType.{PrimitiveType}
 use Rattle.nest_memory.specs.declared.datatypes.physical_type.PrimitiveType.TheVariants as primitives
 use Rattle.nest_memory.specs.declared.error.Error.TheVariants.{NotYetImplemented}
-use Rattle.nest_model.specs.Nulls.{float_fault}
+use Rattle.nest_model.specs.Nulls.{float_error}
 use Rattle.nest_model.specs.MadeNullLaws.{no-float}
 use Rattle.nest_flat.proofs.any_primitive.AnyPrimitive.of_nulls.Goals as goal
 
-at-kind : (k f : PrimitiveType) → k ≡ f → float_fault (physical.Primitive k) ≡ None → float_fault (physical.Primitive f) ≡ None
-at-kind k f h e = ap (λ x. float_fault (physical.Primitive x)) (sym h) ∙ e
+at-kind : (k f : PrimitiveType) → k ≡ f → float_error (physical.Primitive k) ≡ None → float_error (physical.Primitive f) ≡ None
+at-kind k f h e = ap (λ x. float_error (physical.Primitive x)) (sym h) ∙ e
 
 pub unreachable-requires : goal.unreachable-requires
 unreachable-requires c =

@@ -3,14 +3,14 @@ use Rattle.std.specs.Prelude.{◌+◌, None}
 use Rattle.nest_memory.specs.TypeOf.{type_of}
 use Rattle.nest_model.specs.Layout as layouts
 use Rattle.nest_model.specs.NullLayout.{null_array}
-use Rattle.nest_model.specs.NullKinds.{binary-parts, binary-fault}
+use Rattle.nest_model.specs.NullKinds.{binary-parts, binary-first_error}
 use Rattle.nest_model.specs.MadeNullLaws.{not-past, top-fits}
 use Rattle.nest_flat.proofs.binary.BinaryArray.of_nulls.Goals as goal
 
 pub no_bytes-requires : goal.no_bytes-requires
 no_bytes-requires g c =
     let t = type_of c.args.data_type.now in
-    not-past (c.args.length + 1) None (sym (binary-fault g.O.Offset.IS_LARGE t c.args.length c.args.fill c.requires.kind) ∙ c.requires.unrefused)
+    not-past (c.args.length + 1) None (sym (binary-first_error g.O.Offset.IS_LARGE t c.args.length c.args.fill c.requires.kind) ∙ c.requires.unrefused)
 
 pub returns-clause-ok : goal.returns-clause-ok
 returns-clause-ok g c =

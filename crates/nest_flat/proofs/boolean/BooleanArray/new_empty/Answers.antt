@@ -2,8 +2,8 @@ use Rattle.std.proofs.Common.{refl}
 use Rattle.std.proofs.lemmas.Result.{MatchResult-weaker}
 use Rattle.nest_memory.specs.TypeOf.{type_of}
 use Rattle.nest_model.specs.declared.fill.Fill.TheVariants.{Nothing}
-use Rattle.nest_model.specs.MadeNullLaws.{boolean-fault, has-none}
+use Rattle.nest_model.specs.MadeNullLaws.{boolean-first_error, has-none}
 use Rattle.nest_flat.proofs.boolean.BooleanArray.new_empty.Goals as goal
 
 pub returns : goal.returns
-returns c = MatchResult-weaker c.checked.result c.checked.ensures (λ a h. ((h.0, refl), has-none (type_of c.args.data_type) a (boolean-fault (type_of c.args.data_type) 0 Nothing h.0) h.1)) (λ e h. h)
+returns c = MatchResult-weaker c.checked.result c.checked.ensures (λ a h. ((h.0, refl), has-none (type_of c.args.data_type) a (boolean-first_error (type_of c.args.data_type) 0 Nothing h.0) h.1)) (λ e h. h)

@@ -1,4 +1,4 @@
-use Rattle.nest_model.specs.CutLaws.{is-cut}
+use Rattle.nest_model.specs.SliceLaws.{is-cut}
 use Rattle.nest_flat.proofs.utf8.Utf8Array.slice.Goals as goal
 
 pub returns : goal.returns

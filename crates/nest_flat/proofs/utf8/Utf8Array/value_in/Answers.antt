@@ -36,4 +36,4 @@ returns g c =
     let d = offset-at c.self.inside.offsets (c.args.i + 1) c.start_end-from.result.1 c.start_end-from.ensures.second in
     let part = between-slot g.O.Offset.IS_LARGE (type_of c.self.inside.data_type) c.self.inside.offsets c.self.inside.values c.self.inside.validity c.args.first c.args.end c.self.invariant (omega (arith, c.requires.first, c.requires.end)) h.0 c.args.i c.requires.first c.requires.end in
     ap (λ (x : Layout). slot (with_validity x None) c.args.i) (sym c.self.view_is)
-    ∙ ap slots.text (sym part ∙ (λ i. slice_range (sym h.1 i) (b i - a i) (d i - a i)) ∙ sym c.range.ensures.value)
+    ∙ ap slots.utf8 (sym part ∙ (λ i. slice_range (sym h.1 i) (b i - a i) (d i - a i)) ∙ sym c.range.ensures.value)

@@ -1,4 +1,4 @@
-use Rattle.nest_memory.specs.CutLaws.{cut-shown}
+use Rattle.nest_memory.specs.SliceLaws.{cut-shown}
 use Rattle.nest_memory.proofs.buffer.Buffer.slice.Goals as goal
 
 pub returns : goal.returns

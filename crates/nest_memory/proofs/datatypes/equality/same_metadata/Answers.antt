@@ -6,7 +6,7 @@ use Rattle.std.specs.Prelude.{◌&&◌, nat_eq}
 use Rattle.nest_memory.proofs.Alike.{map-decides}
 use Rattle.nest_memory.proofs.datatypes.equality.same_metadata.Goals as goal
 
--- a pair of texts is another where both texts are
+-- pairs of strings are equal if both strings are
 both : (a b s t : List ℕ) → Decides (pointwise nat_eq a b && pointwise nat_eq s t) (◌≡◌ {A = List ℕ × List ℕ} (a, s) (b, t))
 both a b s t = (
   λ h i. ((bytes_decides a b).0 (first_so (pointwise nat_eq a b) (pointwise nat_eq s t) h) i, (bytes_decides s t).0 (second_so (pointwise nat_eq a b) (pointwise nat_eq s t) h) i),

@@ -27,9 +27,9 @@ over-requires-clause-fits g c =
     let same_type : type_of c.in-Ok.data_type ≡ old.data_type = search rules in
     let slots : slots_of (layout_of c.in-Ok.values) ≡ own_slots child = search rules in
     let child_type : layout_type (layout_of c.in-Ok.values) ≡ builder_type child = search rules in
-    let whole = c.is_whole.ensures.0 c.if-not-is_whole.false in
+    let complete = c.is_complete.ensures.0 c.if-not-is_complete.false in
     if_both c.freeze-keys.result
-    (λ ks. frozen_fits g.K.DictionaryKey.KEY_TYPE (type_of c.in-Ok.data_type) old.data_type old.rows child (keys_layout ks) (layout_of c.in-Ok.values) same_type c.get.ensures.dictionary c.get.ensures.keys whole slots child_type)
+    (λ ks. frozen_fits g.K.DictionaryKey.KEY_TYPE (type_of c.in-Ok.data_type) old.data_type old.rows child (keys_layout ks) (layout_of c.in-Ok.values) same_type c.get.ensures.dictionary c.get.ensures.keys complete slots child_type)
     c.freeze-keys.ensures.key_type c.freeze-keys.ensures.in_range
 
 pub returns-in-Ok-clause-slots : goal.returns-in-Ok-clause-slots
@@ -38,5 +38,5 @@ returns-in-Ok-clause-slots g c =
     let child = g.M.MutableArray.model old.values.values in
     let same_type : type_of c.in-Ok.data_type ≡ old.data_type = search rules in
     let slots : slots_of (layout_of c.in-Ok.values) ≡ own_slots child = search rules in
-    let whole = c.is_whole.ensures.0 c.if-not-is_whole.false in
-    frozen_slots keys_layout c.over.result c.freeze-keys.result g.K.DictionaryKey.KEY_TYPE (type_of c.in-Ok.data_type) old.data_type old.rows child (layout_of c.in-Ok.values) same_type whole slots c.freeze-keys.ensures.ok c.over.ensures.made c.over.ensures.ok
+    let complete = c.is_complete.ensures.0 c.if-not-is_complete.false in
+    frozen_slots keys_layout c.over.result c.freeze-keys.result g.K.DictionaryKey.KEY_TYPE (type_of c.in-Ok.data_type) old.data_type old.rows child (layout_of c.in-Ok.values) same_type complete slots c.freeze-keys.ensures.ok c.over.ensures.made c.over.ensures.ok

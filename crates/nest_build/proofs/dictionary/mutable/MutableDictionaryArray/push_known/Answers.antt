@@ -15,7 +15,7 @@ returns-clause-accepted g c =
     let old = c.args.self.now in
     let child = g.M.MutableArray.model old.values.values in
     let v = plain_value c.args._value.now in
-    knew g.K.DictionaryKey.KEY_TYPE old.data_type old.rows child v c.args.number c.push.new.self (place_only child v c.args.number c.requires.known old.values.keyed.2) c.in_default.ensures.ok c.requires.whole
+    knew g.K.DictionaryKey.KEY_TYPE old.data_type old.rows child v c.args.number c.push.new.self (place_only child v c.args.number c.requires.known old.values.keyed.2) c.in_default.ensures.ok c.requires.complete
 
 pub returns-clause-unrefused : goal.returns-clause-unrefused
 returns-clause-unrefused g c =

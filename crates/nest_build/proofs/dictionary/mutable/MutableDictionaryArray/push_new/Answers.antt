@@ -25,7 +25,7 @@ returns-in-Ok-clause-accepted g c =
     let v = plain_value c.args.value.now in
     let count = c.len-number.ensures ∙ ap builder_len c.get.ensures in
     took g.K.DictionaryKey.KEY_TYPE old.data_type old.rows child v (g.M.MutableArray.model c.push.new.self.values) c.push-2.new.self (plain_taken v child c.in_default.ensures.unrefused) c.requires.unknown
-    (c.in-Ok.ensures.ok ∙ ap (λ n. old.rows ++ Some n ∷ []) count) c.requires.whole c.in_default.ensures.accepted
+    (c.in-Ok.ensures.ok ∙ ap (λ n. old.rows ++ Some n ∷ []) count) c.requires.complete c.in_default.ensures.accepted
 
 pub returns-in-Ok-clause-unrefused : goal.returns-in-Ok-clause-unrefused
 returns-in-Ok-clause-unrefused g c =

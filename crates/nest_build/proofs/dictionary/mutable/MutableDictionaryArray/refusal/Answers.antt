@@ -1,5 +1,5 @@
 use Rattle.nest_flat.specs.Plain.{plain_value}
-use Rattle.nest_memory.specs.declared.error.Argument.TheVariants.{ItemType}
+use Rattle.nest_memory.specs.declared.error.ArgumentError.TheVariants.{ItemType}
 use Rattle.nest_memory.specs.declared.error.Error.TheVariants.{InvalidArgumentError}
 use Rattle.nest_build.proofs.Dictionaries.{at_err, full_cause, full_kind}
 use Rattle.nest_build.proofs.dictionary.mutable.MutableDictionaryArray.refusal.Goals as goal

@@ -1,4 +1,4 @@
-use Rattle.nest_model.specs.BuilderAppendLaws.{dictionary_took_null}
+use Rattle.nest_model.specs.BuilderAppendLaws.{dictionary_null_accepted}
 use Rattle.nest_build.proofs.Dictionaries.{covered_null}
 use Rattle.nest_build.proofs.dictionary.mutable.MutableDictionaryArrayMutableArray.push_null.Goals as goal
 
@@ -13,4 +13,4 @@ invariant_of-self g c =
 pub returns-clause-accepted : goal.returns-clause-accepted
 returns-clause-accepted g c =
     let old = c.args.self.now in
-    dictionary_took_null g.K.DictionaryKey.KEY_TYPE old.data_type old.rows c.push.new.self (g.M.MutableArray.model old.values.values) c.in_default.ensures.ok c.requires
+    dictionary_null_accepted g.K.DictionaryKey.KEY_TYPE old.data_type old.rows c.push.new.self (g.M.MutableArray.model old.values.values) c.in_default.ensures.ok c.requires

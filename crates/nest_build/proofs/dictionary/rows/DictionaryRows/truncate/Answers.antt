@@ -1,7 +1,7 @@
 use Rattle.std.proofs.Common.{◌∙◌, ap, take, arith}
 use Rattle.nest_model.specs.BuilderRow.{values_needed}
 use Rattle.nest_model.specs.BuilderRowLaws.{values_needed-front}
-use Rattle.nest_build.specs.Keys.{keys_told}
+use Rattle.nest_build.specs.Keys.{encoded_keys}
 use Rattle.nest_build.proofs.Keys.{told_take, raw_take, rows_left}
 use Rattle.nest_build.proofs.dictionary.rows.DictionaryRows.truncate.Goals as goal
 
@@ -14,7 +14,7 @@ pub needed_by-self-inside-requires-clause-fits : goal.needed_by-self-inside-requ
 needed_by-self-inside-requires-clause-fits g c =
     let a = c.self.inside.keys in
     let e = ap values_needed (told_take a c.truncate.new.self c.args.n c.truncate.ensures.slots) in
-    let front = values_needed-front (keys_told a) c.args.n in
+    let front = values_needed-front (encoded_keys a) c.args.n in
     omega (arith, e, front, c.self.invariant.count)
 
 pub invariant_of-self : goal.invariant_of-self

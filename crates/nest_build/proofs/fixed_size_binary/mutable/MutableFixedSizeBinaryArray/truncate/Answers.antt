@@ -1,7 +1,7 @@
 use Rattle.std.proofs.Common.{ap, sym, subst, arith, ◌∙◌}
 use Rattle.nest_memory.specs.TypeOf.{type_of}
 use Rattle.nest_model.specs.Array.{TopFits}
-use Rattle.nest_model.specs.CutLaws.{slots-cut}
+use Rattle.nest_model.specs.SliceLaws.{slots-cut}
 use Rattle.nest_model.specs.Meaning.{slots_of}
 use Rattle.nest_array.specs.FixedBytesLaws.{cut-parts, cut-fits}
 use Rattle.nest_build.proofs.fixed_size_binary.mutable.MutableFixedSizeBinaryArray.truncate.Goals as goal

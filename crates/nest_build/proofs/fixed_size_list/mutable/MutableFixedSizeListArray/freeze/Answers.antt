@@ -7,6 +7,6 @@ use Rattle.nest_build.proofs.fixed_size_list.mutable.MutableFixedSizeListArray.f
 pub freeze_over-requires-clause-covers : goal.freeze_over-requires-clause-covers
 freeze_over-requires-clause-covers g c =
     let b = c.args.self.now in
-    let w = c.is_whole.ensures.0 c.if-not-is_whole.false in
+    let w = c.is_complete.ensures.0 c.if-not-is_complete.false in
     let n = child_count (layout_of c.in-Ok.values) (g.M.MutableArray.model b.values) c.in-Ok.ensures.slots in
     n ∙ w.2 ∙ ap (λ t. length b.rows * size_of t) (sym (c.in-Ok.ensures.same_type ∙ c.get.ensures.value))

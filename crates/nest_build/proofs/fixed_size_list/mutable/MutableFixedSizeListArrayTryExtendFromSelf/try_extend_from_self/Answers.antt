@@ -13,7 +13,7 @@ returns-in-Err-clause-cause g c =
     let a = c.args.self.now in
     let b = c.args.other.now in
     let t = sym c.get.ensures.value ∙ c.same_types.ensures.0 c.if-not-same_types.false ∙ c.get-2.ensures.value in
-    let w = c.requires.whole in
+    let w = c.requires.complete in
     let v = c.requires.other_whole in
     let s = same_Some _ _ (sym w.1 ∙ ap item_type t ∙ v.1) in
     child_join_refused a.data_type b.data_type a.rows b.rows (g.M.MutableArray.model a.values) (g.M.MutableArray.model b.values) _ t s c.in-Err.ensures.cause
@@ -23,18 +23,18 @@ returns-in-Ok-clause-joined g c =
     let a = c.args.self.now in
     let b = c.args.other.now in
     let t = sym c.get.ensures.value ∙ c.same_types.ensures.0 c.if-not-same_types.false ∙ c.get-2.ensures.value in
-    rows_joined a.data_type b.data_type a.rows b.rows _ (g.M.MutableArray.model a.values) (g.M.MutableArray.model b.values) _ t c.in-Ok.ensures.ok c.requires.whole c.requires.other_whole c.in_default.ensures.joined
+    rows_joined a.data_type b.data_type a.rows b.rows _ (g.M.MutableArray.model a.values) (g.M.MutableArray.model b.values) _ t c.in-Ok.ensures.ok c.requires.complete c.requires.other_whole c.in_default.ensures.joined
 
 pub returns-in-Ok-clause-unrefused : goal.returns-in-Ok-clause-unrefused
 returns-in-Ok-clause-unrefused g c =
     let a = c.args.self.now in
     let b = c.args.other.now in
     let t = sym c.get.ensures.value ∙ c.same_types.ensures.0 c.if-not-same_types.false ∙ c.get-2.ensures.value in
-    join_unrefused a.data_type b.data_type a.rows b.rows (g.M.MutableArray.model a.values) (g.M.MutableArray.model b.values) _ c.len-end.result t c.in_default.ensures.joined c.len-end.ensures (omega (arith, c.len-end.type_inv)) c.requires.whole c.requires.other_whole c.in-Ok.ensures.within c.in_default.ensures.unrefused
+    join_unrefused a.data_type b.data_type a.rows b.rows (g.M.MutableArray.model a.values) (g.M.MutableArray.model b.values) _ c.len-end.result t c.in_default.ensures.joined c.len-end.ensures (omega (arith, c.len-end.type_inv)) c.requires.complete c.requires.other_whole c.in-Ok.ensures.within c.in_default.ensures.unrefused
 
 pub returns-in-Err-append-clause-cause : goal.returns-in-Err-append-clause-cause
 returns-in-Err-append-clause-cause g c =
     let a = c.args.self.now in
     let b = c.args.other.now in
     let t = sym c.get.ensures.value ∙ c.same_types.ensures.0 c.if-not-same_types.false ∙ c.get-2.ensures.value in
-    inl (join_alone a.data_type b.data_type a.rows b.rows (g.M.MutableArray.model a.values) (g.M.MutableArray.model b.values) _ c.len-end.result c.size-size.result _ t c.size-size.ensures.value c.size-size.ensures.some c.in_default.ensures.joined c.len-end.ensures (omega (arith, c.len-end.type_inv)) c.requires.whole c.requires.other_whole c.in-Err-append.ensures.cause)
+    inl (join_alone a.data_type b.data_type a.rows b.rows (g.M.MutableArray.model a.values) (g.M.MutableArray.model b.values) _ c.len-end.result c.size-size.result _ t c.size-size.ensures.value c.size-size.ensures.some c.in_default.ensures.joined c.len-end.ensures (omega (arith, c.len-end.type_inv)) c.requires.complete c.requires.other_whole c.in-Err-append.ensures.cause)

@@ -19,13 +19,13 @@ returns-then-end-len-clause-cause g c =
 
 pub returns-in-Ok-clause-ok : goal.returns-in-Ok-clause-ok
 returns-in-Ok-clause-ok g c =
-    row_took (record { becomes = g.I.IntoIterator.into_iter_gives; steps = g.I.IntoIter.Iterator.next_gives; reads = g.M.TryExtend.reads_each }) _ _ _ _ _ _ _ c.len-len.result c.len-end.result c.size-size.result c.in-Some.is c.in_default.ensures.ok c.len-len.ensures c.len-end.ensures c.size-size.ensures.value c.if-end-len.false c.in-Ok.ensures.ok c.in-Ok.ensures.within (omega (arith, c.len-end.type_inv)) c.requires.whole
+    row_took (record { becomes = g.I.IntoIterator.into_iter_gives; steps = g.I.IntoIter.Iterator.next_gives; reads = g.M.TryExtend.reads_each }) _ _ _ _ _ _ _ c.len-len.result c.len-end.result c.size-size.result c.in-Some.is c.in_default.ensures.ok c.len-len.ensures c.len-end.ensures c.size-size.ensures.value c.if-end-len.false c.in-Ok.ensures.ok c.in-Ok.ensures.within (omega (arith, c.len-end.type_inv)) c.requires.complete
 
 pub returns-in-Err-push-clause-cause : goal.returns-in-Err-push-clause-cause
 returns-in-Err-push-clause-cause g c =
     let q = c.in_default.ensures.ok in
     let b = c.args.self.now in
-    inl (memory_alone b.data_type b.rows (g.M.MutableArray.model b.values) _ q.0 c.len-end.result c.size-size.result _ q.2 (sym (counted _ _ c.len-len.result c.len-end.result q.0 q.2 c.len-len.ensures c.len-end.ensures) ∙ c.if-end-len.false ∙ c.size-size.ensures.value) c.size-size.ensures.value c.size-size.ensures.some c.len-end.ensures (omega (arith, c.len-end.type_inv)) c.requires.whole c.in-Err-push.ensures.cause)
+    inl (memory_alone b.data_type b.rows (g.M.MutableArray.model b.values) _ q.0 c.len-end.result c.size-size.result _ q.2 (sym (counted _ _ c.len-len.result c.len-end.result q.0 q.2 c.len-len.ensures c.len-end.ensures) ∙ c.if-end-len.false ∙ c.size-size.ensures.value) c.size-size.ensures.value c.size-size.ensures.some c.len-end.ensures (omega (arith, c.len-end.type_inv)) c.requires.complete c.in-Err-push.ensures.cause)
 
 pub returns-in-Err-clause-cause : goal.returns-in-Err-clause-cause
 returns-in-Err-clause-cause g c =

@@ -12,7 +12,7 @@ returns-then-is_valid g c =
     let large = g.O.Offset.IS_LARGE in
     let xs = c.bytes_at.result.now in
     let ys = c.as_bytes.result.now in
-    text-holds large a c.args.i (plain_value c.args.value.now) xs ys c.eq.result (text-typed large a c.known.ensures.fits c.known.ensures.kind) c.requires (ap plain_value c.in-Text.is ∙ ap items.text (sym c.as_bytes.ensures.value))
+    text-holds large a c.args.i (plain_value c.args.value.now) xs ys c.eq.result (text-typed large a c.known.ensures.fits c.known.ensures.kind) c.requires (ap plain_value c.in-Text.is ∙ ap items.utf8 (sym c.as_bytes.ensures.value))
     (sym c.is_valid.ensures ∙ c.if-is_valid.true) c.bytes_at.ensures
     (λ h. (bytes_decides xs ys).0 (sym c.eq.ensures ∙ h), λ e. c.eq.ensures ∙ (bytes_decides xs ys).1 e)
 

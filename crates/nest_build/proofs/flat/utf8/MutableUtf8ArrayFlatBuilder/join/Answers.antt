@@ -8,7 +8,7 @@ pub returns-in-Err-clause-cause : goal.returns-in-Err-clause-cause
 returns-in-Err-clause-cause g c =
     let a = c.args.self.now in
     let large = g.O.Offset.IS_LARGE in
-    bounded-join_refused large g.O.Offset.largest items.text a g.met.O.Offset.largest_is (text-typed large a c.known.ensures.fits c.known.ensures.kind) c.known.ensures.held c.known.ensures.room c.args.other.now c.known-2.ensures.held
+    bounded-join_refused large g.O.Offset.largest items.utf8 a g.met.O.Offset.largest_is (text-typed large a c.known.ensures.fits c.known.ensures.kind) c.known.ensures.held c.known.ensures.room c.args.other.now c.known-2.ensures.held
     c.in-Err.error c.in-Err.ensures.errors (λ e. c.in-Err.ensures.item_type.0 (ap Err e)) (λ e. c.in-Err.ensures.overflow.0 (ap Err e))
 
 pub returns-clause-unrefused : goal.returns-clause-unrefused
@@ -19,4 +19,4 @@ returns-clause-unrefused g c =
     let t = same-type _ _ c.try_extend_from_self.result _ c.in_default.is c.try_extend_from_self.ensures.item_type.1 in
     let l = joined-count a b c.try_extend_from_self.new.self c.len-len.result c.in_default.ensures.slots c.len-len.ensures (omega arith) in
     let m = at-most _ _ (λ o. c.in_default.not-Err _ (c.try_extend_from_self.ensures.overflow.1 (t, o))) in
-    bounded-joins large g.O.Offset.largest items.text a g.met.O.Offset.largest_is (text-typed large a c.known.ensures.fits c.known.ensures.kind) c.known.ensures.held c.known.ensures.room b c.known-2.ensures.held t l m
+    bounded-joins large g.O.Offset.largest items.utf8 a g.met.O.Offset.largest_is (text-typed large a c.known.ensures.fits c.known.ensures.kind) c.known.ensures.held c.known.ensures.room b c.known-2.ensures.held t l m

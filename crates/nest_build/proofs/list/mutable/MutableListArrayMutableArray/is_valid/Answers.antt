@@ -8,6 +8,6 @@ use Rattle.nest_build.proofs.list.mutable.MutableListArrayMutableArray.is_valid.
 pub returns : goal.returns
 returns g c =
     let b = c.args.self.now in
-    let rows = g.O.Rows.ToldRows.told b.rows in
+    let rows = g.O.Rows.RowStore.row_list b.rows in
     let y = items-slot 0 c.args.i rows (own_slots (g.M.MutableArray.model b.values)) c.requires in
     valid_or_not (get_or (row_bits rows) c.args.i true) c.is_valid.result _ y.0 y.1 c.is_valid.ensures

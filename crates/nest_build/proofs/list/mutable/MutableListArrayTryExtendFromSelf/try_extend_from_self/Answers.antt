@@ -13,28 +13,28 @@ returns-in-Err-clause-cause g c =
     let a = c.args.self.now in
     let b = c.args.other.now in
     let t = sym c.get.ensures.value ∙ c.same_types.ensures.0 c.if-not-same_types.false ∙ c.get-2.ensures.value in
-    let w = c.requires.whole in
+    let w = c.requires.complete in
     let v = c.requires.other_whole in
     let s = same_Some _ _ (sym w.1 ∙ ap item_type t ∙ v.1) in
-    child_join_refused g.O.Offset.IS_LARGE a.data_type b.data_type (g.O.Rows.ToldRows.told a.rows) (g.O.Rows.ToldRows.told b.rows) (g.M.MutableArray.model a.values) (g.M.MutableArray.model b.values) _ t s c.in-Err.ensures.cause
+    child_join_refused g.O.Offset.IS_LARGE a.data_type b.data_type (g.O.Rows.RowStore.row_list a.rows) (g.O.Rows.RowStore.row_list b.rows) (g.M.MutableArray.model a.values) (g.M.MutableArray.model b.values) _ t s c.in-Err.ensures.cause
 
 pub returns-in-Ok-clause-joined : goal.returns-in-Ok-clause-joined
 returns-in-Ok-clause-joined g c =
     let a = c.args.self.now in
     let b = c.args.other.now in
     let t = sym c.get.ensures.value ∙ c.same_types.ensures.0 c.if-not-same_types.false ∙ c.get-2.ensures.value in
-    rows_joined g.O.Offset.IS_LARGE a.data_type b.data_type (g.O.Rows.ToldRows.told a.rows) (g.O.Rows.ToldRows.told b.rows) _ (g.M.MutableArray.model a.values) (g.M.MutableArray.model b.values) _ t c.in-Ok.ensures.ok c.requires.whole c.requires.other_whole c.in_default.ensures.joined
+    rows_joined g.O.Offset.IS_LARGE a.data_type b.data_type (g.O.Rows.RowStore.row_list a.rows) (g.O.Rows.RowStore.row_list b.rows) _ (g.M.MutableArray.model a.values) (g.M.MutableArray.model b.values) _ t c.in-Ok.ensures.ok c.requires.complete c.requires.other_whole c.in_default.ensures.joined
 
 pub returns-in-Ok-clause-unrefused : goal.returns-in-Ok-clause-unrefused
 returns-in-Ok-clause-unrefused g c =
     let a = c.args.self.now in
     let b = c.args.other.now in
     let t = sym c.get.ensures.value ∙ c.same_types.ensures.0 c.if-not-same_types.false ∙ c.get-2.ensures.value in
-    join_unrefused g.O.Offset.IS_LARGE g.O.Rows.ToldRows.large a.data_type b.data_type (g.O.Rows.ToldRows.told a.rows) (g.O.Rows.ToldRows.told b.rows) (g.M.MutableArray.model a.values) (g.M.MutableArray.model b.values) t g.met.O.ListWidth.same_width c.in-Ok.ensures.within c.in_default.ensures.unrefused
+    join_unrefused g.O.Offset.IS_LARGE g.O.Rows.RowStore.large a.data_type b.data_type (g.O.Rows.RowStore.row_list a.rows) (g.O.Rows.RowStore.row_list b.rows) (g.M.MutableArray.model a.values) (g.M.MutableArray.model b.values) t g.met.O.ListWidth.same_width c.in-Ok.ensures.within c.in_default.ensures.unrefused
 
 pub returns-in-Err-append-clause-cause : goal.returns-in-Err-append-clause-cause
 returns-in-Err-append-clause-cause g c =
     let a = c.args.self.now in
     let b = c.args.other.now in
     let t = sym c.get.ensures.value ∙ c.same_types.ensures.0 c.if-not-same_types.false ∙ c.get-2.ensures.value in
-    rows_join_refused g.O.Offset.IS_LARGE g.O.Rows.ToldRows.large a.data_type b.data_type (g.O.Rows.ToldRows.told a.rows) (g.O.Rows.ToldRows.told b.rows) (g.M.MutableArray.model a.values) (g.M.MutableArray.model b.values) _ t g.met.O.ListWidth.same_width c.in-Err-append.ensures.cause
+    rows_join_refused g.O.Offset.IS_LARGE g.O.Rows.RowStore.large a.data_type b.data_type (g.O.Rows.RowStore.row_list a.rows) (g.O.Rows.RowStore.row_list b.rows) (g.M.MutableArray.model a.values) (g.M.MutableArray.model b.values) _ t g.met.O.ListWidth.same_width c.in-Err-append.ensures.cause

@@ -13,11 +13,11 @@ returns-in-None-clause-cause g c =
 
 pub returns-in-Ok-clause-ok : goal.returns-in-Ok-clause-ok
 returns-in-Ok-clause-ok g c =
-    row_took (record { becomes = g.I.IntoIterator.into_iter_gives; steps = g.I.IntoIter.Iterator.next_gives; reads = g.M.TryExtend.reads_each }) _ _ _ g.O.Rows.ToldRows.large _ _ _ _ _ c.len-end.result c.in-Some.is c.in_default.ensures.ok c.len-end.ensures g.met.O.ListWidth.same_width c.in-Ok.ensures.ok c.in-Ok.ensures.within c.requires.whole
+    row_took (record { becomes = g.I.IntoIterator.into_iter_gives; steps = g.I.IntoIter.Iterator.next_gives; reads = g.M.TryExtend.reads_each }) _ _ _ g.O.Rows.RowStore.large _ _ _ _ _ c.len-end.result c.in-Some.is c.in_default.ensures.ok c.len-end.ensures g.met.O.ListWidth.same_width c.in-Ok.ensures.ok c.in-Ok.ensures.within c.requires.complete
 
 pub returns-in-Err-push-clause-cause : goal.returns-in-Err-push-clause-cause
 returns-in-Err-push-clause-cause g c =
-    place_refused (record { becomes = g.I.IntoIterator.into_iter_gives; steps = g.I.IntoIter.Iterator.next_gives; reads = g.M.TryExtend.reads_each }) _ _ _ g.O.Rows.ToldRows.large _ _ _ _ _ c.len-end.result c.in-Some.is c.in_default.ensures.ok c.len-end.ensures g.met.O.ListWidth.same_width c.in-Err-push.ensures.cause
+    place_refused (record { becomes = g.I.IntoIterator.into_iter_gives; steps = g.I.IntoIter.Iterator.next_gives; reads = g.M.TryExtend.reads_each }) _ _ _ g.O.Rows.RowStore.large _ _ _ _ _ c.len-end.result c.in-Some.is c.in_default.ensures.ok c.len-end.ensures g.met.O.ListWidth.same_width c.in-Err-push.ensures.cause
 
 pub returns-in-Err-clause-cause : goal.returns-in-Err-clause-cause
 returns-in-Err-clause-cause g c =

@@ -2,7 +2,7 @@ use Rattle.std.specs.Prelude.{None}
 use Rattle.std.proofs.Common.{◌≡◌, ◌+◌, ◌++◌, length, get_or, take, ap, ◌∙◌, arith}
 use Rattle.std.proofs.lemmas.List.{length-append, take_more, take_all}
 use Rattle.nest_model.specs.BuilderRow.{end_from}
-use Rattle.nest_model.specs.BuilderTold.{rows_of_lengths}
+use Rattle.nest_model.specs.BuilderAddRow.{rows_of_lengths}
 use Rattle.nest_build.proofs.Rows.{lengths-count, so-far-end, so-far-more, so-far-past}
 use Rattle.nest_build.proofs.list.rows.ListRows.extend_from_lengths.Goals as goal
 

@@ -1,6 +1,6 @@
 use Rattle.std.proofs.Common.{◌≡◌, ◌++◌, take}
 use Rattle.nest_model.specs.BuilderRow.{end_from}
-use Rattle.nest_model.specs.BuilderTold.{rows_of_lengths}
+use Rattle.nest_model.specs.BuilderAddRow.{rows_of_lengths}
 use Rattle.nest_build.proofs.list.rows.ListRows.extend_from_lengths.Given as goal
 
 abbrev pub invariant-loop-items : goal.invariant-loop-items

@@ -10,6 +10,6 @@ returns-clause-grew c =
     let t = type_of c.self.inside.data_type in
     let bs = c.self.inside.values in
     let x = c.unwrap_or.result in
-    made-took (boolean t) slots.truth false (made-truth t) bs c.push.new.self x c.self.inside.validity c.push-2.new.validity c.is_some.result c.len-len.result c.args.self.now _
+    made-took (boolean t) slots.boolean false (made-truth t) bs c.push.new.self x c.self.inside.validity c.push-2.new.validity c.is_some.result c.len-len.result c.args.self.now _
     c.self.view_is c.in_ok-push.ensures.ok c.in_default.ensures.ok c.len-len.ensures c.self.invariant.1.0
-    (ap (λ y. if c.is_some.result then slots.truth y else slots.null) c.unwrap_or.ensures ∙ truth-item c.args.item c.is_some.result c.is_some.ensures)
+    (ap (λ y. if c.is_some.result then slots.boolean y else slots.null) c.unwrap_or.ensures ∙ truth-item c.args.item c.is_some.result c.is_some.ensures)

@@ -1,7 +1,7 @@
 use Rattle.std.proofs.Common.{ap, ◌∙◌, arith}
 use Rattle.nest_model.specs.Layout.{Layout}
 use Rattle.nest_model.specs.Meaning.{slots_of}
-use Rattle.nest_model.specs.CutLaws.{slots-cut}
+use Rattle.nest_model.specs.SliceLaws.{slots-cut}
 use Rattle.nest_flat.proofs.boolean.mutable.MutableBooleanArray.truncate.Goals as goal
 
 pub returns-clause-slots : goal.returns-clause-slots

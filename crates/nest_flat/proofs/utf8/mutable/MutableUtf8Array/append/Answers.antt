@@ -12,7 +12,7 @@ returns-clause-slots g c =
     let make = text_made g.O.Offset.IS_LARGE (type_of c.self.inside.data_type) in
     on_ok_weaker c.try_extend_from_self.result
     (λ e. ap (λ (r : Spans). slots_of (make r)) e
-    ∙ kind-joined make slots.text (text-kind _ _) c.self.inside.spans c.other.inside.spans c.known.ensures.spans c.known-2.ensures.spans
+    ∙ kind-joined make slots.utf8 (text-kind _ _) c.self.inside.spans c.other.inside.spans c.known.ensures.spans c.known-2.ensures.spans
     ∙ (λ j. slots_of (c.self.view_is j) ++ slots_of (c.other.view_is j)))
     c.try_extend_from_self.ensures.ok
 

@@ -18,8 +18,8 @@ returns-clause-slots g c =
     let same = ap (λ i. pushed_span i c.self.inside.spans) c.bytes_of.ensures.same in
     on_ok_weaker c.try_push.result
     (λ e. ap (λ (r : Spans). slots_of (make r)) (e ∙ same)
-    ∙ kind-pushed make slots.text (text-kind _ _) c.self.inside.spans item c.known.ensures.spans
-    ∙ ap (λ (a : Layout). slots_of a ++ optional slots.text item ∷ []) c.self.view_is)
+    ∙ kind-pushed make slots.utf8 (text-kind _ _) c.self.inside.spans item c.known.ensures.spans
+    ∙ ap (λ (a : Layout). slots_of a ++ optional slots.utf8 item ∷ []) c.self.view_is)
     c.try_push.ensures.ok
 
 pub invariant_of-self : goal.invariant_of-self

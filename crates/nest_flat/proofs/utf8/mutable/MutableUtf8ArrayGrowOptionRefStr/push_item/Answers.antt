@@ -17,10 +17,10 @@ returns-clause-grew g c =
     let item = option_copied c.args.item in
     let same = ap (λ i. pushed_span i c.self.inside.spans) c.bytes_of.ensures.same in
     let s = c.self.inside.spans in
-    let ss = optional slots.text item ∷ [] in
+    let ss = optional slots.utf8 item ∷ [] in
     on_ok_weaker c.try_push.result
     (λ e. subst (λ (a : Layout). Grew ss a (make c.try_push.new.self)) c.self.view_is
-    (subst (λ (r : Spans). Grew ss (make s) (make r)) (sym (e ∙ same)) (grew-pushed make slots.text (text-kind _ _) s item c.known.ensures.spans)))
+    (subst (λ (r : Spans). Grew ss (make s) (make r)) (sym (e ∙ same)) (grew-pushed make slots.utf8 (text-kind _ _) s item c.known.ensures.spans)))
     c.try_push.ensures.ok
 
 pub invariant_of-self : goal.invariant_of-self

@@ -1,6 +1,0 @@
-use Rattle.std.proofs.Common.{take}
-use Rattle.nest_array.proofs.Tables.{IsLast}
-use Rattle.nest_array.proofs.union.table.last_place.Given as goal
-
-abbrev pub invariant-loop-k : goal.invariant-loop-k
-invariant-loop-k l = IsLast (take l.k l.ids) l.kind l.place

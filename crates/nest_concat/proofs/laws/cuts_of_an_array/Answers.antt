@@ -1,5 +1,0 @@
-use Rattle.nest_concat.specs.JoinedLaws.{joined-cuts}
-use Rattle.nest_concat.proofs.laws.cuts_of_an_array.Goals as goal
-
-pub returns : goal.returns
-returns c = joined-cuts

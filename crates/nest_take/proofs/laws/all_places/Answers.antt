@@ -1,5 +1,0 @@
-use Rattle.nest_take.specs.TakenLaws.{taken-all}
-use Rattle.nest_take.proofs.laws.all_places.Goals as goal
-
-pub returns : goal.returns
-returns c = taken-all
