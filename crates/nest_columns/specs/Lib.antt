@@ -1,0 +1,4 @@
+pub mod Columns
+pub mod Entries
+pub mod Examples
+pub mod Words
