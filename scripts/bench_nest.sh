@@ -1,14 +1,14 @@
 #!/usr/bin/env bash
 # Measures the time and the peak memory of `nest` on records of five columns: `from-json`, `rows` beside a plain Rust program that writes
 # the same text, `concat`, `equal` beside `cmp`, and `take`.
-# Usage, at the top of the repository, after `scripts/prove` or `(cd crates/nest && rt run -- --help)` has built it; rustc builds the
+# Usage, at the top of the repository, after `scripts/prove` has left the programs in out/bin; rustc builds the
 # plain program:
 #     bash scripts/bench_nest.sh [ROWS [COPIES]]
 # ROWS is 1000000 by default. The files that `equal` compares hold the rows COPIES times, 8 by default.
 set -eu
 rows=${1:-1000000}
 copies=${2:-8}
-program=crates/nest/out/nest
+program=out/bin/nest
 work=$(mktemp -d)
 trap 'rm -rf "$work"' EXIT
 type='struct<id: int64, name: string, ok: bool, tags: list<item: string>, at: int64>'

@@ -163,7 +163,7 @@ class Sources:
         crates = sorted(os.listdir("crates"))
         self.runners = RUNNERS + sorted(c for c in os.listdir("tests") if os.path.isdir(os.path.join("tests", c)))
         self.functions, self.traits_of, self.supers, self.variants, self.aliases = [], {}, {}, {}, {}
-        self.fields, self.public, self.error_names = {}, {}, set()
+        self.fields, self.public, self.exports, self.error_names = {}, {}, {}, set()
         self.blanket, files = [], []
         for crate in [c for c in LIBRARIES if c in crates] + [c for c in self.runners if c not in LIBRARIES]:
             for folder, _, inside in sorted(os.walk(source(crate))):
@@ -205,12 +205,17 @@ class Sources:
             for _, path in imports(found[1]):
                 path = path.split("::")
                 path = path[1:] if path[0] == "crate" else file.module + path
-                known.add(("name", *path))
+                self.exports.setdefault((file.crate, *path), []).append(tuple(file.module))
 
     def is_public(self, file, name):
-        known = self.public[file.crate]
-        open_path = all(tuple(file.module[: i + 1]) in known for i in range(len(file.module)))
-        return open_path or ("name", *file.module, name) in known
+        return self.is_open(file.crate, tuple(file.module), name)
+
+    def is_open(self, crate, module, name):
+        """Whether a name of a module can be named from outside: the module is public, or a module that is exports the name."""
+        known = self.public[crate]
+        if all(module[: i + 1] in known for i in range(len(module))):
+            return True
+        return any(self.is_open(crate, by, name) for by in self.exports.get((crate, *module, name), []))
 
     def read(self, file):
         text = file.text

@@ -1,10 +1,10 @@
 #!/usr/bin/env bash
 # Measures `listcut` on rows of 8 items, a tenth of them null: on a quarter of the rows, on half and on all of them.
-# Usage, at the top of the repository, after `scripts/prove` or `(cd crates/listcut && rt run -- 0 0)` has built it:
+# Usage, at the top of the repository, after `scripts/prove` has left the programs in out/bin:
 #     bash scripts/time_listcut.sh [ROWS]        ROWS is 1000000 by default
 set -eu
 rows=${1:-1000000}
-program=crates/listcut/out/listcut
+program=out/bin/listcut
 work=$(mktemp -d)
 trap 'rm -rf "$work"' EXIT
 

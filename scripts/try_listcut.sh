@@ -1,9 +1,9 @@
 #!/usr/bin/env bash
 # Tests `listcut` from a shell: its output, its error message and its exit status.
-# Usage, at the top of the repository, after `scripts/prove` or `(cd crates/listcut && rt run -- 0 0)` has built it:
+# Usage, at the top of the repository, after `scripts/prove` has left the programs in out/bin:
 #     bash scripts/try_listcut.sh        prints a line for each run that differs, and fails then
 set -u
-program=crates/listcut/out/listcut
+program=out/bin/listcut
 rows='[1,2]\nnull\n[]\n[3,null]\n'
 failed=0
 

@@ -1,9 +1,9 @@
 #!/usr/bin/env bash
 # Runs the built program and compares its output, its error message and its exit status.
-# Usage, at the top of the repository and after the gate or `(cd crates/nest && rt run -- --help)`:
+# Usage, at the top of the repository, after `scripts/prove` has left the programs in out/bin:
 #     bash scripts/try_nest.sh           prints a line for each difference, and fails if there is one
 set -u
-program=crates/nest/out/nest
+program=out/bin/nest
 room=$(mktemp -d)
 trap 'rm -rf "$room"' EXIT
 failed=0
