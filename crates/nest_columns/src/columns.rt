@@ -1,8 +1,9 @@
 //! Struct arrays of named columns.
-ghost use Rattle.std.specs.Prelude.{◌≡◌, ◌↔◌, IsTrue, MatchOption, MatchResult, map};
-ghost use Rattle.nest_columns.specs.Words.{ColumnsError, ColumnsFit, EachLen, RefusesColumns, columns_struct, layouts_of};
+ghost use Rattle.std.specs.Prelude.{◌≡◌, MatchOption, MatchResult, map};
+ghost use Rattle.nest_columns.specs.Words.{ColumnsError, ColumnsFit, RefusesColumns, columns_struct, layouts_of};
 
 use crate::fields::nullable_fields;
+use nest_array::struct_::have_len;
 use nest_array::{AnyArray, StructArray};
 use nest_memory::datatypes::DataType;
 use nest_memory::error::{Error, SpecError};
@@ -57,16 +58,4 @@ fn first_error(names: &[&str], columns: &[AnyArray]) -> Option<Error>
             }
         }
     }
-}
-
-/// Returns whether each column has `n` slots.
-fn have_len(columns: &[AnyArray], n: usize) -> bool
-    ensures { IsTrue result ↔ EachLen (layouts_of columns.now) n }
-{
-    for i in 0..columns.len() {
-        if columns[i].len() != n {
-            return false;
-        }
-    }
-    true
 }

@@ -269,12 +269,12 @@ pub(crate) fn have_types(fields: &[Field], children: &[AnyArray]) -> bool
     true
 }
 
-/// Returns whether each child has `n` slots.
-fn have_len(children: &[AnyArray], n: usize) -> bool
-    ensures { IsTrue result ↔ EachLen (layouts_of children.now) n }
+/// Returns whether each array has `n` slots.
+pub fn have_len(arrays: &[AnyArray], n: usize) -> bool
+    ensures { IsTrue result ↔ EachLen (layouts_of arrays.now) n }
 {
-    for i in 0..children.len() {
-        if children[i].len() != n {
+    for i in 0..arrays.len() {
+        if arrays[i].len() != n {
             return false;
         }
     }
