@@ -4,7 +4,7 @@ pub use Rattle.nest_array.specs.Seen.{layout_of}
 pub use Rattle.nest_array.specs.Types.{default_field, default_list_type}
 pub use Rattle.nest_build.specs.BuiltKind.{built_kind}
 pub use Rattle.nest_build.specs.Children.{IsListBy, ListCovers, list_child, with_items}
-pub use Rattle.nest_build.specs.FlatTree.{flat_tree}
+pub use Rattle.nest_build.specs.FlatTree.{bytes_refusal, flat_tree}
 pub use Rattle.nest_build.specs.Rows.{EndsPast, EncodesRows, WithinLimits, encoded_bits, encoded_rows, encoded_rows_checks}
 pub use Rattle.nest_build.specs.Slices.{row_item, row_len}
 pub use Rattle.nest_build.specs.Shown.{IsOfOtherKind, ShowsNulls, own_slot, reserve_passes}

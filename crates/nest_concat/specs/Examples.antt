@@ -1,5 +1,5 @@
 -- The unions of the worked examples.
-use Rattle.std.specs.Prelude.{ℕ, ℤ, true, false, List, [], ◌∷◌, Some, None}
+use Rattle.std.specs.Prelude.{ℕ, ℤ, pos, true, false, List, [], ◌∷◌, Some, None}
 use Rattle.nest_memory.specs.TypeTree as types
 use Rattle.nest_memory.specs.declared.datatypes.UnionMode.TheVariants as modes
 use Rattle.nest_model.specs.Examples.{both, booleans, dictionaries, ints, texts, two_fields}
@@ -17,6 +17,10 @@ sparse_from start ks = layouts.union (types.union (two_fields types.int32 types.
 
 abbrev pub dense : List ℤ → List ℤ → Layout
 dense ks os = layouts.union (types.union (two_fields types.int32 types.int32) None modes.Dense) ks (both four four) (Some os) 0
+
+-- the same dense union of three rows, in the fields 0, 1 and 0
+abbrev pub dense_in_turn : List ℤ → Layout
+dense_in_turn os = dense (pos 0 ∷ pos 1 ∷ pos 0 ∷ []) os
 
 -- a struct of two numbers and two Booleans
 abbrev pub two_columns : Layout

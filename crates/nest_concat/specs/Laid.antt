@@ -91,5 +91,8 @@ abbrev mutual
 abbrev pub joined_layout : List Layout → Layout
 joined_layout as_ = laid (first_array (map whole as_)) (map whole as_)
 
+abbrev pub two_joined : Layout → Layout → Layout
+two_joined a b = joined_layout (a ∷ b ∷ [])
+
 abbrev pub joins_past : List Layout → Bool
 joins_past as_ = passes (first_array (map whole as_)) (map whole as_)

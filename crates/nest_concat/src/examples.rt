@@ -2,11 +2,11 @@
 ghost use Rattle.std.specs.Prelude.{◌≡◌, ◌⊎◌, ◌^◌, ◌-◌, true, false, [], ◌∷◌, Some, None, map, pos};
 ghost use Rattle.std.specs.List.{flat_map};
 ghost use Rattle.nest_memory.specs.TypeTree as types;
-ghost use Rattle.nest_model.specs.Examples.{a_field, dictionaries, ints, lists, number, numbers, texts, booleans};
+ghost use Rattle.nest_model.specs.Examples.{bits_of_type, pairs_type, dictionaries, ints, lists, number, numbers, texts, booleans};
 ghost use Rattle.nest_model.specs.Layout as layouts;
 ghost use Rattle.nest_concat.specs.Words.{InvalidArgumentError, ItemType, Overflow, PassesLength, PassesLimits, PassesOffsets, PassesPicks, RefusesConcatenate, blocks_of, bytes_in, extents_in, field_of, items_in, joined_validity, moved_offsets, slots_of, whole, window_parts, KeysPass, joined_keys, joined_layout, joins_past, slot_windows};
 ghost use Rattle.nest_concat.specs.Interleaved.{IsIndexOf, slot_of};
-ghost use Rattle.nest_concat.specs.Examples.{dense, four, sparse_from, two_columns, b_and_null, ab_by};
+ghost use Rattle.nest_concat.specs.Examples.{dense, dense_in_turn, four, sparse_from, two_columns, b_and_null, ab_by};
 ghost use Rattle.nest_concat.specs.KeyedExamples.{one_key};
 
 /// The slots of several arrays; the row lengths, bytes, items and child of a window.
@@ -15,7 +15,7 @@ pub fn windows()
     ensures rows { extents_in (window_parts (texts (1 ∷ 3 ∷ 3 ∷ 6 ∷ []) (97 ∷ 98 ∷ 99 ∷ 100 ∷ 101 ∷ 102 ∷ [])) 1 2) ≡ 0 ∷ 3 ∷ [] }
     ensures bytes { bytes_in (window_parts (texts (1 ∷ 3 ∷ 3 ∷ 6 ∷ []) (97 ∷ 98 ∷ 99 ∷ 100 ∷ 101 ∷ 102 ∷ [])) 0 1) ≡ 98 ∷ 99 ∷ [] }
     ensures items { items_in (window_parts (lists types.int32 (0 ∷ 1 ∷ 3 ∷ []) (ints (5 ∷ 6 ∷ 7 ∷ 8 ∷ []))) 1 1) ≡ window_parts (ints (5 ∷ 6 ∷ 7 ∷ 8 ∷ [])) 1 2 }
-    ensures blocks { blocks_of 2 (window_parts (layouts.fixed_size_list (types.fixed_size_list (a_field types.int32) 2) (ints (5 ∷ 6 ∷ 7 ∷ 8 ∷ [])) None) 1 1) ≡ window_parts (ints (5 ∷ 6 ∷ 7 ∷ 8 ∷ [])) 2 2 }
+    ensures blocks { blocks_of 2 (window_parts (layouts.fixed_size_list (pairs_type 2) (ints (5 ∷ 6 ∷ 7 ∷ 8 ∷ [])) None) 1 1) ≡ window_parts (ints (5 ∷ 6 ∷ 7 ∷ 8 ∷ [])) 2 2 }
     ensures field { field_of 1 (window_parts two_columns 1 1) ≡ window_parts (booleans (true ∷ false ∷ [])) 1 1 }
 {}
 
@@ -23,7 +23,7 @@ pub fn windows()
 pub fn validities()
     ensures none { joined_validity (whole (booleans (true ∷ [])) ∷ whole (booleans (false ∷ [])) ∷ []) ≡ None }
     ensures second { joined_validity (whole (booleans (true ∷ [])) ∷ window_parts (layouts.boolean types.boolean (true ∷ true ∷ []) (Some (true ∷ false ∷ []))) 1 1 ∷ []) ≡ Some (true ∷ false ∷ []) }
-    ensures first { joined_validity (whole (layouts.boolean types.boolean (true ∷ []) (Some (false ∷ []))) ∷ whole (booleans (true ∷ [])) ∷ []) ≡ Some (false ∷ true ∷ []) }
+    ensures first { joined_validity (whole (bits_of_type types.boolean (Some (false ∷ []))) ∷ whole (booleans (true ∷ [])) ∷ []) ≡ Some (false ∷ true ∷ []) }
 {}
 
 /// The last offset and the length may be the largest of their type, and not more.
@@ -42,10 +42,10 @@ pub fn offsets()
 pub fn parts()
     ensures sparse { field_of 1 (window_parts (sparse_from 2 (pos 0 ∷ pos 1 ∷ [])) 1 1) ≡ window_parts four 3 1 }
     ensures empty { field_of 1 (window_parts (sparse_from 2 (pos 0 ∷ pos 1 ∷ [])) 1 0) ≡ window_parts four 0 0 }
-    ensures dense { field_of 0 (whole (dense (pos 0 ∷ pos 1 ∷ pos 0 ∷ []) (pos 3 ∷ pos 0 ∷ pos 1 ∷ []))) ≡ window_parts four 1 3 }
-    ensures one { field_of 0 (window_parts (dense (pos 0 ∷ pos 1 ∷ pos 0 ∷ []) (pos 3 ∷ pos 0 ∷ pos 1 ∷ [])) 1 2) ≡ window_parts four 1 1 }
-    ensures no_pick { field_of 1 (window_parts (dense (pos 0 ∷ pos 1 ∷ pos 0 ∷ []) (pos 3 ∷ pos 0 ∷ pos 1 ∷ [])) 2 1) ≡ window_parts four 0 0 }
-    ensures moved { moved_offsets (whole (dense (pos 0 ∷ pos 1 ∷ pos 0 ∷ []) (pos 3 ∷ pos 2 ∷ pos 1 ∷ [])) ∷ whole (dense (pos 1 ∷ pos 0 ∷ []) (pos 0 ∷ pos 2 ∷ [])) ∷ []) ≡ pos 2 ∷ pos 0 ∷ pos 0 ∷ pos 1 ∷ pos 3 ∷ [] }
+    ensures dense { field_of 0 (whole (dense_in_turn (pos 3 ∷ pos 0 ∷ pos 1 ∷ []))) ≡ window_parts four 1 3 }
+    ensures one { field_of 0 (window_parts (dense_in_turn (pos 3 ∷ pos 0 ∷ pos 1 ∷ [])) 1 2) ≡ window_parts four 1 1 }
+    ensures no_pick { field_of 1 (window_parts (dense_in_turn (pos 3 ∷ pos 0 ∷ pos 1 ∷ [])) 2 1) ≡ window_parts four 0 0 }
+    ensures moved { moved_offsets (whole (dense_in_turn (pos 3 ∷ pos 2 ∷ pos 1 ∷ [])) ∷ whole (dense (pos 1 ∷ pos 0 ∷ []) (pos 0 ∷ pos 2 ∷ [])) ∷ []) ≡ pos 2 ∷ pos 0 ∷ pos 0 ∷ pos 1 ∷ pos 3 ∷ [] }
     ensures last { PassesPicks (Some []) 1 (whole (dense (pos 0 ∷ pos 0 ∷ []) (pos 0 ∷ pos (2 ^ 31 - 1) ∷ [])) ∷ []) → ⊥ }
     ensures past { PassesPicks (Some []) 2 (whole (dense (pos 0 ∷ pos 0 ∷ []) (pos 0 ∷ pos (2 ^ 31 - 1) ∷ [])) ∷ whole (dense (pos 0 ∷ []) (pos 0 ∷ [])) ∷ []) }
 {}
@@ -89,7 +89,7 @@ pub fn refusals()
 /// Dictionaries with equal values keep them, others move their keys.
 pub fn joined_arrays()
     ensures numbers { joined_layout (ints (7 ∷ []) ∷ ints (8 ∷ 9 ∷ []) ∷ []) ≡ ints (7 ∷ 8 ∷ 9 ∷ []) }
-    ensures validity { joined_layout (booleans (true ∷ []) ∷ layouts.boolean types.boolean (true ∷ []) (Some (false ∷ [])) ∷ []) ≡ layouts.boolean types.boolean (true ∷ true ∷ []) (Some (true ∷ false ∷ [])) }
+    ensures validity { joined_layout (booleans (true ∷ []) ∷ bits_of_type types.boolean (Some (false ∷ [])) ∷ []) ≡ layouts.boolean types.boolean (true ∷ true ∷ []) (Some (true ∷ false ∷ [])) }
     ensures texts { joined_layout (texts (1 ∷ 3 ∷ []) (97 ∷ 98 ∷ 99 ∷ []) ∷ texts (0 ∷ 1 ∷ 2 ∷ []) (100 ∷ 101 ∷ []) ∷ []) ≡ texts (0 ∷ 2 ∷ 3 ∷ 4 ∷ []) (98 ∷ 99 ∷ 100 ∷ 101 ∷ []) }
     ensures kept { joined_layout (ab_by (1 ∷ []) ∷ dictionaries (0 ∷ []) None (texts (1 ∷ 2 ∷ 3 ∷ []) (99 ∷ 97 ∷ 98 ∷ [])) ∷ []) ≡ ab_by (1 ∷ 0 ∷ []) }
     ensures moved { joined_layout (ab_by (1 ∷ []) ∷ dictionaries (0 ∷ []) None (texts (1 ∷ 2 ∷ []) (97 ∷ 99 ∷ [])) ∷ []) ≡ dictionaries (1 ∷ 2 ∷ []) None (texts (0 ∷ 1 ∷ 2 ∷ 3 ∷ []) (97 ∷ 98 ∷ 99 ∷ [])) }

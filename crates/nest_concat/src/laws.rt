@@ -8,7 +8,7 @@ ghost use Rattle.nest_model.specs.Layout.{dictionary};
 ghost use Rattle.nest_model.specs.Meaning.{slot};
 ghost use Rattle.nest_model.specs.SameArray.{IsSameArray};
 ghost use Rattle.nest_concat.specs.Joinable.{MayJoin};
-ghost use Rattle.nest_concat.specs.Laid.{joined_layout, joins_past, laid, passes};
+ghost use Rattle.nest_concat.specs.Laid.{joined_layout, joins_past, laid, passes, two_joined};
 ghost use Rattle.nest_concat.specs.Words.{AreOfOneType, IsConcatenated, IsJoined, Layout, PassesLimits, WindowParts, first_array, layout_type, len, slots_of, whole};
 
 /// Concatenating one array returns an equal array.
@@ -33,7 +33,7 @@ pub fn joined_layouts_have_their_slots()
     ensures arrays { (a : Layout) (ws : List WindowParts) → MayJoin a ws → IsArray (laid a ws) }
     ensures wholes { (bs : List Layout) → AreOfOneType bs → All IsArray bs → IsConcatenated bs (joined_layout bs) }
     ensures array { (bs : List Layout) → AreOfOneType bs → All IsArray bs → IsArray (joined_layout bs) }
-    ensures two { (a b : Layout) → layout_type b ≡ layout_type a → IsArray a → IsArray b → slots_of (joined_layout (a ∷ b ∷ [])) ≡ slots_of a ++ slots_of b }
+    ensures two { (a b : Layout) → layout_type b ≡ layout_type a → IsArray a → IsArray b → slots_of (two_joined a b) ≡ slots_of a ++ slots_of b }
 {}
 
 /// The tests of limits are true exactly where a limit is passed.
@@ -45,9 +45,9 @@ pub fn limits_are_tested()
 /// In the concatenation of two arrays, slots of the first keep their indices, and slots of the second follow.
 /// So dictionary keys keep their values when other values are appended.
 pub fn joined_slots_keep_their_positions()
-    ensures count { (a b : Layout) → layout_type b ≡ layout_type a → IsArray a → IsArray b → len (joined_layout (a ∷ b ∷ [])) ≡ len a + len b }
-    ensures first { (a b : Layout) (i : ℕ) → layout_type b ≡ layout_type a → IsArray a → IsArray b → i < len a → slot (joined_layout (a ∷ b ∷ [])) i ≡ slot a i }
-    ensures behind { (a b : Layout) (i : ℕ) → layout_type b ≡ layout_type a → IsArray a → IsArray b → i < len b → slot (joined_layout (a ∷ b ∷ [])) (len a + i) ≡ slot b i }
-    ensures keyed { (t : TypeTree) (ks c d : Layout) → IsArray (dictionary t ks c) → IsArray d → layout_type d ≡ layout_type c → IsArray (dictionary t ks (joined_layout (c ∷ d ∷ []))) }
-    ensures same { (t : TypeTree) (ks c d : Layout) → IsArray (dictionary t ks c) → IsArray d → layout_type d ≡ layout_type c → IsSameArray (dictionary t ks (joined_layout (c ∷ d ∷ []))) (dictionary t ks c) }
+    ensures count { (a b : Layout) → layout_type b ≡ layout_type a → IsArray a → IsArray b → len (two_joined a b) ≡ len a + len b }
+    ensures first { (a b : Layout) (i : ℕ) → layout_type b ≡ layout_type a → IsArray a → IsArray b → i < len a → slot (two_joined a b) i ≡ slot a i }
+    ensures behind { (a b : Layout) (i : ℕ) → layout_type b ≡ layout_type a → IsArray a → IsArray b → i < len b → slot (two_joined a b) (len a + i) ≡ slot b i }
+    ensures keyed { (t : TypeTree) (ks c d : Layout) → IsArray (dictionary t ks c) → IsArray d → layout_type d ≡ layout_type c → IsArray (dictionary t ks (two_joined c d)) }
+    ensures same { (t : TypeTree) (ks c d : Layout) → IsArray (dictionary t ks c) → IsArray d → layout_type d ≡ layout_type c → IsSameArray (dictionary t ks (two_joined c d)) (dictionary t ks c) }
 {}

@@ -102,6 +102,9 @@ counted n (suc m) = n ∷ counted (suc n) m
 abbrev pub some_bytes : List ℕ → Item
 some_bytes ns = items.plain (items.bytes ns)
 
+abbrev pub some_text : List ℕ → Item
+some_text bs = items.plain (items.utf8 bs)
+
 -- a list, a fixed-size list and a struct builder of this type over that child, without rows
 abbrev pub list_of : TypeTree → BuilderTree → BuilderTree
 list_of t c = builders.list false (list_type t) [] c
@@ -177,9 +180,24 @@ keyed_seven keys = builders.dictionary integers.Int8 (types.dictionary integers.
 abbrev pub pair_rows : List Bool → BuilderTree
 pair_rows bits = builders.fixed_size_list (pair_type types.int32) bits no_ints
 
+-- lists by their rows, and structs by their bits, over no number
+abbrev pub int_rows : List Row → BuilderTree
+int_rows rows = builders.list false (list_type types.int32) rows no_ints
+
+abbrev pub int_records : TypeTree → List Bool → BuilderTree
+int_records t bits = builders.struct t bits (more_builders no_ints no_builders)
+
+-- a builder of nulls
+abbrev pub nulls : List Slot → BuilderTree
+nulls xs = builders.flat types.null xs
+
 -- the checks of appending rows to rows of lists, both over no item
 abbrev pub append_checks : Bool → List Row → List Row → Checks
 append_checks large rows more = join_checks (rows_over_nothing large rows) (rows_over_nothing large more)
+
+-- the checks of appending strings to strings
+abbrev pub text_checks : List Slot → List Slot → Checks
+text_checks xs ys = join_checks (builders.flat types.utf8 xs) (builders.flat types.utf8 ys)
 
 -- the items of optional strings
 abbrev pub string_item : Option (List ℕ) → Item

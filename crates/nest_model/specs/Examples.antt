@@ -65,6 +65,10 @@ both c d = more_layouts c (more_layouts d no_layouts)
 abbrev pub sparse_union : TypeTree → TypeTree → Option (List ℤ) → TypeTree
 sparse_union s t ids = types.union (two_fields s t) ids modes.Sparse
 
+-- A dense union of two fields, whose type ids are their numbers.
+abbrev pub dense_union : TypeTree → TypeTree → TypeTree
+dense_union s t = types.union (two_fields s t) None modes.Dense
+
 -- Slots.
 abbrev pub number : ℕ → Slot
 number n = slots.number (pos n ∷ [])
@@ -74,6 +78,10 @@ list_slot ss = slots.list (seal ss)
 
 abbrev pub record_slot : List Slot → Slot
 record_slot ss = slots.record_of (seal ss)
+
+-- A struct of a Boolean and a number.
+abbrev pub flag_and_number : Bool → ℕ → Slot
+flag_and_number b n = record_slot (slots.boolean b ∷ number n ∷ [])
 
 abbrev pub numbers : List ℕ → Slot
 numbers ns = list_slot (map number ns)

@@ -18,9 +18,9 @@ ghost use Rattle.nest_model.specs.BuilderRefusals.{flat_passes, item_refusal, va
 ghost use Rattle.nest_model.specs.BuilderReading.{complete, begun, read_refusal};
 ghost use Rattle.nest_model.specs.BuilderAddRow.{row_checks, lengths_checks};
 ghost use Rattle.nest_model.specs.BuilderJoin.{join_checks};
-ghost use Rattle.nest_model.specs.Examples.{list_type, extended};
+ghost use Rattle.nest_model.specs.Examples.{extended};
 ghost use Rattle.nest_model.specs.BuilderRow.{Row};
-ghost use Rattle.nest_model.specs.BuilderExamples.{pair_type, an_int, some_ints, items_of, a_text, some_bytes, no_ints, no_lists, no_pairs, no_records, no_bytes, list_of, pairs_of, records_of, in_child, three_pending, two_pending, letters, full_dictionary, numbers_by, bytes_by, over_nulls};
+ghost use Rattle.nest_model.specs.BuilderExamples.{an_int, some_ints, items_of, a_text, some_bytes, no_ints, no_lists, no_pairs, no_records, no_bytes, list_of, pairs_of, records_of, in_child, three_pending, two_pending, letters, full_dictionary, numbers_by, bytes_by, over_nulls, int_rows, pair_rows, nulls};
 
 /// Fixed-size lists refuse another number of items, also at a level below. A refused item comes before the number.
 pub fn pairs()
@@ -61,7 +61,7 @@ pub fn other_kinds()
 pub fn required_values()
     ensures none { required_item None ≡ items.null }
     ensures value { required_item (Some (items.utf8 (120 ∷ []))) ≡ a_text 120 }
-    ensures no_room { (xs : List Slot) → length xs ≡ 2 ^ 64 - 1 → requirement_refusal None (builders.flat types.null xs) ≡ Some Overflow }
+    ensures no_room { (xs : List Slot) → length xs ≡ 2 ^ 64 - 1 → requirement_refusal None (nulls xs) ≡ Some Overflow }
     ensures room { requirement_refusal None no_ints ≡ None }
     ensures kind_first { requirement_refusal (Some (items.utf8 (120 ∷ []))) full_dictionary ≡ Some (InvalidArgumentError ItemType) }
     ensures no_key { requirement_refusal (Some (items.native primitives.Int32 (pos 128 ∷ []))) full_dictionary ≡ Some Overflow }
@@ -127,9 +127,9 @@ pub fn joins()
     ensures extension { FailFirst (InvalidArgumentError ItemType) (join_checks no_ints (builders.flat (extended types.int32) [])) }
     ensures of_extension { FailFirst (InvalidArgumentError ItemType) (join_checks (builders.flat (extended types.int32) []) no_ints) }
     ensures list_of_extension { FailFirst (InvalidArgumentError ItemType) (join_checks (no_lists no_ints) (no_lists (builders.flat (extended types.int32) []))) }
-    ensures another_first { (xs ys : List Slot) → length xs ≡ 2 ^ 64 - 1 → length ys ≡ 1 → FailFirst (InvalidArgumentError ItemType) (join_checks (builders.flat types.null xs) (builders.flat types.boolean ys)) }
-    ensures past { (xs ys : List Slot) → length xs ≡ 2 ^ 64 - 1 → length ys ≡ 1 → FailFirst Overflow (join_checks (builders.flat types.null xs) (builders.flat types.null ys)) }
-    ensures longest { (xs ys : List Slot) → length xs ≡ 2 ^ 64 - 2 → length ys ≡ 1 → Pass (join_checks (builders.flat types.null xs) (builders.flat types.null ys)) }
+    ensures another_first { (xs ys : List Slot) → length xs ≡ 2 ^ 64 - 1 → length ys ≡ 1 → FailFirst (InvalidArgumentError ItemType) (join_checks (nulls xs) (builders.flat types.boolean ys)) }
+    ensures past { (xs ys : List Slot) → length xs ≡ 2 ^ 64 - 1 → length ys ≡ 1 → FailFirst Overflow (join_checks (nulls xs) (nulls ys)) }
+    ensures longest { (xs ys : List Slot) → length xs ≡ 2 ^ 64 - 2 → length ys ≡ 1 → Pass (join_checks (nulls xs) (nulls ys)) }
 {}
 
 /// The largest lengths, products and offsets are accepted; the next larger are not.
@@ -159,15 +159,15 @@ pub fn largest_offsets()
 /// The limit of a level is checked after its items and their number.
 /// A null row must also fit at each level where it adds a null.
 pub fn limits_of_rows()
-    ensures item_first { (rows : List Row) → length rows ≡ 2 ^ 64 - 1 → item_refusal (items_of (a_text 120 ∷ [])) (builders.list false (list_type types.int32) rows no_ints) ≡ Some (InvalidArgumentError ItemType) }
-    ensures then_rows { (rows : List Row) → length rows ≡ 2 ^ 64 - 1 → item_refusal (items_of []) (builders.list false (list_type types.int32) rows no_ints) ≡ Some Overflow }
-    ensures number_first { (bits : List Bool) → length bits ≡ 2 ^ 64 - 1 → item_refusal (items_of []) (builders.fixed_size_list (pair_type types.int32) bits no_ints) ≡ Some (InvalidArgumentError ItemSize) }
-    ensures last_row { (rows : List Row) → length rows ≡ 2 ^ 64 - 2 → item_refusal items.null (builders.list false (list_type types.int32) rows no_ints) ≡ None }
-    ensures one_row_more { (rows : List Row) → length rows ≡ 2 ^ 64 - 1 → item_refusal items.null (builders.list false (list_type types.int32) rows no_ints) ≡ Some Overflow }
-    ensures last_pair { (bits : List Bool) → length bits ≡ 2 ^ 63 - 2 → item_refusal items.null (builders.fixed_size_list (pair_type types.int32) bits no_ints) ≡ None }
-    ensures one_pair_more { (bits : List Bool) → length bits ≡ 2 ^ 63 - 1 → item_refusal items.null (builders.fixed_size_list (pair_type types.int32) bits no_ints) ≡ Some Overflow }
+    ensures item_first { (rows : List Row) → length rows ≡ 2 ^ 64 - 1 → item_refusal (items_of (a_text 120 ∷ [])) (int_rows rows) ≡ Some (InvalidArgumentError ItemType) }
+    ensures then_rows { (rows : List Row) → length rows ≡ 2 ^ 64 - 1 → item_refusal (items_of []) (int_rows rows) ≡ Some Overflow }
+    ensures number_first { (bits : List Bool) → length bits ≡ 2 ^ 64 - 1 → item_refusal (items_of []) (pair_rows bits) ≡ Some (InvalidArgumentError ItemSize) }
+    ensures last_row { (rows : List Row) → length rows ≡ 2 ^ 64 - 2 → item_refusal items.null (int_rows rows) ≡ None }
+    ensures one_row_more { (rows : List Row) → length rows ≡ 2 ^ 64 - 1 → item_refusal items.null (int_rows rows) ≡ Some Overflow }
+    ensures last_pair { (bits : List Bool) → length bits ≡ 2 ^ 63 - 2 → item_refusal items.null (pair_rows bits) ≡ None }
+    ensures one_pair_more { (bits : List Bool) → length bits ≡ 2 ^ 63 - 1 → item_refusal items.null (pair_rows bits) ≡ Some Overflow }
     ensures over_full_items { (xs : List Slot) → length xs ≡ 2 ^ 64 - 1 → item_refusal items.null (over_nulls false xs) ≡ None }
-    ensures over_a_full_field { (xs : List Slot) → length xs ≡ 2 ^ 64 - 1 → item_refusal items.null (no_records (builders.flat types.null xs)) ≡ Some Overflow }
+    ensures over_a_full_field { (xs : List Slot) → length xs ≡ 2 ^ 64 - 1 → item_refusal items.null (no_records (nulls xs)) ≡ Some Overflow }
 {}
 
 /// The number of values that keys of each type can index.

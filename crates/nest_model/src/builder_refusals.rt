@@ -59,8 +59,8 @@ pub fn refused_while_reading()
 /// A push of a string fails only if a check refuses the string or an allocation fails.
 /// A string that was accepted is appended, and no check refuses it.
 pub fn strings_read()
-    ensures refused { (given : Option (List ℕ)) (t : BuilderTree) (e : Error) → item_refusal (string_item given) t ≡ None → Refused (ReadsValue items.utf8) given t e → e ≡ Memory alloc_error }
-    ensures cause { (given : Option (List ℕ)) (t : BuilderTree) (e f : Error) → item_refusal (string_item given) t ≡ Some f → Refused (ReadsValue items.utf8) given t e → (e ≡ f) ⊎ (e ≡ Memory alloc_error) }
+    ensures refused { (s : Option (List ℕ)) (t : BuilderTree) (e : Error) → item_refusal (string_item s) t ≡ None → Refused (ReadsValue items.utf8) s t e → e ≡ Memory alloc_error }
+    ensures cause { (s : Option (List ℕ)) (t : BuilderTree) (e f : Error) → item_refusal (string_item s) t ≡ Some f → Refused (ReadsValue items.utf8) s t e → (e ≡ f) ⊎ (e ≡ Memory alloc_error) }
     ensures several { (given : OptionalStrings) (old new : BuilderTree) → ConsumedEach (ReadsValue items.utf8) given old new
         → (new ≡ all_appended (string_items given) old) × AllAccepted (string_items given) old }
     ensures all { (u : OptionalStrings) (old new : BuilderTree) → ConsumedAll strings_input u old new
@@ -68,7 +68,7 @@ pub fn strings_read()
     ensures refused_some { (u : OptionalStrings) (old : BuilderTree) (e : Error) → RefusedSome strings_input u old e
         → (e ≡ Memory alloc_error) ⊎ RefusesAString u old e }
     ensures no_list { (r : Read) → ReadsList strings_input None r → r ≡ complete items.null }
-    ensures taken { (given : Option (List ℕ)) (old new : BuilderTree) → Consumed (ReadsValue items.utf8) given old new → (new ≡ appended (string_item given) old) × (item_refusal (string_item given) old ≡ None) }
+    ensures taken { (s : Option (List ℕ)) (old new : BuilderTree) → Consumed (ReadsValue items.utf8) s old new → (new ≡ appended (string_item s) old) × (item_refusal (string_item s) old ≡ None) }
 {}
 
 /// The checks of a row, of rows added by their lengths and of a join have one outcome:

@@ -12,7 +12,7 @@ ghost use Rattle.nest_model.specs.Layout as layouts;
 ghost use Rattle.nest_model.specs.Layout.{more_layouts, no_layouts};
 ghost use Rattle.nest_model.specs.Checks.{Pass};
 ghost use Rattle.nest_model.specs.Fits.{Fits, FirstError, validity_checks, ValidityError};
-ghost use Rattle.nest_model.specs.Examples.{a_field, two_fields, sparse_union, text_dictionary, ints, texts, both, small_lists, small_map, structs, in_turn, null_keys, pairs, two_bytes, three_ints, two_texts, number_and_text, extended, x_by, short_keys, one_number, bits_of_type, bytes_by, text_by, fixed_bytes, int_children, union_by, keyed_by_bytes};
+ghost use Rattle.nest_model.specs.Examples.{a_field, two_fields, sparse_union, text_dictionary, ints, texts, both, small_lists, small_map, structs, in_turn, null_keys, pairs, two_bytes, three_ints, two_texts, number_and_text, extended, x_by, short_keys, one_number, bits_of_type, bytes_by, text_by, fixed_bytes, int_children, union_by, keyed_by_bytes, dense_union};
 
 /// Null and boolean arrays.
 pub fn nulls_and_booleans()
@@ -77,7 +77,7 @@ pub fn picks_in_order()
     ensures later_window { Fits (layouts.union (sparse_union types.int32 types.int32 None) (pos 0 ∷ []) (both (ints (1 ∷ 2 ∷ [])) (ints (1 ∷ 2 ∷ []))) None 1) }
     ensures past_the_window { FirstError (OutOfSpec spec.UnionSlot) (layouts.union (sparse_union types.int32 types.int32 None) (pos 0 ∷ []) (both (ints (1 ∷ 2 ∷ [])) (ints (1 ∷ 2 ∷ []))) None 2) }
     ensures longer_fields { Fits (layouts.union (sparse_union types.int32 types.int32 None) (pos 0 ∷ []) (both three_ints (ints (1 ∷ []))) None 0) }
-    ensures dense_in_any_order { Fits (layouts.union (types.union (two_fields types.int32 types.int32) None modes.Dense) (pos 1 ∷ pos 0 ∷ []) (both three_ints (ints (1 ∷ []))) (Some (pos 0 ∷ pos 2 ∷ [])) 0) }
+    ensures dense_in_any_order { Fits (layouts.union (dense_union types.int32 types.int32) (pos 1 ∷ pos 0 ∷ []) (both three_ints (ints (1 ∷ []))) (Some (pos 0 ∷ pos 2 ∷ [])) 0) }
     ensures type_first { FirstError (OutOfSpec spec.WrongType) (layouts.union types.utf8 (pos 9 ∷ []) (more_layouts two_texts no_layouts) (Some []) 0) }
     ensures then_count { FirstError (OutOfSpec spec.FieldCount) (union_by 128 (pos 200 ∷ []) (pos 9 ∷ []) (int_children 129) (Some [])) }
     ensures then_fields { FirstError (OutOfSpec spec.TooManyFields) (union_by 128 (pos 200 ∷ []) (pos 9 ∷ []) (more_layouts two_texts (int_children 127)) (Some [])) }

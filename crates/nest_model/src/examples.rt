@@ -15,7 +15,7 @@ ghost use Rattle.nest_model.specs.Nullness.{is_null_at, null_count, has_keys};
 ghost use Rattle.nest_model.specs.SameArray.{IsSameArray};
 ghost use Rattle.nest_model.specs.Selected.{selected, mask_indices};
 ghost use Rattle.nest_model.specs.Fits.{Fits};
-ghost use Rattle.nest_model.specs.Examples.{ints, texts, dictionaries, number, list_slot, record_slot, numbers, small_lists, deep_lists, small_map, structs, with_ids, eleven_types, in_turn, seven_of, one_row, first_twice, keys_of_keys, one_number, dense_of, one_id, null_text, null_over_items, null_over_nothing, five_by, pairs, two_bytes, greetings, accented, map_over, one_entry, short_keys, lists_slot, keyless, two_fields};
+ghost use Rattle.nest_model.specs.Examples.{ints, texts, dictionaries, number, list_slot, record_slot, numbers, small_lists, deep_lists, small_map, structs, with_ids, eleven_types, in_turn, seven_of, one_row, first_twice, keys_of_keys, one_number, dense_of, one_id, null_text, null_over_items, null_over_nothing, five_by, pairs, two_bytes, greetings, accented, map_over, one_entry, short_keys, lists_slot, keyless, two_fields, flag_and_number};
 
 /// A list with an empty row, and lists whose offsets start after 0 or end before the end of the child.
 pub fn lists_of_numbers()
@@ -77,10 +77,10 @@ pub fn maps()
 
 /// A struct: the values of a null row are not part of the array, and a slice keeps the null.
 pub fn structs_with_a_null()
-    ensures rows { slots_of (structs 19) ≡ record_slot (slots.boolean false ∷ number 42 ∷ []) ∷ record_slot (slots.boolean false ∷ number 28 ∷ []) ∷ slots.null ∷ record_slot (slots.boolean true ∷ number 31 ∷ []) ∷ [] }
+    ensures rows { slots_of (structs 19) ≡ flag_and_number false 42 ∷ flag_and_number false 28 ∷ slots.null ∷ flag_and_number true 31 ∷ [] }
     ensures same { IsSameArray (structs 19) (structs 77) }
     ensures worth { node_counts (slots_of (structs 19)) ≡ 10 }
-    ensures of_a_cut { slots_of (slice_layout (structs 19) 2 2) ≡ slots.null ∷ record_slot (slots.boolean true ∷ number 31 ∷ []) ∷ [] }
+    ensures of_a_cut { slots_of (slice_layout (structs 19) 2 2) ≡ slots.null ∷ flag_and_number true 31 ∷ [] }
     ensures fits { Fits (structs 19) }
 {}
 

@@ -21,7 +21,7 @@ ghost use Rattle.nest_model.specs.BuilderItem.{bytes_held};
 ghost use Rattle.nest_model.specs.BuilderRefusals.{item_refusal, over_limits};
 ghost use Rattle.nest_model.specs.BuilderAddRow.{row_checks, lengths_checks};
 ghost use Rattle.nest_model.specs.BuilderJoin.{join_checks};
-ghost use Rattle.nest_model.specs.BuilderExamples.{an_int, some_bytes, items_of, a_text, no_ints, no_records, numbers_by, over_nulls, rows_over_nothing, keyed_seven, append_checks, pair_rows};
+ghost use Rattle.nest_model.specs.BuilderExamples.{an_int, some_bytes, items_of, a_text, no_records, numbers_by, over_nulls, rows_over_nothing, keyed_seven, append_checks, pair_rows, some_text, int_records, text_checks};
 
 /// Null arrays: one more offset than slots, lengths and products of 64 bits, dense union offsets of 31 bits.
 pub fn null_arrays()
@@ -57,12 +57,12 @@ pub fn values()
     ensures one_more { (xs : List Slot) → length xs ≡ 2 ^ 64 - 1 → item_refusal (an_int 7) (builders.flat types.int32 xs) ≡ Some Overflow }
     ensures last_null { (xs : List Slot) → length xs ≡ 2 ^ 64 - 2 → item_refusal items.null (builders.flat types.int32 xs) ≡ None }
     ensures one_null_more { (xs : List Slot) → length xs ≡ 2 ^ 64 - 1 → item_refusal items.null (builders.flat types.int32 xs) ≡ Some Overflow }
-    ensures last_text { (xs : List Slot) → length xs < 2 ^ 64 - 1 → bytes_held xs ≡ 2 ^ 31 - 3 → item_refusal (items.plain (items.utf8 (97 ∷ 98 ∷ []))) (builders.flat types.utf8 xs) ≡ None }
-    ensures text_past { (xs : List Slot) → length xs < 2 ^ 64 - 1 → bytes_held xs ≡ 2 ^ 31 - 2 → item_refusal (items.plain (items.utf8 (97 ∷ 98 ∷ []))) (builders.flat types.utf8 xs) ≡ Some Overflow }
+    ensures last_text { (xs : List Slot) → length xs < 2 ^ 64 - 1 → bytes_held xs ≡ 2 ^ 31 - 3 → item_refusal (some_text (97 ∷ 98 ∷ [])) (builders.flat types.utf8 xs) ≡ None }
+    ensures text_past { (xs : List Slot) → length xs < 2 ^ 64 - 1 → bytes_held xs ≡ 2 ^ 31 - 2 → item_refusal (some_text (97 ∷ 98 ∷ [])) (builders.flat types.utf8 xs) ≡ Some Overflow }
     ensures last_bytes { (xs : List Slot) → length xs < 2 ^ 64 - 1 → bytes_held xs ≡ 2 ^ 31 - 3 → item_refusal (some_bytes (1 ∷ 2 ∷ [])) (builders.flat types.binary xs) ≡ None }
     ensures bytes_past { (xs : List Slot) → length xs < 2 ^ 64 - 1 → bytes_held xs ≡ 2 ^ 31 - 2 → item_refusal (some_bytes (1 ∷ 2 ∷ [])) (builders.flat types.binary xs) ≡ Some Overflow }
-    ensures last_large_text { (xs : List Slot) → length xs < 2 ^ 64 - 1 → bytes_held xs ≡ 2 ^ 63 - 3 → item_refusal (items.plain (items.utf8 (97 ∷ 98 ∷ []))) (builders.flat types.large_utf8 xs) ≡ None }
-    ensures large_text_past { (xs : List Slot) → length xs < 2 ^ 64 - 1 → bytes_held xs ≡ 2 ^ 63 - 2 → item_refusal (items.plain (items.utf8 (97 ∷ 98 ∷ []))) (builders.flat types.large_utf8 xs) ≡ Some Overflow }
+    ensures last_large_text { (xs : List Slot) → length xs < 2 ^ 64 - 1 → bytes_held xs ≡ 2 ^ 63 - 3 → item_refusal (some_text (97 ∷ 98 ∷ [])) (builders.flat types.large_utf8 xs) ≡ None }
+    ensures large_text_past { (xs : List Slot) → length xs < 2 ^ 64 - 1 → bytes_held xs ≡ 2 ^ 63 - 2 → item_refusal (some_text (97 ∷ 98 ∷ [])) (builders.flat types.large_utf8 xs) ≡ Some Overflow }
     ensures last_of_size { (xs : List Slot) → length xs ≡ 2 ^ 63 - 2 → item_refusal (some_bytes (1 ∷ 2 ∷ [])) (builders.flat (types.fixed_size_binary 2) xs) ≡ None }
     ensures kind_first { (xs : List Slot) → length xs ≡ 2 ^ 64 - 1 → item_refusal (a_text 97) (builders.flat (types.fixed_size_binary 2) xs) ≡ Some (InvalidArgumentError ItemType) }
     ensures then_size { (xs : List Slot) → length xs ≡ 2 ^ 64 - 1 → item_refusal (some_bytes (1 ∷ [])) (builders.flat (types.fixed_size_binary 2) xs) ≡ Some (InvalidArgumentError ItemSize) }
@@ -77,10 +77,10 @@ pub fn known_values()
 
 /// The number of null rows: dictionaries of each key type, structs and their fields, and lists.
 pub fn null_rows()
-    ensures last_key { (k : IntegerType) (t : TypeTree) (keys : List (Option ℕ)) (c : BuilderTree) → length keys ≡ 2 ^ 64 - 2 → item_refusal items.null (builders.dictionary k t keys c) ≡ None }
-    ensures one_key_more { (k : IntegerType) (t : TypeTree) (keys : List (Option ℕ)) (c : BuilderTree) → length keys ≡ 2 ^ 64 - 1 → item_refusal items.null (builders.dictionary k t keys c) ≡ Some Overflow }
-    ensures last_record { (t : TypeTree) (bits : List Bool) → length bits ≡ 2 ^ 64 - 2 → item_refusal items.null (builders.struct t bits (builders.more_builders no_ints builders.no_builders)) ≡ None }
-    ensures one_record_more { (t : TypeTree) (bits : List Bool) → length bits ≡ 2 ^ 64 - 1 → item_refusal items.null (builders.struct t bits (builders.more_builders no_ints builders.no_builders)) ≡ Some Overflow }
+    ensures last_key { (k : IntegerType) (t : TypeTree) (ks : List (Option ℕ)) (c : BuilderTree) → length ks ≡ 2 ^ 64 - 2 → item_refusal items.null (builders.dictionary k t ks c) ≡ None }
+    ensures one_key_more { (k : IntegerType) (t : TypeTree) (ks : List (Option ℕ)) (c : BuilderTree) → length ks ≡ 2 ^ 64 - 1 → item_refusal items.null (builders.dictionary k t ks c) ≡ Some Overflow }
+    ensures last_record { (t : TypeTree) (bits : List Bool) → length bits ≡ 2 ^ 64 - 2 → item_refusal items.null (int_records t bits) ≡ None }
+    ensures one_record_more { (t : TypeTree) (bits : List Bool) → length bits ≡ 2 ^ 64 - 1 → item_refusal items.null (int_records t bits) ≡ Some Overflow }
     ensures over_a_field { (xs : List Slot) → length xs ≡ 2 ^ 64 - 2 → item_refusal items.null (no_records (builders.flat types.null xs)) ≡ None }
     ensures last_large_row { (t : TypeTree) (rows : List Row) (c : BuilderTree) → length rows ≡ 2 ^ 64 - 2 → item_refusal items.null (builders.list true t rows c) ≡ None }
     ensures one_large_row_more { (t : TypeTree) (rows : List Row) (c : BuilderTree) → length rows ≡ 2 ^ 64 - 1 → item_refusal items.null (builders.list true t rows c) ≡ Some Overflow }
@@ -118,8 +118,8 @@ pub fn joined_rows()
     ensures large_item_past { (rows more : List Row) → length rows ≡ 1 → length more ≡ 1 → end_from 0 rows ≡ 2 ^ 63 - 1 → end_from 0 more ≡ 1 → FailFirst Overflow (append_checks true rows more) }
     ensures last_pair { (xs ys : List Bool) → length xs ≡ 2 ^ 63 - 2 → length ys ≡ 1 → Pass (join_checks (pair_rows xs) (pair_rows ys)) }
     ensures pair_past { (xs ys : List Bool) → length xs ≡ 2 ^ 63 - 1 → length ys ≡ 1 → FailFirst Overflow (join_checks (pair_rows xs) (pair_rows ys)) }
-    ensures last_text { (xs ys : List Slot) → length xs ≡ 1 → length ys ≡ 1 → bytes_held xs ≡ 2 ^ 31 - 2 → bytes_held ys ≡ 1 → Pass (join_checks (builders.flat types.utf8 xs) (builders.flat types.utf8 ys)) }
-    ensures text_past { (xs ys : List Slot) → length xs ≡ 1 → length ys ≡ 1 → bytes_held xs ≡ 2 ^ 31 - 1 → bytes_held ys ≡ 1 → FailFirst Overflow (join_checks (builders.flat types.utf8 xs) (builders.flat types.utf8 ys)) }
+    ensures last_text { (xs ys : List Slot) → length xs ≡ 1 → length ys ≡ 1 → bytes_held xs ≡ 2 ^ 31 - 2 → bytes_held ys ≡ 1 → Pass (text_checks xs ys) }
+    ensures text_past { (xs ys : List Slot) → length xs ≡ 1 → length ys ≡ 1 → bytes_held xs ≡ 2 ^ 31 - 1 → bytes_held ys ≡ 1 → FailFirst Overflow (text_checks xs ys) }
     ensures below_a_list { (xs ys : List Slot) → length xs ≡ 2 ^ 64 - 1 → length ys ≡ 1 → FailFirst Overflow (join_checks (over_nulls true xs) (over_nulls true ys)) }
 {}
 
@@ -137,8 +137,8 @@ pub fn levels()
     ensures pairs_past { (bits : List Bool) → length bits ≡ 2 ^ 63 → over_limits (pair_rows bits) ≡ true }
     ensures most_values { over_limits (numbers_by integers.Int8 128) ≡ false }
     ensures values_past { over_limits (numbers_by integers.Int8 129) ≡ true }
-    ensures most_records { (t : TypeTree) (bits : List Bool) → length bits ≡ 2 ^ 64 - 1 → over_limits (builders.struct t bits (builders.more_builders no_ints builders.no_builders)) ≡ false }
-    ensures records_past { (t : TypeTree) (bits : List Bool) → length bits ≡ 2 ^ 64 → over_limits (builders.struct t bits (builders.more_builders no_ints builders.no_builders)) ≡ true }
+    ensures most_records { (t : TypeTree) (bits : List Bool) → length bits ≡ 2 ^ 64 - 1 → over_limits (int_records t bits) ≡ false }
+    ensures records_past { (t : TypeTree) (bits : List Bool) → length bits ≡ 2 ^ 64 → over_limits (int_records t bits) ≡ true }
     ensures below_a_record { (xs : List Slot) → length xs ≡ 2 ^ 64 → over_limits (no_records (builders.flat types.null xs)) ≡ true }
     ensures below_a_list { (xs : List Slot) → length xs ≡ 2 ^ 64 → over_limits (over_nulls true xs) ≡ true }
 {}

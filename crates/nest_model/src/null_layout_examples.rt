@@ -40,8 +40,8 @@ pub fn nested_nulls()
     ensures entries { null_layout int_map_type 2
         ≡ layouts.map int_map_type (0 ∷ 0 ∷ 0 ∷ []) (layouts.struct int_entry_type (both empty_ints empty_ints) None) two_nulls }
     ensures pairs { null_layout (types.fixed_size_list (a_field types.date32) 2) 1 ≡ layouts.fixed_size_list (types.fixed_size_list (a_field types.date32) 2) (null_dates 2) (Some (false ∷ [])) }
-    ensures record { null_layout (types.struct (two_fields types.date32 types.null)) 2 ≡ layouts.struct (types.struct (two_fields types.date32 types.null)) (both (null_dates 2) (layouts.null types.null 2)) two_nulls }
-    ensures sparse { null_layout (sparse_union types.date32 types.null None) 2 ≡ layouts.union (sparse_union types.date32 types.null None) (pos 0 ∷ pos 0 ∷ []) (both (null_dates 2) (layouts.null types.null 2)) None 0 }
+    ensures record { let t = types.struct (two_fields types.date32 types.null) in null_layout t 2 ≡ layouts.struct t (both (null_dates 2) (layouts.null types.null 2)) two_nulls }
+    ensures sparse { let t = sparse_union types.date32 types.null None in null_layout t 2 ≡ layouts.union t (pos 0 ∷ pos 0 ∷ []) (both (null_dates 2) (layouts.null types.null 2)) None 0 }
     ensures dense { null_layout date_union_type 2
         ≡ layouts.union date_union_type (pos 7 ∷ pos 7 ∷ []) (more_layouts (null_dates 2) no_layouts) (Some (pos 0 ∷ pos 1 ∷ [])) 0 }
     ensures keys { null_layout date_keys_type 2

@@ -1,13 +1,12 @@
 //! Worked examples: the largest selection within each limit, and the first past it.
 ghost use Rattle.std.specs.Prelude.{◌≡◌, ◌+◌, ◌-◌, ◌^◌, ◌⊎◌, ℕ, Bool, pos, true, false, List, [], ◌∷◌, length, Some, None, alloc_error};
 ghost use Rattle.nest_memory.specs.TypeTree as types;
-ghost use Rattle.nest_memory.specs.declared.datatypes.UnionMode.TheVariants as modes;
 ghost use Rattle.nest_memory.specs.declared.error.Error.{Error};
 ghost use Rattle.nest_memory.specs.declared.error.Error.TheVariants.{Memory, Overflow};
-ghost use Rattle.nest_model.specs.Examples.{a_field, both, dictionaries, ints, list_type, lists, one_field, texts, booleans, two_fields};
+ghost use Rattle.nest_model.specs.Examples.{a_field, both, dictionaries, ints, list_type, lists, texts, booleans, two_fields};
 ghost use Rattle.nest_model.specs.Layout as layouts;
 ghost use Rattle.nest_model.specs.Layout.{Layout, no_layouts, more_layouts};
-ghost use Rattle.nest_take.specs.Examples.{dense_texts, text_maps, three_unions};
+ghost use Rattle.nest_take.specs.Examples.{dense_texts, sparse_texts, text_maps, three_unions};
 ghost use Rattle.nest_take.specs.Limits.{PassesLength, PassesLimits, PassesOffsets, PicksPass, picks_of};
 ghost use Rattle.nest_take.specs.Taken.{RefusesTake, offsets_in};
 
@@ -35,7 +34,7 @@ pub fn children()
     ensures null_list { PassesLimits (layouts.list false (list_type types.utf8) (0 ∷ 1 ∷ []) (texts (0 ∷ 2 ^ 30 ∷ []) []) (Some (false ∷ []))) (0 ∷ 0 ∷ []) → ⊥ }
     ensures fixed_size_list { PassesLimits (layouts.fixed_size_list (types.fixed_size_list (a_field types.utf8) 2) (texts (0 ∷ 0 ∷ 0 ∷ 0 ∷ 2 ^ 30 ∷ []) []) None) (1 ∷ 1 ∷ []) }
     ensures other_row { PassesLimits (layouts.fixed_size_list (types.fixed_size_list (a_field types.utf8) 2) (texts (0 ∷ 0 ∷ 0 ∷ 0 ∷ 2 ^ 30 ∷ []) []) None) (0 ∷ 0 ∷ []) → ⊥ }
-    ensures record { PassesLimits (layouts.struct (types.struct (two_fields types.int32 types.utf8)) (more_layouts (ints (7 ∷ [])) (more_layouts (texts (0 ∷ 2 ^ 30 ∷ []) []) no_layouts)) None) (0 ∷ 0 ∷ []) }
+    ensures record { PassesLimits (layouts.struct (types.struct (two_fields types.int32 types.utf8)) (both (ints (7 ∷ [])) (texts (0 ∷ 2 ^ 30 ∷ []) [])) None) (0 ∷ 0 ∷ []) }
     ensures entries { PassesLimits (layouts.map (types.map (a_field types.int32) false) (0 ∷ 2 ^ 30 ∷ []) (ints []) None) (0 ∷ 0 ∷ []) }
     ensures number { (is : List ℕ) → PassesLimits (ints (7 ∷ [])) is → ⊥ }
 {}
@@ -78,8 +77,8 @@ pub fn unlimited()
 
 /// Unions: a sparse child is taken from the start of the union's window, a dense child at the offsets that pick it.
 pub fn picks()
-    ensures sparse { PassesLimits (layouts.union (types.union (one_field types.utf8) None modes.Sparse) (pos 0 ∷ []) (more_layouts (texts (0 ∷ 0 ∷ 2 ^ 30 ∷ []) []) no_layouts) None 1) (0 ∷ 0 ∷ []) }
-    ensures before_window { PassesLimits (layouts.union (types.union (one_field types.utf8) None modes.Sparse) (pos 0 ∷ []) (more_layouts (texts (0 ∷ 2 ^ 30 ∷ 2 ^ 30 ∷ []) []) no_layouts) None 1) (0 ∷ 0 ∷ []) → ⊥ }
+    ensures sparse { PassesLimits (sparse_texts (0 ∷ 0 ∷ 2 ^ 30 ∷ [])) (0 ∷ 0 ∷ []) }
+    ensures before_window { PassesLimits (sparse_texts (0 ∷ 2 ^ 30 ∷ 2 ^ 30 ∷ [])) (0 ∷ 0 ∷ []) → ⊥ }
     ensures last_pick { (ps : List ℕ) → length ps ≡ 2 ^ 31 → PicksPass (λ f. ps) 0 (more_layouts (ints []) no_layouts) → ⊥ }
     ensures pick_past { (ps : List ℕ) → length ps ≡ 2 ^ 31 + 1 → PicksPass (λ f. ps) 0 (more_layouts (ints []) no_layouts) }
     ensures of_field { picks_of None (pos 0 ∷ pos 1 ∷ pos 0 ∷ []) (pos 5 ∷ pos 6 ∷ pos 7 ∷ []) 0 (2 ∷ 1 ∷ 2 ∷ []) ≡ 7 ∷ 7 ∷ [] }

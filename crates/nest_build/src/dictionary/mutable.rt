@@ -1,7 +1,5 @@
 //! The builder of dictionary arrays over any builder of the values.
-ghost use Rattle.std.specs.Prelude.{◌≡◌, ◌≢◌, ◌<◌, ◌≤◌, ◌⊎◌, ◌↔◌, [], ℕ, ⊤, pos, false, IfErr, IfOk, IsErrOf, IsNone, IsOk, IsOkUnless, IsTrue, None, OnErr, OnOk, Some, alloc_error, option_map};
-ghost use Rattle.nest_array.specs.Types.{default_dictionary_type};
-ghost use Rattle.nest_model.specs.Accessors.{as_integer};
+ghost use Rattle.std.specs.Prelude.{◌≡◌, ◌≢◌, ◌<◌, ◌≤◌, ◌⊎◌, ◌↔◌, [], ℕ, ⊤, false, IfErr, IfOk, IsErrOf, IsNone, IsOk, IsOkUnless, IsTrue, None, OnErr, OnOk, Some, alloc_error};
 ghost use Rattle.nest_model.specs.BuilderFreeze.{EncodesKeys};
 ghost use Rattle.nest_model.specs.BuilderItem.{Lacks, IsValueAt, plain, takes};
 ghost use Rattle.nest_model.specs.BuilderRefusals.{value_refusal};
@@ -14,7 +12,7 @@ ghost use Rattle.nest_model.specs.Layout as layouts;
 ghost use Rattle.nest_memory.specs.TypeTree.{key_type};
 ghost use Rattle.nest_array.specs.SeenKeys.{keys_layout};
 ghost use Rattle.nest_build.specs.Hashes.{value_hash};
-ghost use Rattle.nest_build.specs.Keys.{dictionary_child, builder_keys};
+ghost use Rattle.nest_build.specs.Keys.{IsKey, default_dictionaries, dictionary_child, builder_keys};
 ghost use Rattle.nest_build.specs.Lists.{RefusesChild};
 ghost use Rattle.nest_build.specs.Words.{Accepted, ChildNotEmpty, Fits, InvalidArgumentError, IsComplete, ItemType, Memory, Overflow, ReadsValue, Incomplete, builder_len, builder_type, emptied, layout_of, layout_type, own_slots, plain_refusal, plain_value, slots_of, type_of, validity_of};
 
@@ -58,7 +56,7 @@ impl<K: BuilderKey, M: MutableArray> MutableDictionaryArray<K, M> {
     pub fn new(alloc: Global, values: M) -> Result<MutableDictionaryArray<K, M>, Error>
         requires complete { IsComplete (M.model values) }
         requires empty { builder_len (M.model values) ≡ 0 }
-        ensures ok { IfOk result (λ b. ⟦<MutableDictionaryArray<K, M> as MutableArray>⟧.model b ≡ builders.dictionary K.KEY_TYPE (default_dictionary_type K.KEY_TYPE (builder_type (M.model values))) [] (M.model values)) }
+        ensures ok { IfOk result (λ b. ⟦<MutableDictionaryArray<K, M> as MutableArray>⟧.model b ≡ default_dictionaries K.KEY_TYPE (M.model values)) }
         ensures memory { IsOkUnless result (Memory alloc_error) }
     {
         let data_type = DictionaryType::of_values(alloc, values.data_type())?;
@@ -90,7 +88,7 @@ impl<K: BuilderKey, M: MutableArray> MutableDictionaryArray<K, M> {
     /// `ChildNotEmpty` if `values` has rows, `Memory` if an allocation fails.
     pub fn try_from_values(alloc: Global, values: M) -> Result<MutableDictionaryArray<K, M>, Error>
         requires { IsComplete (M.model values) }
-        ensures ok { IfOk result (λ b. ⟦<MutableDictionaryArray<K, M> as MutableArray>⟧.model b ≡ builders.dictionary K.KEY_TYPE (default_dictionary_type K.KEY_TYPE (builder_type (M.model values))) [] (M.model values)) }
+        ensures ok { IfOk result (λ b. ⟦<MutableDictionaryArray<K, M> as MutableArray>⟧.model b ≡ default_dictionaries K.KEY_TYPE (M.model values)) }
         ensures empty { IfOk result (λ b. builder_len (M.model values) ≡ 0) }
         ensures cause { IfErr result (RefusesChild (M.model values)) }
     {
@@ -125,7 +123,7 @@ impl<K: BuilderKey, M: MutableArray> MutableDictionaryArray<K, M> {
 
     /// Returns the key of a value, `None` if no value is equal to it. Does not allocate.
     pub fn key_of<T: AsPlain>(&self, value: &T) -> Option<K>
-        ensures place { (k : ℕ) → (option_map (λ key. as_integer (K.numbers key)) result ≡ Some (pos k)) ↔ IsValueAt (dictionary_child (⟦<MutableDictionaryArray<K, M> as MutableArray>⟧.model self.now)) (T.value value.now) k }
+        ensures place { (k : ℕ) → IsKey K.numbers result k ↔ IsValueAt (dictionary_child (⟦<MutableDictionaryArray<K, M> as MutableArray>⟧.model self.now)) (T.value value.now) k }
         ensures absent { IsNone result ↔ Lacks (dictionary_child (⟦<MutableDictionaryArray<K, M> as MutableArray>⟧.model self.now)) (T.value value.now) }
     {
         let value = value.as_plain();

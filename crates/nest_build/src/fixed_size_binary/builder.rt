@@ -2,7 +2,7 @@
 ghost use Rattle.std.specs.Prelude.{◌≡◌, ◌⊎◌, None, Some, OnOk, OnErr, IfErr, option_map, alloc_error};
 ghost use Rattle.std.specs.Option.{option_copied};
 ghost use Rattle.nest_model.specs.BuilderItem as items;
-ghost use Rattle.nest_build.specs.Words.{Accepted, InvalidArgumentError, ItemSize, Memory, required_item, requirement_refusal, flat_tree};
+ghost use Rattle.nest_build.specs.Words.{Accepted, InvalidArgumentError, ItemSize, Memory, bytes_refusal, required_item, flat_tree};
 
 use crate::fixed_size_binary::MutableFixedSizeBinaryArray;
 use crate::flat::{FlatBuilder, TakesValue};
@@ -15,9 +15,9 @@ use nest_memory::error::{ArgumentError, Error};
 /// Appends bytes or a null. `ItemSize` if the bytes have another size.
 fn push_sized(values: &mut MutableFixedSizeBinaryArray, item: Option<&[u8]>) -> Result<(), Error>
     ensures accepted { OnOk result (Accepted (required_item (option_map items.bytes (option_copied item.entry))) (flat_tree values.old) (flat_tree values.new)) }
-    ensures unrefused { OnOk result (requirement_refusal (option_map items.bytes (option_copied item.entry)) (flat_tree values.old) ≡ None) }
+    ensures unrefused { OnOk result (bytes_refusal (option_copied item.entry) values.old ≡ None) }
     ensures err { OnErr result (values.new ≡ values.old) }
-    ensures cause { IfErr result (λ e. (e ≡ Memory alloc_error) ⊎ ((e ≡ InvalidArgumentError ItemSize) × (requirement_refusal (option_map items.bytes (option_copied item.entry)) (flat_tree values.old) ≡ Some e))) }
+    ensures cause { IfErr result (λ e. (e ≡ Memory alloc_error) ⊎ ((e ≡ InvalidArgumentError ItemSize) × (bytes_refusal (option_copied item.entry) values.old ≡ Some e))) }
 {
     values.known();
     if let Err(error) = values.try_push(item) {

@@ -202,7 +202,8 @@ impl<O: ListWidth, M: MutableArray> MutableListArray<O, M> {
     /// Returns the child, to push the items of a row before the row is added. The builder keeps what is left in the
     /// child.
     pub fn mut_values(&mut self) -> &mut M
-        ensures* writes_back { sem 𝓛 (Lends (the_row O.row M.row O.Rows.row O.Buffer.row O.List.row O.Rows.List.row O.Rows.Offsets.row O.Offset) M.row self.entry result (⟦<MutableListArray<O, M> as OverChild>⟧.over self.entry.now)) }
+        ensures* writes_back { sem 𝓛 (Lends (the_row O.row M.row O.Rows.row O.Buffer.row O.List.row O.Rows.List.row O.Rows.Offsets.row O.Offset) M.row self.entry result
+            (⟦<MutableListArray<O, M> as OverChild>⟧.over self.entry.now)) }
         ensures value { M.model result.now ≡ list_child (⟦<MutableListArray<O, M> as MutableArray>⟧.model self.old) }
     {
         &mut self.values

@@ -83,7 +83,7 @@ impl AnyPrimitive {
     pub fn known(&self)
         ensures fits { TopFits (primitive_layout self.now) }
         ensures kind { physical_type (layout_type (primitive_layout self.now)) ≡ physical.Primitive (primitive_kind self.now) }
-        ensures parts { primitive_layout self.now ≡ layouts.primitive (primitive_kind self.now) (layout_type (primitive_layout self.now)) (natives_of (primitive_layout self.now)) (validity_of (primitive_layout self.now)) }
+        ensures parts { let a = primitive_layout self.now in a ≡ layouts.primitive (primitive_kind self.now) (layout_type a) (natives_of a) (validity_of a) }
     {
         each_kind!(self, array => known(array))
     }
