@@ -51,7 +51,8 @@ fn list_of_items<'a>(
     requires kind { physical_type (type_of data_type.now) ≡ physical.List }
     requires item { item_type (type_of data_type.now) ≡ Some (layout_type (layout_of items)) }
     requires valid { ValidityFits rows.validity (count_rows rows.offsets) }
-    ensures { ReturnsOrRunsOut (λ x. (x.0, rest_of x.1)) result (list_over false (type_of data_type.now) (record { offsets = rows.offsets; validity = rows.validity }) (layout_of items, rest_of cursor.entry)) }
+    ensures { let t = type_of data_type.now in
+        ReturnsOrRunsOut (λ x. (x.0, rest_of x.1)) result (list_over false t (record { offsets = rows.offsets; validity = rows.validity }) (layout_of items, rest_of cursor.entry)) }
 {
     if rows.offsets.last() > items.len() {
         drop(items);
@@ -84,7 +85,8 @@ fn large_list_of_items<'a>(
     requires kind { physical_type (type_of data_type.now) ≡ physical.LargeList }
     requires item { item_type (type_of data_type.now) ≡ Some (layout_type (layout_of items)) }
     requires valid { ValidityFits rows.validity (count_rows rows.offsets) }
-    ensures { ReturnsOrRunsOut (λ x. (x.0, rest_of x.1)) result (list_over true (type_of data_type.now) (record { offsets = rows.offsets; validity = rows.validity }) (layout_of items, rest_of cursor.entry)) }
+    ensures { let t = type_of data_type.now in
+        ReturnsOrRunsOut (λ x. (x.0, rest_of x.1)) result (list_over true t (record { offsets = rows.offsets; validity = rows.validity }) (layout_of items, rest_of cursor.entry)) }
 {
     if rows.offsets.last() > items.len() {
         drop(items);

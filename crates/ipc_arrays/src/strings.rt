@@ -134,7 +134,8 @@ fn read_strings<'a, O: FixedWidthOffset>(
     body: &'a [u8],
     cursor: BatchCursor<'a>,
 ) -> Result<BinaryParts<'a, O>, IpcReadError>
-    ensures read { ReturnsOrRunsOut (λ x. (record { offsets = x.offsets; bytes = x.bytes; validity = x.validity }, rest_of x.cursor)) result (decoded_binary_parts O.IS_LARGE counts body.now (rest_of cursor.entry)) }
+    ensures read { let decoded = decoded_binary_parts O.IS_LARGE counts body.now (rest_of cursor.entry) in
+        ReturnsOrRunsOut (λ x. (record { offsets = x.offsets; bytes = x.bytes; validity = x.validity }, rest_of x.cursor)) result decoded }
     ensures slots { IfOk result (λ x. (count_rows x.offsets ≡ counts.slots) × (ValidityFits x.validity counts.slots)) }
     ensures within { IfOk result (λ x. last_of x.offsets ≤ length x.bytes) }
 {

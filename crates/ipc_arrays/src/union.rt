@@ -169,7 +169,8 @@ fn read_union_parts<'a>(
     cursor: BatchCursor<'a>,
 ) -> Result<(UnionParts, BatchCursor<'a>), IpcReadError>
     requires { are_type_ids (type_ids ids.now) fields ≡ true }
-    ensures { ReturnsOrRunsOut (λ x. (record { types = x.0.types; offsets = x.0.offsets }, rest_of x.1)) result (decoded_union_parts mode (type_ids ids.now) fields counts body.now (rest_of cursor.entry)) }
+    ensures { let decoded = decoded_union_parts mode (type_ids ids.now) fields counts body.now (rest_of cursor.entry) in
+        ReturnsOrRunsOut (λ x. (record { types = x.0.types; offsets = x.0.offsets }, rest_of x.1)) result decoded }
 {
     let (bytes, cursor) = next_buffer(body, cursor)?;
     let types = read_types(alloc, ids, fields, counts.slots, bytes)?;
@@ -206,7 +207,8 @@ fn union_of_children<'a>(
     cursor: BatchCursor<'a>,
 ) -> Result<(UnionArray, BatchCursor<'a>), IpcReadError>
     requires { PassesUnionChecks (type_of data_type.now) parts.types (layouts_of children.items) parts.offsets }
-    ensures { ReturnsOrRunsOut (λ x. (x.0, rest_of x.1)) result (union_of (type_of data_type.now) (record { types = parts.types; offsets = parts.offsets }) (layouts_of children.items, rest_of cursor.entry)) }
+    ensures { let t = type_of data_type.now in
+        ReturnsOrRunsOut (λ x. (x.0, rest_of x.1)) result (union_of t (record { types = parts.types; offsets = parts.offsets }) (layouts_of children.items, rest_of cursor.entry)) }
 {
     match data_type.clone(alloc) {
         Err(_) => {

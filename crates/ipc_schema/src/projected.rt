@@ -109,7 +109,8 @@ fn projected_fields_at(
     requires made { IsColumnSet column_set.now }
     requires length { length bytes.now < 2 ^ 32 }
     requires within { items.first + items.count * 4 ≤ length bytes.now }
-    ensures { ReturnsOrRunsOut (λ x. (fields_model_of x.0, progress_of x.1 seen.new)) result (spec_projected_fields_at (columns_of column_set.now) bytes.now 0 items.count items.first (progress_of left seen.old)) }
+    ensures { let fields = spec_projected_fields_at (columns_of column_set.now) bytes.now 0 items.count items.first (progress_of left seen.old) in
+        ReturnsOrRunsOut (λ x. (fields_model_of x.0, progress_of x.1 seen.new)) result fields }
 {
     let mut parts = Parts {
         steps: Vec::new(alloc),

@@ -88,7 +88,8 @@ fn field_with(
     keys: Keys,
     seen: &mut DictionaryTypes,
 ) -> Result<Field, IpcReadError>
-    ensures { ReturnsOrRunsOut (λ x. (field_of x, types_of seen.new)) result (field_of_keys name.now is_nullable (entries_of metadata.entries) keys (types_of seen.old) (completed_type shape.entry fields)) }
+    ensures { let completed = completed_type shape.entry fields in
+        ReturnsOrRunsOut (λ x. (field_of x, types_of seen.new)) result (field_of_keys name.now is_nullable (entries_of metadata.entries) keys (types_of seen.old) completed) }
 {
     let values = with_children(alloc, shape, fields)?;
     record_values(alloc, seen, keys.dictionary, &values, keys.before)?;
@@ -168,7 +169,8 @@ fn fields_at(
 ) -> Result<(Vec<Field>, usize), IpcReadError>
     requires length { length bytes.now < 2 ^ 32 }
     requires within { items.first + items.count * 4 ≤ length bytes.now }
-    ensures { ReturnsOrRunsOut (λ x. (map field_of x.0.items, progress_of x.1 seen.new)) result (tables_in_turn (spec_field_at depth bytes.now) bytes.now items.count items.first (progress_of left seen.old)) }
+    ensures { let fields = tables_in_turn (spec_field_at depth bytes.now) bytes.now items.count items.first (progress_of left seen.old) in
+        ReturnsOrRunsOut (λ x. (map field_of x.0.items, progress_of x.1 seen.new)) result fields }
 {
     let mut fields = Vec::new(alloc);
     let mut rest = left;
