@@ -1,38 +1,30 @@
 #!/usr/bin/env python3
 """Checks that the code and the output that docs/GUIDE.md, docs/CLI.md and README.md quote are in the repository, word for word.
 
+    scripts/check_quotes.py [--write]               checks the quotes; --write replaces those that differ
+    scripts/check_quotes.py --run PROGRAM FOLDER    runs the commands that the pages show, in FOLDER, which has the files that they name
+
 The line before a quote is a comment that names its source:
 
     <!-- crates/x/src/y.rt: a b -->    the items `a` and `b` of that file, with their comments
     <!-- crates/x/src/y.rt -->         of a Rust block: the whole file; of any other: consecutive lines of it
 
-A Rust block without such a line is an error. A console block needs none: scripts/try_nest.sh or scripts/try_listcut.sh must expect each
-of its commands, with this output or error message, where FILES gives their files other names. Usage is quoted as an indented block: each of
-its lines that begins with `nest` must be in the `--help` text. Run it at the top of the repository; `--write` replaces quotes that differ."""
+A Rust block without such a line is an error. A console block needs none: each of its commands has to call a program of PROGRAMS, whose
+script runs it by --run, and to write exactly what the block shows. Usage is quoted as an indented block: each of its lines that begins
+with `nest` must be in the `--help` text. Run it at the top of the repository."""
 import difflib
-import itertools
+import os
 import re
 import shlex
-import string
+import subprocess
 import sys
 
 PAGES = ["docs/GUIDE.md", "docs/CLI.md", "README.md"]
-# The names that the pages give to the files of scripts/try_nest.sh.
-FILES = {
-    "file": "table.arrow",
-    "stream": "table.arrows",
-    "packed": "packed.arrows",
-    "shorter": "shorter.arrows",
-    "unmarked": "invalid.arrows",
-    "parts": "parts.arrows",
-    "both": "both.arrow",
-    "made": "made.arrow",
-    "lines": "rows.json",
-    "past": "invalid.json",
-    "as": "out.arrow",
-}
+# The programs that the pages call, and the script that runs these calls.
+PROGRAMS = {"nest": "scripts/try_nest.sh", "listcut": "scripts/try_listcut.sh"}
 BLOCK = re.compile(r"(?P<before>[^\n]*)\n```(?P<language>\w+)\n(?P<text>.*?)```", re.S)
 NOTE = re.compile(r"<!-- (?P<file>[^ :]+)(?::(?P<items>[^>]*))? -->$")
+COMMAND = re.compile(r"^\$ (.*)\n((?:(?!\$ ).*\n)*)", re.M)
 HEAD = r"^(?:pub )?(?:fn|type|struct|enum|trait|const|abbrev pub) {}\b"
 
 
@@ -72,41 +64,22 @@ def expected(note, language, text):
     raise LookupError("has no such consecutive lines")
 
 
-def expected_runs(script):
-    """Yields the arguments and the output of each call of `expect` in a script, for all values that it gives to its variables."""
-    values = {}
-    named = re.sub(r"\$room/([\w.]+)", lambda it: FILES.get(it[1], it[1]), read(script))
-    for line in named.split("\n"):
-        if found := re.match(r" *for (\w+) in (.*); do$|(\w+)=([^\s$(]\S*|'[^']*'|\"[^\"]*\")$", line):
-            values.setdefault(found[1] or found[3], []).extend(shlex.split(found[2] or found[4]))
-        if not re.match(r" *expect \S", line):
-            continue
-        names = [it for it in values if re.search(rf"\${it}\b", line)]
-        for chosen in itertools.product(*(values[it] for it in names)):
-            inner = dict(zip(names, chosen))
-            words = [string.Template(it).safe_substitute(inner) for it in shlex.split(line)[1:]]
-            words = [string.Template(it).safe_substitute(inner) for it in words]
-            given = [] if script.endswith("nest.sh") else ["printf", words.pop(0), "|"]
-            message = words[2] + "\n" if words[2] else ""
-            program = "nest" if not given else "listcut"
-            yield (*given, program, *words[3:]), words[1].replace("\\n", "\n") + message
+def called(command):
+    """Returns the program of PROGRAMS that a command calls, first or after a pipe, or None."""
+    words = shlex.split(command)
+    heads = words[:1] + [word for before, word in zip(words, words[1:]) if before == "|"]
+    return next((it for it in heads if it in PROGRAMS), None)
 
 
 def console_errors(text):
-    """Returns an error message for each command of a console block that no script expects, or expects with another output."""
-    runs = [it for name in ("nest", "listcut") for it in expected_runs(f"scripts/try_{name}.sh")]
-    wrong = []
-    for command, output in re.findall(r"^\$ (.*)\n((?:(?!\$ ).*\n)*)", text, re.M):
-        outputs = {found for words, found in runs if list(words) == shlex.split(command)}
-        if output not in outputs:
-            wrong.append(f"{command}: expected by a script: {sorted(outputs) or 'not at all'}")
-    return wrong
+    """Returns an error message for each command of a console block that no script runs."""
+    return [f"no script runs this: {command}" for command, _ in COMMAND.findall(text) if not called(command)]
 
 
-def usage_errors(page):
-    """Returns an error message for each line of an indented block that begins with `nest` and is not in the `--help` text."""
-    usage = read("crates/nest/src/main.rt").split("\n")
-    return [f"{page}: not in --help: {line}" for line in re.findall(r"^    (nest .*)$", read(page), re.M) if line not in usage]
+def usage_errors(page, usage):
+    """Returns an error message for each line of an indented block that begins with `nest` and is not in the usage."""
+    lines = re.findall(r"^    (nest .*)$", read(page), re.M)
+    return [f"{page}: not in --help: {line}" for line in lines if line not in usage.split("\n")]
 
 
 def difference(page, block):
@@ -139,7 +112,7 @@ def check(page, write):
         return f"{block['before']}\n```{block['language']}\n{wanted if replaced else block['text']}```"
 
     text = BLOCK.sub(replacement, source)
-    for line in usage_errors(page):
+    for line in usage_errors(page, read("crates/nest/src/main.rt")):
         count += 1
         print(line)
     if text != source:
@@ -148,7 +121,36 @@ def check(page, write):
     return count
 
 
+def written(program, command, folder):
+    """Runs a command in a folder, with this program by its name, and returns what it writes to standard output and standard error."""
+    paths = f"{os.path.dirname(os.path.abspath(program))}{os.pathsep}{os.environ['PATH']}"
+    how = {"stdin": subprocess.DEVNULL, "stdout": subprocess.PIPE, "stderr": subprocess.STDOUT, "errors": "replace"}
+    return subprocess.run(["bash", "-c", command], cwd=folder, env=os.environ | {"PATH": paths}, **how).stdout
+
+
+def run_commands(program, folder):
+    """Runs the commands of the pages that call a program, page by page. Prints those that write something else, and returns their number."""
+    name, count, wrong = os.path.basename(program), 0, []
+    for page in PAGES:
+        blocks = [it["text"] for it in BLOCK.finditer(read(page)) if it["language"] == "console"]
+        for command, output in (it for text in blocks for it in COMMAND.findall(text) if called(it[0]) == name):
+            count += 1
+            wrote = written(program, command, folder)
+            if wrote != output:
+                lines = difflib.unified_diff(output.split("\n"), wrote.split("\n"), page, program, lineterm="")
+                wrong.append("\n".join([f"{page}: {command}", *lines]))
+        if name == "nest":
+            wrong += usage_errors(page, written(program, f"{name} --help", folder))
+    if not count:
+        wrong.append(f"no page has a command that calls {name}")
+    if wrong:
+        print(*wrong, sep="\n")
+    return len(wrong)
+
+
 def main():
+    if sys.argv[1:2] == ["--run"] and len(sys.argv) == 4:
+        sys.exit(1 if run_commands(*sys.argv[2:]) else 0)
     count = sum(check(page, "--write" in sys.argv[1:]) for page in PAGES)
     print(f"{count} quotes differ")
     sys.exit(1 if count else 0)

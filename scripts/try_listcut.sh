@@ -1,9 +1,9 @@
 #!/usr/bin/env bash
 # Tests `listcut` from a shell: its output, its error message and its exit status.
 # Usage, at the top of the repository, after `scripts/prove` has left the programs in out/bin:
-#     bash scripts/try_listcut.sh        prints a line for each run that differs, and fails then
+#     bash scripts/try_listcut.sh [PROGRAM]  prints a line for each run that differs, and fails then
 set -u
-program=out/bin/listcut
+program=${1:-out/bin/listcut}
 rows='[1,2]\nnull\n[]\n[3,null]\n'
 failed=0
 
@@ -41,4 +41,7 @@ message=$("$program" 0 0 2>&1 <&-)
 [ "$? $message" = '1 listcut: input' ] || { echo "listcut with a closed input: $message"; failed=1; }
 message=$(printf "$rows" | "$program" 0 4 2>&1 >/dev/full)
 [ "$? $message" = '1 listcut: output' ] || { echo "listcut to a full disk: $message"; failed=1; }
+
+# The commands that the pages show.
+python3 scripts/check_quotes.py --run "$program" . || failed=1
 exit $failed

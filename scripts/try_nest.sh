@@ -1,9 +1,9 @@
 #!/usr/bin/env bash
 # Runs the built program and compares its output, its error message and its exit status.
 # Usage, at the top of the repository, after `scripts/prove` has left the programs in out/bin:
-#     bash scripts/try_nest.sh           prints a line for each difference, and fails if there is one
+#     bash scripts/try_nest.sh [PROGRAM]     prints a line for each difference, and fails if there is one
 set -u
-program=out/bin/nest
+program=${1:-out/bin/nest}
 room=$(mktemp -d)
 trap 'rm -rf "$room"' EXIT
 failed=0
@@ -340,4 +340,16 @@ said=$("$program" rows - 2>&1 <&-)
 [ "$? $said" = '1 nest: -: input cannot be read' ] || { echo "nest with no input: $said"; failed=1; }
 said=$("$program" rows "$room/file" 2>&1 >/dev/full)
 [ "$? $said" = "1 nest: $room/file: record batch 0: output cannot be written" ] || { echo "nest to a full device: $said"; failed=1; }
+
+# The commands that the pages show, in a folder with the files that they name.
+pages=$room/pages
+mkdir "$pages"
+cp "$room/file" "$pages/table.arrow"
+cp "$room/parts" "$pages/parts.arrows"
+cp "$room/shorter" "$pages/shorter.arrows"
+cp "$room/unmarked" "$pages/invalid.arrows"
+cp "$room/packed" "$pages/packed.arrows"
+cp "$room/lines" "$pages/rows.json"
+printf '{"a":1}\n{"a":2147483648}\n' >"$pages/invalid.json"
+python3 scripts/check_quotes.py --run "$program" "$pages" || failed=1
 exit $failed
