@@ -98,9 +98,14 @@ def samples_of(folder):
     samples = []
     for file in sorted(it for it in os.listdir(folder) if not it.endswith(".txt")):
         name = file.partition(".")[0]
-        text = read(f"{folder}/{name}.txt").replace("\\", "\\\\").replace('"', '\\"').replace("\n", "\\n")
-        samples.append(f'Sample {{ name: "{name}", bytes: {bytes_of(f"{folder}/{file}")}, text: "{text}" }}')
+        samples.append(f'Sample {{ name: "{name}", bytes: {bytes_of(f"{folder}/{file}")}, text: {literal(read(f"{folder}/{name}.txt"))} }}')
     return f"[{', '.join(samples)}]"
+
+
+def literal(text):
+    """A string literal of the text."""
+    escaped = text.replace("\\", "\\\\").replace('"', '\\"')
+    return '"' + "".join(it if it.isprintable() else f"\\u{{{ord(it):x}}}" for it in escaped) + '"'
 
 
 def bytes_of(path):
