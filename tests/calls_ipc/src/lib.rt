@@ -22,6 +22,7 @@ mod files;
 mod flat_read;
 mod flat_written;
 mod hostile;
+mod layouts;
 mod nested_read;
 mod nested_written;
 mod projections;
