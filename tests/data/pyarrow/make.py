@@ -363,13 +363,27 @@ def zero_lengths():
     """Columns of length 0 whose first offset is not 0."""
     small, large = numbers(4, 2), numbers(8, 2)
     item, entry = pa.array([1, 2, 3], pa.int8()), pa.StructArray.from_arrays([pa.array(["a", "b"]), pa.array([1, 2])], fields=[pa.field("key", pa.string(), False), pa.field("value", pa.int64())])
+    strings = pa.Array.from_buffers(pa.string(), 0, [None, small, pa.py_buffer(b"abcd")])
     return joined(
-        column("string", pa.Array.from_buffers(pa.string(), 0, [None, small, pa.py_buffer(b"abcd")])),
+        column("string", strings),
         column("binary", pa.Array.from_buffers(pa.binary(), 0, [None, small, pa.py_buffer(b"abcd")])),
         column("large", pa.Array.from_buffers(pa.large_string(), 0, [None, large, pa.py_buffer(b"abcd")])),
         column("list", pa.Array.from_buffers(pa.list_(pa.int8()), 0, [None, small], children=[item])),
         column("large_list", pa.Array.from_buffers(pa.large_list(pa.int8()), 0, [None, large], children=[item])),
         column("map", pa.Array.from_buffers(pa.map_(pa.string(), pa.int64()), 0, [None, small], children=[entry])),
+        column("record", pa.StructArray.from_arrays([strings], ["inner"])),
+        column("pair", pa.FixedSizeListArray.from_arrays(strings, 2)),
+    )
+
+
+def no_offsets():
+    """Columns of length 0 whose offsets have no bytes."""
+    none, items = pa.py_buffer(b""), pa.array([], pa.int8())
+    return joined(
+        column("string", pa.Array.from_buffers(pa.string(), 0, [None, none, none])),
+        column("large", pa.Array.from_buffers(pa.large_binary(), 0, [None, none, none])),
+        column("list", pa.Array.from_buffers(pa.list_(pa.int8()), 0, [None, none], children=[items])),
+        column("large_list", pa.Array.from_buffers(pa.large_list(pa.int8()), 0, [None, none], children=[items])),
     )
 
 
@@ -526,7 +540,7 @@ def write_layouts(folder):
     folder.sample("sliced_floats", floats().slice(5, 4))
     folder.sample("sliced_views", views().slice(2, 4))
     folder.sample("sliced_times", joined(times(), zones_of_four()).slice(1, 2))
-    for make in (zero_lengths, zero_lengths_inside, null_over_bytes, null_over_bytes_inside, nulls_over_values, unreached_items, names):
+    for make in (zero_lengths, zero_lengths_inside, no_offsets, null_over_bytes, null_over_bytes_inside, nulls_over_values, unreached_items, names):
         folder.sample(make.__name__, make())
 
 
