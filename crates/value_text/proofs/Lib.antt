@@ -1,0 +1,4 @@
+pub mod Signed
+pub mod Months
+pub mod Years
+pub mod Days

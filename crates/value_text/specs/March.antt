@@ -1,0 +1,10 @@
+-- Years that begin on 1 March, which the calendar computes with.
+use Rattle.std.specs.Prelude.{ℕ, ◌+◌, ◌-◌, ◌*◌, ◌/◌}
+
+-- the days of the first `n` of them from the year 0 on
+abbrev pub march_days : ℕ → ℕ
+march_days n = 365 * n + n / 4 - n / 100 + n / 400
+
+-- the days from 1 March to the first of a month from 3 to 14, where 13 and 14 are the next year's January and February
+abbrev pub march_months : ℕ → ℕ
+march_months m = (153 * m - 457) / 5
