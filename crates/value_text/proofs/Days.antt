@@ -44,12 +44,12 @@ date_of-is d n h e = ap date_of (sym e) ∙ date_of-day_number d h
 
 -- ---- by years that begin in March
 
-number_late : (d : Date) (q : ℤ) (a : ℕ) → IsYearOf d.year q a → 3 ≤ d.month → d.month ≤ 12 → 1 ≤ d.day → day_number d ≡ q *ℤ pos 146_097 +ℤ pos (march_days a + march_months d.month + d.day) -ℤ pos 719_469
+pub number_late : (d : Date) (q : ℤ) (a : ℕ) → IsYearOf d.year q a → 3 ≤ d.month → d.month ≤ 12 → 1 ≤ d.day → day_number d ≡ q *ℤ pos 146_097 +ℤ pos (march_days a + march_months d.month + d.day) -ℤ pos 719_469
 number_late d q a e low high first =
     let leap : extra (is_leap_year d.year) ≡ extra (is_leap_year (pos a)) = ap extra (leap-cycle d.year q a e) in
     omega (arith, signed, day_number-parts d, first_day-is d.year q a e, days_of_months-late (is_leap_year d.year) d.month low high, days_of_years-late a)
 
-number_early : (d : Date) (q : ℤ) (a : ℕ) → IsYearOf d.year q (suc a) → 1 ≤ d.month → d.month ≤ 2 → 1 ≤ d.day → day_number d ≡ q *ℤ pos 146_097 +ℤ pos (march_days a + march_months (d.month + 12) + d.day) -ℤ pos 719_469
+pub number_early : (d : Date) (q : ℤ) (a : ℕ) → IsYearOf d.year q (suc a) → 1 ≤ d.month → d.month ≤ 2 → 1 ≤ d.day → day_number d ≡ q *ℤ pos 146_097 +ℤ pos (march_days a + march_months (d.month + 12) + d.day) -ℤ pos 719_469
 number_early d q a e low high first =
     omega (arith, signed, day_number-parts d, first_day-is d.year q (suc a) e, days_of_months-early (is_leap_year d.year) d.month low high, days_of_years-early a)
 

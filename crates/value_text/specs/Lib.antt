@@ -1,3 +1,6 @@
 -- Definitions that the contracts of this crate cite.
 pub mod Calendar
 pub mod March
+pub mod Digits
+pub mod Decimals
+pub mod Times

@@ -1,7 +1,8 @@
 //! Dates of the proleptic Gregorian calendar and the numbers of their days.
-ghost use Rattle.std.specs.Prelude.{◌≡◌, ◌+◌, ◌^◌, ◌<◌, ◌≤◌, ◌+ℤ◌, ◌*ℤ◌, ◌≤ℤ◌, negsuc, pos};
-ghost use Rattle.value_text.specs.Calendar.{IsDate, date_of};
-ghost use Rattle.value_text.specs.March.{march_days};
+ghost use Rattle.std.specs.Prelude.{◌≡◌, ◌↔◌, ◌+◌, ◌^◌, ◌<◌, ◌≤◌, ◌+ℤ◌, ◌*ℤ◌, ◌≤ℤ◌, IsTrue, negsuc, pos, unsigned_abs};
+ghost use Rattle.std.specs.Int.{int_div_euclid, int_rem_euclid};
+ghost use Rattle.value_text.specs.Calendar.{IsDate, date_of, day_number, days_in_month, is_leap_year};
+ghost use Rattle.value_text.specs.March.{march_day_number, march_days, march_months};
 
 /// A date: a year, a month from 1 and a day of the month from 1.
 #[derive(Clone, Copy, Debug, PartialEq, Eq)]
@@ -64,4 +65,72 @@ fn march_year(days: u32) -> (u32, u32)
     let century = scaled / 146_097;
     let in_century = scaled % 146_097 / 4 * 4 + 3;
     (100 * century + in_century / 1461, in_century % 1461 / 4)
+}
+
+/// Returns the number of the day of a date, counted from 1970-01-01.
+pub fn day_of_date(date: Date) -> i64
+    requires exists { IsDate date }
+    requires year { unsigned_abs date.year < 10 ^ 15 }
+    ensures { result ≡ day_number date }
+{
+    if date.month > 2 {
+        march_number(date.year, date.month, date.day)
+    } else {
+        march_number(date.year - 1, date.month + 12, date.day)
+    }
+}
+
+/// Returns the number of a day of a year that begins in March and has the months 3 to 14.
+fn march_number(year: i64, month: u8, day: u8) -> i64
+    requires year { unsigned_abs year ≤ 10 ^ 15 }
+    requires month { (3 ≤ month) × (month ≤ 14) }
+    requires day { day ≤ 31 }
+    ensures { result ≡ march_day_number (int_div_euclid year (pos 400)) (unsigned_abs (int_rem_euclid year (pos 400))) month day }
+{
+    let cycle = year.div_euclid(400);
+    let years = year.rem_euclid(400) as u32;
+    cycle * CYCLE + days_from_march(years, month, day) as i64 - 719_469
+}
+
+/// Returns the days from 1 March of a year 0 to a day of one of the next 400 years that begin in March, counting both.
+fn days_from_march(years: u32, month: u8, day: u8) -> u32
+    requires years { years < 400 }
+    requires month { (3 ≤ month) × (month ≤ 14) }
+    requires day { day ≤ 31 }
+    ensures value { result ≡ march_days years + march_months month + day }
+    ensures bound { result < 200_000 }
+{
+    let months = (153 * month as u32 - 457) / 5;
+    365 * years + years / 4 - years / 100 + months + day as u32
+}
+
+impl Date {
+    /// Returns whether the calendar has this date.
+    pub fn exists(self) -> bool
+        ensures { IsTrue result ↔ IsDate self }
+    {
+        1 <= self.month
+            && self.month <= 12
+            && 1 <= self.day
+            && self.day <= month_length(has_leap_day(self.year), self.month)
+    }
+}
+
+/// Returns whether a year has a 29 February.
+fn has_leap_day(year: i64) -> bool
+    ensures { result ≡ is_leap_year year }
+{
+    let years = year.unsigned_abs();
+    years % 4 == 0 && (years % 100 != 0 || years % 400 == 0)
+}
+
+/// Returns the number of days of a month.
+fn month_length(leap: bool, month: u8) -> u8
+    ensures { result ≡ days_in_month leap month }
+{
+    match month {
+        2 => { if leap { 29 } else { 28 } }
+        4 | 6 | 9 | 11 => 30,
+        _ => 31,
+    }
 }
