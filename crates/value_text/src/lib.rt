@@ -1,4 +1,4 @@
-//! Texts of single values, as people and tools read them: dates, times, timestamps, durations, intervals, decimals and floats.
+//! Texts of single values, as people and tools read them: dates, times, timestamps, durations, intervals and decimals.
 #![tactic(auto)]
 
 pub mod calendar;
