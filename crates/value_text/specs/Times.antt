@@ -6,8 +6,8 @@ use Rattle.value_text.specs.Calendar.{date_of}
 use Rattle.value_text.specs.Decimals.{decimal_text}
 use Rattle.value_text.specs.Digits.{integer_text, last_digits, at_least, fraction_text}
 use Rattle.value_text.specs.declared.calendar.Date.{Date}
-use Rattle.value_text.specs.declared.unit.TimeUnit.{TimeUnit}
-use Rattle.value_text.specs.declared.unit.TimeUnit.TheVariants.{Second, Millisecond, Microsecond, Nanosecond}
+use Rattle.nest_memory.specs.declared.datatypes.TimeUnit.{TimeUnit}
+use Rattle.nest_memory.specs.declared.datatypes.TimeUnit.TheVariants.{Second, Millisecond, Microsecond, Nanosecond}
 
 -- the digits of a second after the point
 abbrev pub unit_digits : TimeUnit → ℕ

@@ -5,7 +5,8 @@ ghost use Rattle.value_text.specs.Times.{days_ms_text, days_text, duration_text,
 
 use crate::decimals::write_decimal;
 use crate::digits::write_integer;
-use crate::unit::TimeUnit;
+use crate::unit::digits;
+use nest_memory::datatypes::TimeUnit;
 use std::fmt;
 use std::fmt::Formatter;
 
@@ -18,7 +19,7 @@ pub fn write_duration<W: fmt::Write>(
     ensures { WritesOnOk W.write_str_gives f.old result (duration_text (unit_digits unit) value) f.new }
 {
     f.write_str("PT")?;
-    write_decimal(f, i128::from(value), unit.digits() as usize)?;
+    write_decimal(f, i128::from(value), digits(unit) as usize)?;
     f.write_str("S")
 }
 
@@ -69,6 +70,6 @@ fn write_days<W: fmt::Write>(
 {
     write_integer(f, i64::from(days))?;
     f.write_str("DT")?;
-    write_decimal(f, i128::from(value), unit.digits() as usize)?;
+    write_decimal(f, i128::from(value), digits(unit) as usize)?;
     f.write_str("S")
 }

@@ -8,10 +8,9 @@ mod digits;
 pub mod durations;
 pub mod time_laws;
 pub mod times;
-pub mod unit;
+mod unit;
 
 pub use calendar::Date;
 pub use decimals::{write_decimal, write_decimal_digits};
 pub use durations::{write_days_ms, write_duration, write_month_day_nano, write_months};
 pub use times::{is_time, write_date, write_millisecond_date, write_time, write_timestamp};
-pub use unit::TimeUnit;

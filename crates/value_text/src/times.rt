@@ -6,7 +6,8 @@ ghost use Rattle.value_text.specs.Times.{calendar_text, clock_text, date_text, i
 
 use crate::calendar::{Date, date_of_day};
 use crate::digits::{write_fraction, write_integer, write_last_digits, write_six_digits};
-use crate::unit::TimeUnit;
+use crate::unit::{digits, split};
+use nest_memory::datatypes::TimeUnit;
 use std::fmt;
 use std::fmt::Formatter;
 
@@ -57,14 +58,14 @@ fn write_clock<W: fmt::Write>(
     write_last_digits(f, 2, u64::from(second / 60 % 60))?;
     f.write_char(':')?;
     write_last_digits(f, 2, u64::from(second % 60))?;
-    write_fraction(f, unit.digits(), u64::from(fraction))
+    write_fraction(f, digits(unit), u64::from(fraction))
 }
 
 /// Writes a time of day, in units since midnight, as `12:34:56.789` with the digits of the unit. A value outside of a day is written as a number.
 pub fn write_time<W: fmt::Write>(f: &mut Formatter<W>, unit: TimeUnit, value: i64) -> fmt::Result
     ensures { WritesOnOk W.write_str_gives f.old result (time_text (unit_digits unit) value) f.new }
 {
-    let (seconds, fraction) = unit.split(value);
+    let (seconds, fraction) = split(unit, value);
     if 0 <= seconds && seconds < SECONDS_PER_DAY {
         write_clock(f, unit, seconds as u32, fraction)
     } else {
@@ -76,7 +77,7 @@ pub fn write_time<W: fmt::Write>(f: &mut Formatter<W>, unit: TimeUnit, value: i6
 pub fn is_time(unit: TimeUnit, value: i64) -> bool
     ensures { result ≡ is_time_of_day (unit_digits unit) value }
 {
-    let (seconds, _) = unit.split(value);
+    let (seconds, _) = split(unit, value);
     0 <= seconds && seconds < SECONDS_PER_DAY
 }
 
@@ -91,7 +92,7 @@ pub fn write_timestamp<W: fmt::Write>(
 ) -> fmt::Result
     ensures { WritesOnOk W.write_str_gives f.old result (timestamp_text (unit_digits unit) utc value) f.new }
 {
-    let (seconds, fraction) = unit.split(value);
+    let (seconds, fraction) = split(unit, value);
     let (day, second) = split_days(seconds);
     write_date(f, day)?;
     f.write_char('T')?;

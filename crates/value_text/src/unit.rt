@@ -3,45 +3,36 @@ ghost use Rattle.std.specs.Prelude.{◌≡◌, ◌≤◌};
 ghost use Rattle.std.specs.Fmt.{WritesOnOk};
 ghost use Rattle.value_text.specs.Times.{subseconds, unit_digits, whole_seconds};
 
-/// The unit that a time, a timestamp or a duration counts.
-#[derive(Clone, Copy, Debug, PartialEq, Eq)]
-pub enum TimeUnit {
-    Second,
-    Millisecond,
-    Microsecond,
-    Nanosecond,
+use nest_memory::datatypes::TimeUnit;
+
+/// Returns the number of digits of a second after the point.
+pub(crate) fn digits(unit: TimeUnit) -> u32
+    ensures value { result ≡ unit_digits unit }
+    ensures bound { result ≤ 9 }
+{
+    match unit {
+        TimeUnit::Second => 0,
+        TimeUnit::Millisecond => 3,
+        TimeUnit::Microsecond => 6,
+        TimeUnit::Nanosecond => 9,
+    }
 }
 
-impl TimeUnit {
-    /// Returns the number of digits of a second after the point.
-    pub fn digits(self) -> u32
-        ensures value { result ≡ unit_digits self }
-        ensures bound { result ≤ 9 }
-    {
-        match self {
-            TimeUnit::Second => 0,
-            TimeUnit::Millisecond => 3,
-            TimeUnit::Microsecond => 6,
-            TimeUnit::Nanosecond => 9,
-        }
-    }
-
-    /// Splits a number of units into whole seconds, rounded down, and the units after them.
-    pub(crate) fn split(self, value: i64) -> (i64, u32)
-        ensures seconds { result.0 ≡ whole_seconds (unit_digits self) value }
-        ensures fraction { result.1 ≡ subseconds (unit_digits self) value }
-    {
-        match self {
-            TimeUnit::Second => (value, 0),
-            TimeUnit::Millisecond => (value.div_euclid(1_000), value.rem_euclid(1_000) as u32),
-            TimeUnit::Microsecond => (
-                value.div_euclid(1_000_000),
-                value.rem_euclid(1_000_000) as u32,
-            ),
-            TimeUnit::Nanosecond => (
-                value.div_euclid(1_000_000_000),
-                value.rem_euclid(1_000_000_000) as u32,
-            ),
-        }
+/// Splits a number of units into whole seconds, rounded down, and the units after them.
+pub(crate) fn split(unit: TimeUnit, value: i64) -> (i64, u32)
+    ensures seconds { result.0 ≡ whole_seconds (unit_digits unit) value }
+    ensures fraction { result.1 ≡ subseconds (unit_digits unit) value }
+{
+    match unit {
+        TimeUnit::Second => (value, 0),
+        TimeUnit::Millisecond => (value.div_euclid(1_000), value.rem_euclid(1_000) as u32),
+        TimeUnit::Microsecond => (
+            value.div_euclid(1_000_000),
+            value.rem_euclid(1_000_000) as u32,
+        ),
+        TimeUnit::Nanosecond => (
+            value.div_euclid(1_000_000_000),
+            value.rem_euclid(1_000_000_000) as u32,
+        ),
     }
 }
