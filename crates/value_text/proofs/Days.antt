@@ -1,5 +1,5 @@
 -- Dates and the numbers of their days.
-use Rattle.std.proofs.Common.{◌≡◌, ℕ, zero, suc, ◌+◌, ◌-◌, ◌*◌, ◌/◌, ◌%◌, ◌<◌, ◌≤◌, Bool, true, false, cond, nat_le, refl, sym, ap, ◌∙◌, subst, arith, ℤ, pos, negsuc, ◌+ℤ◌, ◌-ℤ◌, ◌*ℤ◌, unsigned_abs}
+use Rattle.std.proofs.Common.{◌≡◌, ℕ, suc, ◌+◌, ◌-◌, ◌*◌, ◌/◌, ◌%◌, ◌<◌, ◌≤◌, true, false, cond, nat_le, refl, sym, ap, ◌∙◌, arith, ℤ, pos, ◌+ℤ◌, ◌-ℤ◌, ◌*ℤ◌, unsigned_abs}
 use Rattle.std.proofs.lemmas.Bool.Decides.{nat_tests}
 use Rattle.std.specs.Int.{int_div_euclid, int_rem_euclid}
 use Rattle.value_text.specs.Calendar.{is_leap_year, days_in_year, days_in_month, days_of_months, first_day, IsDate, day_number, year_of, month_of, date_in_year, date_of, next_date}
@@ -8,7 +8,6 @@ use Rattle.value_text.specs.declared.calendar.Date.{Date}
 use Rattle.value_text.proofs.Signed.{signed}
 use Rattle.value_text.proofs.Months.{extra, days_of_months-next, days_of_months-all, days_of_months-none, days_of_months-early, days_of_months-late, days_of_months-mono, month_and_day, day_in_month, day_in_early_month, month_is}
 use Rattle.value_text.proofs.Years.{IsYearOf, leap-cycle, days_in_year-extra, march_days-next, days_of_years-late, days_of_years-early, first_day-is, first_day-next, year_is}
-use borrow.Author.Differences.{up, down}
 
 pub day_number-parts : (d : Date) → day_number d ≡ first_day d.year +ℤ pos (days_of_months (is_leap_year d.year) (d.month - 1) + d.day - 1)
 unfolding day_number

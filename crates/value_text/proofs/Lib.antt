@@ -5,3 +5,6 @@ pub mod Days
 pub mod DigitFacts
 pub mod DecimalFacts
 pub mod TimeFacts
+pub mod ReadingFacts
+pub mod TimeReadingFacts
+pub mod TimeResults

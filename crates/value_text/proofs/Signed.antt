@@ -1,5 +1,5 @@
 -- Signed numbers for `omega`, which reads `z` as `up z - down z`: division that rounds down, and the sets of lemmas to list.
-use Rattle.std.proofs.Common.{◌≡◌, ℕ, ◌+◌, ◌-◌, ◌*◌, ◌^◌, ◌<◌, ◌≤◌, ℤ, pos, negsuc, refl, arith, FitsSigned, to_z, of_z, unsigned_abs}
+use Rattle.std.proofs.Common.{◌≡◌, ℕ, ◌+◌, ◌*◌, ◌^◌, ◌<◌, ◌≤◌, ℤ, pos, negsuc, arith, FitsSigned, to_z, of_z, unsigned_abs}
 use Rattle.std.specs.Int.{Width, int_div_euclid, int_rem_euclid}
 use borrow.Author.Differences.{up, down, fits_out, same_out, Apart-out, lt_T, le_T, lt_not, le_not, lt-true, lt-false, le-true, le-false, true-lt, false-lt, true-le, false-le, not_negative_out, lt_out, le_out, fits_in, same_in, lt_in, le_in, below_in, at_most_in, not_negative_in, sum_is_lem, neg_is, product_is, back_is, small_is}
 use mir.Val.{hbits}

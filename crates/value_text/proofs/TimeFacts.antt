@@ -1,7 +1,7 @@
 -- Two values of one text are one value.
-use Rattle.std.proofs.Common.{◌≡◌, ℕ, zero, suc, ◌+◌, ◌-◌, ◌*◌, ◌/◌, ◌%◌, ◌^◌, ◌<◌, ◌≤◌, inl, inr, Bool, true, false, cond, nat_eq, nat_lt, List, [], ◌∷◌, ◌++◌, length, get_or, take, drop, refl, sym, ap, ◌∙◌, subst, arith, append_assoc, length-append, ℤ, pos, negsuc, int_lt, unsigned_abs, codes, not, ◌&&◌}
+use Rattle.std.proofs.Common.{◌≡◌, ℕ, zero, suc, ◌+◌, ◌*◌, ◌/◌, ◌%◌, ◌^◌, ◌<◌, ◌≤◌, inl, inr, Bool, true, false, cond, nat_eq, nat_lt, List, [], ◌∷◌, ◌++◌, length, get_or, take, drop, refl, sym, ap, ◌∙◌, subst, arith, length-append, ℤ, pos, negsuc, int_lt, unsigned_abs, codes, not, ◌&&◌}
 use Rattle.std.proofs.Math.Seq.{take-append_seam, drop-append_seam}
-use Rattle.std.proofs.lemmas.List.{get_or_append_left, get_or-append_right, get_or_at}
+use Rattle.std.proofs.lemmas.List.{get_or_append_left, get_or_at}
 use Rattle.std.proofs.lemmas.Bool.Decides.{nat_tests, leb_tells}
 use Rattle.std.specs.Int.{int_div_euclid, int_rem_euclid}
 use Rattle.std.specs.Fmt.{sign_text}
@@ -11,8 +11,8 @@ use Rattle.value_text.specs.Decimals.{decimal_text}
 use Rattle.value_text.specs.Times.{year_text, calendar_text, date_text, whole_seconds, subseconds, clock_text, is_time_of_day, time_text, zone_text, timestamp_text, millisecond_date_text, duration_text, months_text, days_text, days_ms_text, month_day_nano_text}
 use Rattle.value_text.specs.declared.calendar.Date.{Date}
 use Rattle.value_text.proofs.Days.{date_of-exists, day_number-date_of}
-use Rattle.value_text.proofs.DigitFacts.{ten_some, length-last_digits, length-fraction, last_digits_none, last_digits_next, same_small, same_fraction, number_text_one, number_by_steps, number_first, number_injective, number_ends, same_parts}
-use Rattle.value_text.proofs.DecimalFacts.{same_from_abs, same_signed, decimal_injective}
+use Rattle.value_text.proofs.DigitFacts.{ten_some, length-last_digits, length-fraction, last_digits_none, last_digits_next, same_small, same_fraction, number_by_steps, number_first, number_injective, number_ends, same_parts}
+use Rattle.value_text.proofs.DecimalFacts.{same_from_abs, decimal_injective}
 use native.Mathlib.Nat.{div-eq_of_lt, div-add-mod'}
 use Rattle.std.proofs.lemmas.Nat.{mod_below}
 

@@ -4,3 +4,4 @@ pub mod March
 pub mod Digits
 pub mod Decimals
 pub mod Times
+pub mod Reading

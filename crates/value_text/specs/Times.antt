@@ -1,6 +1,6 @@
 -- Dates, times of day, timestamps, durations and intervals as text (ISO 8601-1:2019). Their values count units of 1 s, 10^-3 s, 10^-6 s or
 -- 10^-9 s (Arrow columnar format, Schema.fbs, `TimeUnit`), and their texts have 0, 3, 6 or 9 digits of a second after the point.
-use Rattle.std.specs.Prelude.{ℕ, ◌+◌, ◌/◌, ◌%◌, ◌^◌, ◌==◌, nat_lt, ℤ, pos, unsigned_abs, int_lt, Bool, false, not, ◌&&◌, List, [], ◌∷◌, ◌++◌, codes, if◌then◌else◌}
+use Rattle.std.specs.Prelude.{ℕ, suc, ◌+◌, ◌/◌, ◌%◌, ◌^◌, ◌==◌, nat_lt, ℤ, pos, unsigned_abs, int_lt, Bool, false, not, ◌&&◌, List, [], ◌∷◌, ◌++◌, codes, if◌then◌else◌}
 use Rattle.std.specs.Int.{int_div_euclid, int_rem_euclid}
 use Rattle.value_text.specs.Calendar.{date_of}
 use Rattle.value_text.specs.Decimals.{decimal_text}
@@ -46,6 +46,10 @@ subseconds k n = unsigned_abs (int_rem_euclid n (pos (10 ^ k)))
 abbrev pub clock_text : ℕ → ℕ → ℕ → List ℕ
 clock_text k second fraction =
     last_digits 2 (second / 3600) ++ (58 ∷ (last_digits 2 (second / 60 % 60) ++ (58 ∷ (last_digits 2 (second % 60) ++ fraction_text k fraction))))
+
+-- the length of that text
+abbrev pub clock_length : ℕ → ℕ
+clock_length k = 8 + (if k == 0 then 0 else suc k)
 
 -- from midnight to the end of the day
 abbrev pub is_time_of_day : ℕ → ℤ → Bool

@@ -1,7 +1,7 @@
 //! Units of time.
 ghost use Rattle.std.specs.Prelude.{◌≡◌, ◌≤◌};
 ghost use Rattle.std.specs.Fmt.{WritesOnOk};
-ghost use Rattle.value_text.specs.Times.{subseconds, unit_digits, whole_seconds};
+ghost use Rattle.value_text.specs.Times.{clock_length, subseconds, unit_digits, whole_seconds};
 
 use nest_memory::datatypes::TimeUnit;
 
@@ -15,6 +15,19 @@ pub(crate) fn digits(unit: TimeUnit) -> u32
         TimeUnit::Millisecond => 3,
         TimeUnit::Microsecond => 6,
         TimeUnit::Nanosecond => 9,
+    }
+}
+
+/// Returns the length of the text of a time of day.
+pub(crate) fn clock_len(unit: TimeUnit) -> usize
+    ensures value { result ≡ clock_length (unit_digits unit) }
+    ensures bound { result ≤ 18 }
+{
+    match unit {
+        TimeUnit::Second => 8,
+        TimeUnit::Millisecond => 12,
+        TimeUnit::Microsecond => 15,
+        TimeUnit::Nanosecond => 18,
     }
 }
 

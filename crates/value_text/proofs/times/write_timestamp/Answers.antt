@@ -1,4 +1,4 @@
-use Rattle.std.proofs.Common.{◌≡◌, [], ◌∷◌, ◌++◌, ap, refl, ◌∙◌, arith, rules, pos, unsigned_abs, to_z, of_z, w64, FitsSigned}
+use Rattle.std.proofs.Common.{◌≡◌, [], ◌∷◌, ◌++◌, ap, ◌∙◌, arith, rules, pos, unsigned_abs, to_z, of_z, w64, FitsSigned}
 use Rattle.std.proofs.lemmas.Grind.{common_steps, put_four}
 use Rattle.std.specs.Char.{encode_utf8}
 use Rattle.std.specs.Int.{int_div_euclid, int_rem_euclid}

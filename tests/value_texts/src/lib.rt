@@ -1,0 +1,5 @@
+//! Tests of texts of single values.
+#![tactic(auto)]
+
+#[cfg(test)]
+mod texts;
