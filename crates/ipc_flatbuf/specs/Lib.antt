@@ -12,6 +12,7 @@ pub mod VectorLoops
 pub mod Messages
 pub mod MessageBytes
 pub mod MessageLaws
+pub mod MessageExamples
 -- record batches and dictionary batches
 pub mod Batches
 pub mod VariadicBuffers

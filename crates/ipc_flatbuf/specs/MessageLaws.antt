@@ -1,12 +1,16 @@
 -- Messages round-trip.
-use Rattle.std.proofs.Common.{true, false, leb, eqb, ◌≡◌, ℕ, ◌+◌, ◌-◌, ◌*◌, ◌%◌, ◌^◌, ◌<◌, ◌≤◌, List, [], ◌∷◌, ◌++◌, length, drop, Some, None, Ok, refl, sym, append_assoc, arith}
-use Rattle.std.specs.Prelude.{pos}
+use Rattle.std.proofs.Common.{Bool, true, false, leb, eqb, ◌≡◌, ℕ, ◌+◌, ◌-◌, ◌*◌, ◌%◌, ◌^◌, ◌<◌, ◌≤◌, List, [], ◌∷◌, ◌++◌, length, drop, Option, Some, None, Result, Ok, Err, refl, sym, ◌∙◌, append_assoc, arith}
+use Rattle.std.specs.Prelude.{pos, ◌==◌, if◌then◌else◌}
 use Rattle.std.specs.Int.{w8, w16, w32, w64, from_le_bytes, cast_signed}
 use Rattle.std.proofs.lemmas.Bool.{le-leb, ne_eqb}
+use Rattle.std.proofs.lemmas.Bool.Decides.{Decides-eqb}
 use Rattle.std.proofs.lemmas.Nat.{from_le_bytes-to_le_bytes_4}
 use Rattle.std.proofs.lemmas.List.{length-append, length-take, take_at, drop_at}
 use Rattle.std.proofs.lemmas.Int.{ints}
-use Rattle.ipc_flatbuf.specs.Flatbuffers.{number_at, signed_at, spec_offset_at, spec_field_position, spec_read_table}
+use Rattle.ipc_flatbuf.specs.ReadResults.{◌>>=◌}
+use Rattle.ipc_flatbuf.specs.declared.error.IpcReadError.{IpcReadError}
+use Rattle.ipc_flatbuf.specs.declared.error.IpcReadError.TheVariants.{Truncated, MetadataLength}
+use Rattle.ipc_flatbuf.specs.Flatbuffers.{spec_non_negative, number_at, signed_at, spec_offset_at, spec_field_position, spec_read_table}
 use Rattle.ipc_flatbuf.specs.PartBytes.{u32_bytes, i64_bytes}
 use Rattle.ipc_flatbuf.specs.FlatbufferLaws.{From, From-length, number_in}
 use Rattle.ipc_flatbuf.specs.TemplateLaws.{From_at, i16_in, i64_in, offset_in, table_in, visit_in, field_in}
@@ -118,6 +122,48 @@ framed_round_trips metadata body rest root some small is long =
     let all : List ℕ = (255 ∷ 255 ∷ 255 ∷ 255 ∷ []) ++ (u32_bytes n ++ behind) in
     let some_bytes : eqb (length all) 0 ≡ false = ne_eqb (length all) 0 (λ e. omega (arith, e)) in
     rw (regrouped, some_bytes, mark_is (u32_bytes n ++ behind), sized) refl
+
+-- The continuation indicator is optional: what can be read with it is read alike without it.
+abbrev pub ContinuationIsOptional : Type 0
+ContinuationIsOptional = (bytes : List ℕ) (next : Option MessageModel × List ℕ) → message_at ((255 ∷ 255 ∷ 255 ∷ 255 ∷ []) ++ bytes) ≡ Ok next → message_at bytes ≡ Ok next
+
+sized_after : (bytes : List ℕ) → message_at ((255 ∷ 255 ∷ 255 ∷ 255 ∷ []) ++ bytes) ≡ spec_sized_message bytes
+unfolding message_at
+sized_after bytes =
+    let all : List ℕ = (255 ∷ 255 ∷ 255 ∷ 255 ∷ []) ++ bytes in
+    let some_bytes : eqb (length all) 0 ≡ false = ne_eqb (length all) 0 (λ e. omega (arith, e)) in
+    rw (some_bytes, mark_is bytes) refl
+
+abbrev by_length : Result (List ℕ × List ℕ) IpcReadError → Result (Option MessageModel × List ℕ) IpcReadError
+by_length read = read >>= λ long. spec_non_negative MetadataLength (cast_signed w32 (from_le_bytes w32 long.0)) >>= λ size. if size == 0 then Ok (None, long.1) else (spec_message_of_size size long.1 >>= λ parts. Ok (Some parts.0, parts.1))
+
+sized_by_length : (bytes : List ℕ) → spec_sized_message bytes ≡ by_length (spec_first_bytes 4 bytes)
+unfolding spec_sized_message
+sized_by_length bytes = refl
+
+-- as a length the indicator would be -1
+without_mark : (bytes : List ℕ) (next : Option MessageModel × List ℕ) (first : Result (List ℕ × List ℕ) IpcReadError) → spec_sized_message bytes ≡ Ok next → by_length first ≡ Ok next
+    → ((first >>= λ mark. Ok (if from_le_bytes w32 mark.0 == 4294967295 then mark.1 else bytes)) >>= spec_sized_message) ≡ Ok next
+without_mark bytes next (Err error) sized h = cc
+without_mark bytes next (Ok word) sized h = marked (from_le_bytes w32 word.0 == 4294967295) refl
+  where
+    marked : (mark : Bool) → (from_le_bytes w32 word.0 == 4294967295) ≡ mark → spec_sized_message (if mark then word.1 else bytes) ≡ Ok next
+    marked false e = sized
+    marked true e =
+        let negative : by_length (Ok word) ≡ Err MetadataLength = rw ((Decides-eqb (from_le_bytes w32 word.0) 4294967295).0 e) refl in
+        cc
+
+sized_alone : (bytes : List ℕ) (next : Option MessageModel × List ℕ) → spec_sized_message bytes ≡ Ok next → message_at bytes ≡ Ok next
+unfolding message_at spec_after_continuation
+sized_alone [] next sized =
+    let short : spec_sized_message [] ≡ Err Truncated = unfold spec_sized_message spec_first_bytes in refl in
+    cc
+sized_alone (b ∷ bytes) next sized =
+    let some_bytes : eqb (length (b ∷ bytes)) 0 ≡ false = ne_eqb (length (b ∷ bytes)) 0 (λ e. omega (arith, e)) in
+    rw some_bytes (without_mark (b ∷ bytes) next (spec_first_bytes 4 (b ∷ bytes)) sized (sym (sized_by_length (b ∷ bytes)) ∙ sized))
+
+pub continuation_is_optional : ContinuationIsOptional
+continuation_is_optional bytes next h = sized_alone bytes next (sym (sized_after bytes) ∙ h)
 
 -- the end-of-stream marker ends a stream
 pub end_of_stream_is_read : (rest : List ℕ) → message_at (end_of_stream ++ rest) ≡ Ok (None, rest)

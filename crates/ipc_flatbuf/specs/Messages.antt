@@ -1,9 +1,9 @@
 -- The message at the start of bytes (Columnar format, Encapsulated message format and IPC Streaming Format).
 use Rattle.std.specs.Prelude.{ℕ, ◌*◌, ℤ, pos, List, [], length, take, drop, Option, Some, None, Result, Ok, Err, nat_le, ◌==◌, if◌then◌else◌}
 use Rattle.std.specs.Int.{w8, w16, w32, w64, from_le_bytes, cast_signed}
-use Rattle.ipc_flatbuf.specs.ReadResults.{◌>>=◌, check}
+use Rattle.ipc_flatbuf.specs.ReadResults.{◌>>=◌}
 use Rattle.ipc_flatbuf.specs.declared.error.IpcReadError.{IpcReadError}
-use Rattle.ipc_flatbuf.specs.declared.error.IpcReadError.TheVariants.{Truncated, Continuation, MetadataLength, Version, HeaderType, BodyLength}
+use Rattle.ipc_flatbuf.specs.declared.error.IpcReadError.TheVariants.{Truncated, MetadataLength, Version, HeaderType, BodyLength}
 use Rattle.ipc_flatbuf.specs.Flatbuffers.{spec_non_negative, number_at, signed_at, spec_offset_at, field, spec_offset_field, spec_read_table}
 use Rattle.ipc_flatbuf.specs.declared.message.types.MetadataVersion as versions
 use Rattle.ipc_flatbuf.specs.declared.message.types.MetadataVersion.TheVariants.{V4, V5}
@@ -52,12 +52,12 @@ pub record MessageModel : Type 0 where
 unfoldable pub spec_first_bytes : ℕ → List ℕ → Result (List ℕ × List ℕ) IpcReadError
 spec_first_bytes n bytes = if nat_le n (length bytes) then Ok (take n bytes, drop n bytes) else Err Truncated
 
--- the bytes after the continuation indicator FF FF FF FF
+-- The bytes after the continuation indicator FF FF FF FF. It was introduced in version 0.15 of the format: messages written before have none, and begin with the
+-- length of their metadata.
 unfoldable pub spec_after_continuation : List ℕ → Result (List ℕ) IpcReadError
 spec_after_continuation bytes = do
   mark ← spec_first_bytes 4 bytes
-  none ← check (from_le_bytes w32 mark.0 == 4294967295) Continuation
-  Ok mark.1
+  Ok (if from_le_bytes w32 mark.0 == 4294967295 then mark.1 else bytes)
 
 -- the message with size bytes of metadata, and the bytes after its body
 unfoldable pub spec_message_of_size : ℕ → List ℕ → Result (MessageModel × List ℕ) IpcReadError
@@ -67,7 +67,7 @@ spec_message_of_size size bytes = do
   body ← spec_first_bytes root.body_length metadata.1
   Ok (record { root = root; metadata = metadata.0; body = body.0 }, body.1)
 
--- no message where the length is 0, the end-of-stream marker
+-- no message where the length is 0, the end-of-stream marker: 8 bytes with the continuation indicator, 4 without
 unfoldable pub spec_sized_message : List ℕ → Result (Option MessageModel × List ℕ) IpcReadError
 spec_sized_message bytes = do
   long ← spec_first_bytes 4 bytes

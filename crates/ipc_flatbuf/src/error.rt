@@ -9,9 +9,6 @@ pub enum IpcReadError {
     /// The bytes end inside of a message, or a file has fewer than 18 bytes.
     #[error("data is truncated: the bytes end inside of a message, or a file is shorter than 18 bytes")]
     Truncated,
-    /// A message does not begin with the continuation indicator `FF FF FF FF`.
-    #[error("message does not begin with the continuation indicator FF FF FF FF")]
-    Continuation,
     /// The length of the metadata of a message is negative.
     #[error("metadata length of a message is negative")]
     MetadataLength,
@@ -127,6 +124,9 @@ pub enum IpcReadError {
     /// A value of a string array is not valid UTF-8.
     #[error("value of a string array is not valid UTF-8")]
     Utf8,
+    /// The view of a valid slot has a negative length, is not within a variadic buffer, or has another prefix than its string.
+    #[error("view of a string is not within a variadic buffer, or its prefix is not that of the string")]
+    View,
     /// A type id of a union array is not the id of a field.
     #[error("type id of a union array is not the id of a field")]
     UnionType,

@@ -1,5 +1,6 @@
 //! Encapsulated messages and the `Message` table of their metadata.
 
+pub mod laws;
 mod reading;
 mod types;
 mod writing;

@@ -86,15 +86,17 @@ fn first_bytes(n: usize, bytes: &[u8]) -> Result<(&[u8], &[u8]), IpcReadError>
     }
 }
 
+// Skips the continuation indicator, which messages written before version 0.15 of the format lack.
 #[tactic(auto, unfolding(crate::specs::Messages::spec_after_continuation))]
 fn after_continuation(bytes: &[u8]) -> Result<&[u8], IpcReadError>
     ensures { Returns (λ x. x.now) result (spec_after_continuation bytes.now) }
 {
     let (mark, rest) = first_bytes(4, bytes)?;
-    if u32::from_le_bytes([mark[0], mark[1], mark[2], mark[3]]) != 0xFFFF_FFFF {
-        return Err(IpcReadError::Continuation);
+    if u32::from_le_bytes([mark[0], mark[1], mark[2], mark[3]]) == 0xFFFF_FFFF {
+        Ok(rest)
+    } else {
+        Ok(bytes)
     }
-    Ok(rest)
 }
 
 #[tactic(auto, unfolding(crate::specs::Messages::spec_message_of_size))]
@@ -133,11 +135,12 @@ fn sized_message(bytes: &[u8]) -> Result<(Option<Message<'_>>, &[u8]), IpcReadEr
 
 /// Returns the message at the start of the bytes, and the bytes after its body.
 ///
-/// `None` is the end of the stream: its end-of-stream marker, or no bytes.
+/// `None` is the end of the stream: its end-of-stream marker, or no bytes. Messages and end-of-stream markers without the
+/// continuation indicator are read too, as they were written before version 0.15 of the format.
 ///
 /// # Errors
-/// [`IpcReadError::Truncated`], [`IpcReadError::Continuation`] or [`IpcReadError::MetadataLength`] where the
-/// encapsulation is invalid, and the errors of [`read_root`].
+/// [`IpcReadError::Truncated`] or [`IpcReadError::MetadataLength`] where the encapsulation is invalid, and the errors
+/// of [`read_root`].
 ///
 /// Source: Columnar format, Encapsulated message format and IPC Streaming Format.
 #[tactic(auto, unfolding(crate::specs::Messages::message_at))]
