@@ -6,7 +6,7 @@ use Rattle.std.specs.Cmp.Lexicographic.{pointwise}
 use Rattle.std.specs.Ordering.{int_cmp, int_eq}
 use Rattle.std.specs.Int.{w8, w16, w64}
 use Rattle.nest_memory.specs.TypeTree as types
-use Rattle.nest_memory.specs.TypeTree.{TypeTree}
+use Rattle.nest_memory.specs.TypeTree.{TypeTree, logical_type}
 use Rattle.nest_memory.specs.TypeEq.{same_type}
 use Rattle.nest_memory.specs.declared.datatypes.IntegerType.{IntegerType}
 use Rattle.nest_memory.specs.declared.datatypes.IntegerType.TheVariants.{Int32}
@@ -48,7 +48,7 @@ spec_with_encoding (Some e) type = types.dictionary e.key type e.is_ordered
 
 -- ---- value types of ids
 
--- the value of a DictionaryValueType: the value type of an id, and the ids nested in it
+-- the value of a DictionaryValueType: the value type of an id without extension types, and the ids nested in it
 pub record ValueTypeModel : Type 0 where
   pub values : TypeTree
   pub inside : List ℤ
@@ -72,7 +72,7 @@ spec_same_values v w = same_type v.values w.values && pointwise int_eq v.inside 
 abbrev pub with_value_type : ℤ → ValueTypeModel → DictionaryTypesModel → DictionaryTypesModel
 with_value_type id new seen = record { ids = seen.ids; named = insert_entry int_cmp seen.named id new }
 
--- an id has one value type in all fields
+-- an id has one value type in all fields, where the floating-point types count as the types of their bits
 abbrev pub spec_name_values : ℤ → ValueTypeModel → DictionaryTypesModel → Option ValueTypeModel → Result DictionaryTypesModel IpcReadError
 spec_name_values id new seen None = Ok (with_value_type id new seen)
 spec_name_values id new seen (Some old) = check (spec_same_values old new) DictionaryType >>= λ same. Ok seen
@@ -80,7 +80,7 @@ spec_name_values id new seen (Some old) = check (spec_same_values old new) Dicti
 -- the dictionaries after a field of this value type; before ids precede its own
 abbrev pub spec_record_values : Option Encoding → TypeTree → ℕ → DictionaryTypesModel → Result DictionaryTypesModel IpcReadError
 spec_record_values None type before seen = Ok seen
-spec_record_values (Some e) type before seen = spec_name_values e.id (record { values = type; inside = drop (suc before) seen.ids }) seen (lookup (is_at (int_cmp e.id)) seen.named)
+spec_record_values (Some e) type before seen = spec_name_values e.id (record { values = logical_type type; inside = drop (suc before) seen.ids }) seen (lookup (is_at (int_cmp e.id)) seen.named)
 
 -- ---- reading
 

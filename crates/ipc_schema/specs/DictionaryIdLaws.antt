@@ -8,7 +8,7 @@ use Rattle.std.specs.Ordering.{int_cmp}
 use Rattle.std.specs.declared.cmp.Ordering.TheVariants.{Less, Greater}
 use Rattle.std.proofs.lemmas.Bool.{lt-ltb, le-ltb}
 use Rattle.nest_memory.specs.TypeTree as types
-use Rattle.nest_memory.specs.TypeTree.{TypeTree, FieldTree, field_type}
+use Rattle.nest_memory.specs.TypeTree.{TypeTree, FieldTree, field_type, logical_type}
 use Rattle.nest_memory.specs.declared.datatypes.IntegerType.{IntegerType}
 use Rattle.ipc_schema.specs.Dictionaries.{ValueTypeModel, DictionaryTypesModel, no_dictionaries, spec_record_id, spec_record_values, spec_with_encoding}
 use Rattle.ipc_schema.specs.Types.{spec_children_of}
@@ -123,7 +123,7 @@ pub own_is_new : (keys : Keys) (id inner end : ℕ) (values : TypeTree) (seen : 
 unfolding ids_from
 own_is_new None id inner end values seen inside old are = refl
 own_is_new (Some keys) id inner end values seen inside old are =
-    rw (behind_one seen.ids (pos id) (ids_from (suc id) inner), is_new id end seen.named inside old are, goes_between id end (record { values = values; inside = ids_from (suc id) inner }) seen.named inside old are, append_assoc seen.ids (pos id ∷ []) (ids_from (suc id) inner)) refl
+    rw (behind_one seen.ids (pos id) (ids_from (suc id) inner), is_new id end seen.named inside old are, goes_between id end (record { values = logical_type values; inside = ids_from (suc id) inner }) seen.named inside old are, append_assoc seen.ids (pos id ∷ []) (ids_from (suc id) inner)) refl
 
 own_within : (keys : Keys) (id inner : ℕ) (values : TypeTree) → AreWithin id (next_after keys id + inner) (own_value_types keys id values inner)
 own_within None id inner values = tt

@@ -2,7 +2,7 @@
 use Rattle.std.specs.Prelude.{ℕ, zero, suc, ◌+◌, ℤ, pos, Bool, false, ◌||◌, List, [], ◌∷◌, ◌++◌, Option, Some, None, is_some}
 use Rattle.std.specs.List.{list_any}
 use Rattle.nest_memory.specs.TypeTree as types
-use Rattle.nest_memory.specs.TypeTree.{TypeTree, FieldTree, field_type}
+use Rattle.nest_memory.specs.TypeTree.{TypeTree, FieldTree, field_type, logical_type}
 use Rattle.nest_memory.specs.declared.datatypes.IntegerType.{IntegerType}
 use Rattle.ipc_schema.specs.declared.dictionaries.Encoding.{Encoding}
 use Rattle.ipc_schema.specs.Dictionaries.{ValueTypeModel, DictionaryTypesModel}
@@ -72,7 +72,7 @@ ids_from next (suc n) = pos next ∷ ids_from (suc next) n
 -- the value type of the id of a field, in which count ids are nested
 abbrev pub own_value_types : Option (IntegerType × Bool) → ℕ → TypeTree → ℕ → List (ℤ × ValueTypeModel)
 own_value_types None id values inner = []
-own_value_types (Some keys) id values inner = (pos id, record { values = values; inside = ids_from (suc id) inner }) ∷ []
+own_value_types (Some keys) id values inner = (pos id, record { values = logical_type values; inside = ids_from (suc id) inner }) ∷ []
 
 unfoldable pub flattened : {A : Type 0} → List (List A) → List A
 flattened [] = []

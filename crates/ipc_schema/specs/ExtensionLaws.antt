@@ -1,6 +1,6 @@
 -- Fields of extension types round-trip.
 use Rattle.std.proofs.Common.{◌≡◌, Bool, true, false, cond, [], ◌∷◌, Option, Some, None, refl, sym, ap, ◌∙◌}
-use Rattle.std.specs.Prelude.{◌&&◌, not}
+use Rattle.std.specs.Prelude.{◌&&◌, ◌||◌, not}
 use Rattle.std.specs.Cmp.Lexicographic.{slice_cmp}
 use Rattle.std.specs.Ordering.{nat_cmp, is_eq}
 use Rattle.std.specs.Str.{bytes_eq}
@@ -9,8 +9,9 @@ use Rattle.std.specs.declared.cmp.Ordering.TheVariants.{Less, Equal, Greater}
 use Rattle.std.proofs.lemmas.Map.Text.{is_eq-slice_cmp}
 use Rattle.nest_memory.specs.TypeTree as types
 use Rattle.nest_memory.specs.TypeTree.{Letters, Entries, TypeTree, field}
-use Rattle.ipc_schema.specs.Extensions.{extension_name, extension_metadata, value_at, spec_has_key, without, spec_with_pair, field_with_metadata, spec_storage_type, spec_is_extension, with_text, all_metadata_of}
-use Rattle.ipc_schema.specs.WriteChecks.{spec_has_no_reserved_key}
+use Rattle.ipc_schema.specs.Floats.{spec_is_float_name, spec_is_float}
+use Rattle.ipc_schema.specs.Extensions.{extension_name, extension_metadata, value_at, spec_has_key, without, spec_with_pair, spec_names_float, field_with_metadata, spec_storage_type, spec_is_extension, with_text, all_metadata_of}
+use Rattle.ipc_schema.specs.WriteChecks.{spec_has_free_name, spec_has_no_reserved_key}
 
 -- ---- a key that is absent
 
@@ -111,14 +112,37 @@ spelled title (Some text) entries free bare =
       rest = rw taken (pair_is_taken extension_metadata text refl entries bare);
     }
 
-parts_of : (type : TypeTree) (entries : Entries) → spec_has_no_reserved_key type entries ≡ true → (not (spec_has_key extension_name entries) ≡ true) × (not (spec_is_extension type && spec_has_key extension_metadata entries) ≡ true)
-parts_of type entries are = and_parts (not (spec_has_key extension_name entries)) (not (spec_is_extension type && spec_has_key extension_metadata entries)) are
+-- the name of the type and the keys of the entries are free
+record IsFree (type : TypeTree) (entries : Entries) : Type 0 where
+  pub title : spec_has_free_name type ≡ true
+  pub name : not (spec_has_key extension_name entries) ≡ true
+  pub text : not (spec_is_extension type && spec_has_key extension_metadata entries) ≡ true
+
+parts_of : (type : TypeTree) (entries : Entries) → spec_has_no_reserved_key type entries ≡ true → IsFree type entries
+parts_of type entries are =
+    let keys : Bool = not (spec_has_key extension_name entries) && not (spec_is_extension type && spec_has_key extension_metadata entries) in
+    let first = and_parts (spec_has_free_name type) keys are in
+    let both = and_parts (not (spec_has_key extension_name entries)) (not (spec_is_extension type && spec_has_key extension_metadata entries)) first.1 in
+    record { title = first.0; name = both.0; text = both.1 }
 
 free_name : (type : TypeTree) (entries : Entries) → spec_has_no_reserved_key type entries ≡ true → HasNoKey extension_name entries
-free_name type entries are = is_free extension_name entries (not_back (spec_has_key extension_name entries) (parts_of type entries are).0)
+free_name type entries are = is_free extension_name entries (not_back (spec_has_key extension_name entries) (parts_of type entries are).name)
 
-free_text : (title : Letters) (type : TypeTree) (text : Option Letters) (entries : Entries) → spec_has_no_reserved_key (types.extension title type text) entries ≡ true → HasNoKey extension_metadata entries
-free_text title type text entries are = is_free extension_metadata entries (not_back (spec_has_key extension_metadata entries) (parts_of (types.extension title type text) entries are).1)
+-- of an extension type that is not a floating-point type
+key_is_free : (float key : Bool) → float ≡ false → not (not float && key) ≡ true → key ≡ false
+key_is_free true key plain h = absurd (cc plain)
+key_is_free false key plain h = not_back key h
+
+title_is_free : (float reserved : Bool) → float ≡ false → (float || not reserved) ≡ true → reserved ≡ false
+title_is_free true reserved plain h = absurd (cc plain)
+title_is_free false reserved plain h = not_back reserved h
+
+module _ (title : Letters) (type : TypeTree) (text : Option Letters) (entries : Entries) (plain : spec_is_float (types.extension title type text) ≡ false) (are : spec_has_no_reserved_key (types.extension title type text) entries ≡ true) where
+  free_text : HasNoKey extension_metadata entries
+  free_text = is_free extension_metadata entries (key_is_free (spec_is_float (types.extension title type text)) (spec_has_key extension_metadata entries) plain (parts_of (types.extension title type text) entries are).text)
+
+  free_title : spec_is_float_name title ≡ false
+  free_title = title_is_free (spec_is_float (types.extension title type text)) (spec_is_float_name title) plain (parts_of (types.extension title type text) entries are).title
 
 plain_back : (name : Letters) (type : TypeTree) (nullable : Bool) (entries : Entries) → HasNoKey extension_name entries → field_with_metadata name type nullable entries ≡ field name type nullable entries
 plain_back name type nullable entries free = rw free refl
@@ -159,6 +183,27 @@ field_round_trips name (types.map a b) nullable entries are = plain_back name (t
 field_round_trips name (types.dictionary a b c) nullable entries are = plain_back name (types.dictionary a b c) nullable entries (free_name (types.dictionary a b c) entries are)
 field_round_trips name (types.decimal a b) nullable entries are = plain_back name (types.decimal a b) nullable entries (free_name (types.decimal a b) entries are)
 field_round_trips name (types.decimal256 a b) nullable entries are = plain_back name (types.decimal256 a b) nullable entries (free_name (types.decimal256 a b) entries are)
-field_round_trips name (types.extension title type text) nullable entries are =
-    let is = spelled title text entries (free_name (types.extension title type text) entries are) (free_text title type text entries are) in
-    rw (is.name, is.text_of, is.rest) refl
+field_round_trips name (types.extension title type text) nullable entries are = by_kind (spec_is_float (types.extension title type text)) refl
+  where
+    free : HasNoKey extension_name entries
+    free = free_name (types.extension title type text) entries are
+
+    by_kind : (float : Bool) → spec_is_float (types.extension title type text) ≡ float → field_with_metadata name (spec_storage_type (types.extension title type text)) nullable (all_metadata_of (types.extension title type text) entries) ≡ field name (types.extension title type text) nullable entries
+    by_kind true e = rw (e, free) refl
+    by_kind false e =
+        let is = spelled title text entries free (free_text title type text entries e are) in
+        rw (e, is.name, is.text_of, is.rest) refl
+
+-- all metadata of a field does not name a floating-point type
+pub no_float_is_named : (type : TypeTree) (entries : Entries) → spec_has_no_reserved_key type entries ≡ true → spec_names_float (all_metadata_of type entries) ≡ false
+no_float_is_named (types.extension title type text) entries are = by_kind (spec_is_float (types.extension title type text)) refl
+  where
+    free : HasNoKey extension_name entries
+    free = free_name (types.extension title type text) entries are
+
+    by_kind : (float : Bool) → spec_is_float (types.extension title type text) ≡ float → spec_names_float (all_metadata_of (types.extension title type text) entries) ≡ false
+    by_kind true e = rw (e, free) refl
+    by_kind false e =
+        let is = spelled title text entries free (free_text title type text entries e are) in
+        rw (e, is.name) (free_title title type text entries e are)
+no_float_is_named type entries are = rw (free_name type entries are) refl

@@ -1,5 +1,6 @@
--- Extension types in the custom metadata of fields (Columnar format, Extension Types).
-use Rattle.std.specs.Prelude.{Bool, true, false, codes, Option, Some, None, is_some}
+-- Extension types in the custom metadata of fields (Columnar format, Extension Types). Those of floating-point types are
+-- not in the metadata.
+use Rattle.std.specs.Prelude.{Bool, false, not, codes, Option, Some, None, is_some, if◌then◌else◌}
 use Rattle.std.specs.Map.{lookup, remove_entry}
 use Rattle.std.specs.BTreeMap.{insert_entry}
 use Rattle.std.specs.Cmp.Lexicographic.{slice_cmp}
@@ -7,6 +8,7 @@ use Rattle.std.specs.Ordering.{nat_cmp}
 use Rattle.std.specs.Str.{bytes_eq}
 use Rattle.nest_memory.specs.TypeTree as types
 use Rattle.nest_memory.specs.TypeTree.{Letters, Entries, TypeTree, FieldTree, field}
+use Rattle.ipc_schema.specs.Floats.{spec_is_float_name, spec_is_float}
 
 -- the reserved keys ARROW:extension:name and ARROW:extension:metadata
 abbrev pub extension_name : Letters
@@ -36,9 +38,17 @@ spec_extension_field name type nullable entries (Some title) =
 abbrev pub field_with_metadata : Letters → TypeTree → Bool → Entries → FieldTree
 field_with_metadata name type nullable entries = spec_extension_field name type nullable entries (value_at extension_name entries)
 
+-- whether the extension name of a field is that of a floating-point type
+abbrev pub is_float_name_of : Option Letters → Bool
+is_float_name_of None = false
+is_float_name_of (Some title) = spec_is_float_name title
+
+abbrev pub spec_names_float : Entries → Bool
+spec_names_float entries = is_float_name_of (value_at extension_name entries)
+
 -- the storage type of an extension type
 abbrev pub spec_storage_type : TypeTree → TypeTree
-spec_storage_type (types.extension title type metadata) = type
+spec_storage_type (types.extension title type metadata) = if spec_is_float (types.extension title type metadata) then types.extension title type metadata else type
 spec_storage_type type = type
 
 -- the type of the type table of a field: the value type where it is dictionary-encoded
@@ -50,7 +60,7 @@ abbrev pub spec_table_type : TypeTree → TypeTree
 spec_table_type type = values_type (spec_storage_type type)
 
 abbrev pub spec_is_extension : TypeTree → Bool
-spec_is_extension (types.extension title type metadata) = true
+spec_is_extension (types.extension title type metadata) = not (spec_is_float (types.extension title type metadata))
 spec_is_extension type = false
 
 abbrev pub with_text : Option Letters → Entries → Entries
@@ -59,5 +69,5 @@ with_text (Some text) entries = spec_with_pair extension_metadata text entries
 
 -- all metadata of a field: its own, and the keys of its extension type
 abbrev pub all_metadata_of : TypeTree → Entries → Entries
-all_metadata_of (types.extension title type text) entries = spec_with_pair extension_name title (with_text text entries)
+all_metadata_of (types.extension title type text) entries = if spec_is_float (types.extension title type text) then entries else spec_with_pair extension_name title (with_text text entries)
 all_metadata_of type entries = entries

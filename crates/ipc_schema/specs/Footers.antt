@@ -5,7 +5,7 @@ use Rattle.std.specs.Int.{w32, w64, from_le_bytes, cast_signed}
 use Rattle.std.specs.List.{list_all, starts_with, ends_with}
 use Rattle.ipc_flatbuf.specs.ReadResults.{◌>>=◌, check}
 use Rattle.ipc_flatbuf.specs.declared.error.IpcReadError.{IpcReadError}
-use Rattle.ipc_flatbuf.specs.declared.error.IpcReadError.TheVariants.{Truncated, Magic, FooterLength, MissingSchema}
+use Rattle.ipc_flatbuf.specs.declared.error.IpcReadError.TheVariants.{Version, Truncated, Magic, FooterLength, MissingSchema}
 use Rattle.ipc_flatbuf.specs.Flatbuffers.{spec_non_negative, signed_at, spec_offset_field, vector_at}
 use Rattle.ipc_flatbuf.specs.declared.tables.Table.{Table}
 use Rattle.ipc_schema.specs.Schemas.{SchemaModel, schema_of}
@@ -31,6 +31,10 @@ spec_block_at bytes position = do
   metadata ← signed_at w32 bytes (position + 8)
   body ← signed_at w64 bytes (position + 16)
   Ok (record { offset = offset; metadata_length = metadata; body_length = body })
+
+-- versions V1 to V5, V1 where it is absent (Schema.fbs, enum MetadataVersion); the version of each message decides
+abbrev pub spec_check_footer_version : ℤ → Result (Unit {0}) IpcReadError
+spec_check_footer_version number = spec_non_negative Version number >>= λ n. check (nat_le n 4) Version
 
 abbrev pub spec_schema_position : Option ℕ → Result ℕ IpcReadError
 spec_schema_position None = Err MissingSchema

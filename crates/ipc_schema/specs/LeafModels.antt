@@ -3,6 +3,7 @@ use Rattle.std.specs.Option.{option_map}
 use Rattle.nest_memory.specs.Physical.{integer_tree}
 use Rattle.nest_memory.specs.TypeTree as types
 use Rattle.nest_memory.specs.TypeTree.{TypeTree}
+use Rattle.ipc_schema.specs.Floats.{spec_float_type}
 use Rattle.ipc_schema.specs.declared.leaf_types.Leaf.{Leaf}
 use Rattle.ipc_schema.specs.declared.leaf_types.Leaf.TheVariants as leaves
 
@@ -10,6 +11,7 @@ abbrev pub leaf_tree : Leaf → TypeTree
 leaf_tree leaves.Null = types.null
 leaf_tree leaves.Boolean = types.boolean
 leaf_tree (leaves.Integer integer) = integer_tree integer
+leaf_tree (leaves.Float precision) = spec_float_type precision
 leaf_tree (leaves.Decimal digits after) = types.decimal digits after
 leaf_tree (leaves.Decimal256 digits after) = types.decimal256 digits after
 leaf_tree leaves.Date32 = types.date32

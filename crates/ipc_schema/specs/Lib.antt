@@ -1,4 +1,5 @@
 -- Definitions that contracts cite, laws and worked examples of schemas.
+pub mod Floats
 pub mod Types
 pub mod LeafModels
 pub mod ShapeModels
@@ -12,6 +13,8 @@ pub mod Schemas
 pub mod SchemaEq
 pub mod ProjectedSchemas
 pub mod SkippedFields
+pub mod BodyLayouts
+pub mod UnsupportedFields
 pub mod Projections
 pub mod DictionaryIds
 pub mod WriteChecks
@@ -19,6 +22,7 @@ pub mod SchemaBytes
 pub mod DictionaryIdLaws
 pub mod OutermostIdLaws
 pub mod MetadataLaws
+pub mod FloatLaws
 pub mod TypeLaws
 pub mod ExtensionLaws
 pub mod FieldLaws
@@ -28,7 +32,10 @@ pub mod Examples
 pub mod TypeExamples
 pub mod NestedExamples
 pub mod ExtensionExamples
+pub mod FloatExamples
 pub mod DictionaryExamples
+pub mod BodyLayoutExamples
+pub mod UnsupportedExamples
 pub mod ProjectionExamples
 pub mod DictionaryWriteExamples
 -- The same of file footers.

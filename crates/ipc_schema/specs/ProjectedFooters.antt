@@ -5,12 +5,11 @@ use Rattle.ipc_flatbuf.specs.ReadResults.{◌>>=◌}
 use Rattle.ipc_flatbuf.specs.declared.error.IpcReadError.{IpcReadError}
 use Rattle.ipc_flatbuf.specs.declared.error.IpcReadError.TheVariants as errors
 use Rattle.ipc_flatbuf.specs.Flatbuffers.{signed_at, spec_offset_at, field, spec_offset_field, spec_read_table}
-use Rattle.ipc_flatbuf.specs.Messages.{spec_version_of}
 use Rattle.ipc_schema.specs.Projections.{ProjectionModel}
-use Rattle.ipc_schema.specs.ProjectedSchemas.{ProjectedSchemaModel, spec_check_projected_version, spec_projected_schema_at, projected_schema_of}
+use Rattle.ipc_schema.specs.ProjectedSchemas.{ProjectedSchemaModel, spec_projected_schema_at, projected_schema_of}
 use Rattle.ipc_schema.specs.declared.footer.types.Block.{Block}
 use Rattle.ipc_schema.specs.declared.footer.types.ProjectedFooter.{ProjectedFooter}
-use Rattle.ipc_schema.specs.Footers.{spec_schema_position, spec_block_lists_at, spec_blocks_before, check_ends, footer_length, footer_position}
+use Rattle.ipc_schema.specs.Footers.{spec_check_footer_version, spec_schema_position, spec_block_lists_at, spec_blocks_before, check_ends, footer_length, footer_position}
 
 -- the value of a ProjectedFooter
 pub record ProjectedFooterModel : Type 0 where
@@ -24,11 +23,10 @@ spec_projected_footer_at picks bytes = do
   position ← spec_offset_at bytes 0
   table ← spec_read_table bytes position (64 * length bytes)
   number ← field (signed_at w16 bytes) (pos 0) bytes table.0 0
-  version ← spec_version_of number
+  version ← spec_check_footer_version number
   to ← spec_offset_field bytes table.0 1
   there ← spec_schema_position to
   picked ← spec_projected_schema_at picks bytes there table.1
-  allowed ← spec_check_projected_version version picked.0.schema.fields picked.0.steps
   lists ← spec_block_lists_at bytes table.0 picked.1
   Ok (record { picked = picked.0; dictionaries = lists.0; batches = lists.1 })
 

@@ -1,5 +1,5 @@
 -- The projection of a schema: the fields that are read, and whether each field is read or skipped.
-use Rattle.std.specs.Prelude.{ℕ, zero, suc, ◌+◌, pos, Bool, true, false, List, [], ◌∷◌, ◌++◌, map, Result, Ok}
+use Rattle.std.specs.Prelude.{ℕ, zero, suc, ◌+◌, pos, Bool, true, false, List, [], ◌∷◌, ◌++◌, map, Option, Result, Ok}
 use Rattle.std.specs.List.{list_any}
 use Rattle.std.specs.Int.{w16}
 use Rattle.std.specs.Ordering.{int_eq}
@@ -12,7 +12,7 @@ use Rattle.ipc_flatbuf.specs.declared.projection.FieldAction.{FieldAction}
 use Rattle.ipc_flatbuf.specs.declared.projection.FieldAction.TheVariants.{Read, Skip}
 use Rattle.ipc_flatbuf.specs.Flatbuffers as words
 use Rattle.ipc_flatbuf.specs.Flatbuffers.{signed_at, spec_offset_at, spec_offset_field, spec_read_table, spec_items_at}
-use Rattle.ipc_flatbuf.specs.Messages.{message_at}
+use Rattle.ipc_flatbuf.specs.Messages.{MessageModel, message_at}
 use Rattle.ipc_flatbuf.specs.declared.message.types.MetadataVersion as versions
 use Rattle.nest_memory.specs.TypeOf.{field_of}
 use Rattle.ipc_schema.specs.declared.projected.ProjectedSchema.{ProjectedSchema}
@@ -94,14 +94,20 @@ spec_projected_schema_at picks bytes position left = do
   metadata ← spec_metadata_at bytes to picked.1.left
   Ok (record { schema = record { fields = picked.0.fields; metadata = metadata.0 }; steps = picked.0.steps; seen = picked.1.seen }, metadata.1)
 
+-- the projection of the schema of the first message of a stream
+unfoldable pub spec_projected_schema_in_message : ProjectionModel → Option MessageModel → Result ProjectedSchemaModel IpcReadError
+spec_projected_schema_in_message picks first = do
+  parts ← schema_parts first
+  picked ← spec_projected_schema_at picks parts.metadata parts.root.header parts.root.left
+  allowed ← spec_check_projected_version parts.root.version picked.0.schema.fields picked.0.steps
+  Ok picked.0
+
 -- the projection of the schema of a stream, and the bytes after its message
 unfoldable pub stream_projected_schema_at : ProjectionModel → List ℕ → Result (ProjectedSchemaModel × List ℕ) IpcReadError
 stream_projected_schema_at picks bytes = do
   first ← message_at bytes
-  parts ← schema_parts first.0
-  picked ← spec_projected_schema_at picks parts.metadata parts.root.header parts.root.left
-  allowed ← spec_check_projected_version parts.root.version picked.0.schema.fields picked.0.steps
-  Ok (picked.0, first.1)
+  picked ← spec_projected_schema_in_message picks first.0
+  Ok (picked, first.1)
 
 -- ---- values of Rust types
 

@@ -13,13 +13,15 @@ use Rattle.ipc_flatbuf.specs.declared.error.IpcReadError.TheVariants.{Version, M
 use Rattle.ipc_flatbuf.specs.declared.message.types.MetadataVersion.TheVariants.{V4}
 use Rattle.ipc_flatbuf.specs.Flatbuffers.{spec_offset_at, spec_back_from, spec_table_at, spec_field_position, spec_charge_budget, spec_read_table, spec_read_vector, spec_read_string, tables_at, spec_items_at, spec_str_at}
 use Rattle.ipc_flatbuf.specs.Messages.{root_at, spec_first_bytes, spec_after_continuation, spec_message_of_size, spec_sized_message, message_at}
-use Rattle.ipc_schema.specs.Types.{spec_bare_at, spec_integer_at}
+use Rattle.ipc_schema.specs.declared.floats.Precision.TheVariants.{Double}
+use Rattle.ipc_schema.specs.Floats.{spec_float_type}
+use Rattle.ipc_schema.specs.Types.{spec_bare_at, spec_integer_at, spec_float_at}
 use Rattle.ipc_schema.specs.Dictionaries.{no_dictionaries, spec_key_at, spec_encoding_at}
 use Rattle.ipc_schema.specs.FieldVectors.{tables_in_turn}
 use Rattle.ipc_schema.specs.Schemas.{spec_pair_at, spec_metadata_at, spec_field_at}
 use Rattle.ipc_schema.specs.SkippedFields.{spec_nothing_skipped, spec_table_position, spec_mode_buffers, spec_skipped_with, spec_plain_buffers, spec_union_buffers, spec_skipped_fields_at, spec_skipped_field_at}
 use Rattle.ipc_schema.specs.Projections.{at, named, spec_name_at}
-use Rattle.ipc_schema.specs.ProjectedSchemas.{ProjectedSchemaModel, spec_projected_fields_at, spec_check_projected_version, spec_projected_schema_at, stream_projected_schema_at}
+use Rattle.ipc_schema.specs.ProjectedSchemas.{ProjectedSchemaModel, spec_projected_fields_at, spec_check_projected_version, spec_projected_schema_at, spec_projected_schema_in_message, stream_projected_schema_at}
 
 -- ---- the buffers of an array by its tag from 1; those of a union, tag 14, depend on its mode
 
@@ -70,16 +72,16 @@ abbrev pub doubles_tree : ProjectedSchemaModel
 doubles_tree = record { schema = record { fields = field (97 ∷ []) types.int32 true [] ∷ field [] types.utf8 true [] ∷ []; metadata = [] }; steps = Read ∷ Skip (record { nodes = 1; buffers = 2; views = 0; has_union = false; has_dictionary = false }) ∷ Read ∷ []; seen = no_dictionaries }
 
 pub doubles_is : stream_projected_schema_at (at (2 ∷ 0 ∷ 7 ∷ [])) doubles_message ≡ Ok (doubles_tree, [])
-unfolding spec_offset_at spec_back_from spec_table_at spec_field_position spec_charge_budget spec_read_table spec_read_vector spec_read_string tables_at tables_in_turn spec_items_at spec_str_at root_at spec_first_bytes spec_after_continuation spec_message_of_size spec_sized_message message_at spec_pair_at spec_metadata_at spec_bare_at spec_integer_at spec_field_at spec_union_buffers spec_skipped_fields_at spec_skipped_field_at spec_name_at spec_projected_fields_at spec_projected_schema_at stream_projected_schema_at
+unfolding spec_offset_at spec_back_from spec_table_at spec_field_position spec_charge_budget spec_read_table spec_read_vector spec_read_string tables_at tables_in_turn spec_items_at spec_str_at root_at spec_first_bytes spec_after_continuation spec_message_of_size spec_sized_message message_at spec_pair_at spec_metadata_at spec_bare_at spec_integer_at spec_field_at spec_union_buffers spec_skipped_fields_at spec_skipped_field_at spec_name_at spec_projected_fields_at spec_projected_schema_at spec_projected_schema_in_message stream_projected_schema_at
 doubles_is = rw text_a refl
 
--- by the name of the first
-abbrev pub first_tree : ProjectedSchemaModel
-first_tree = record { schema = record { fields = field (97 ∷ []) types.int32 true [] ∷ []; metadata = [] }; steps = Read ∷ Skip (record { nodes = 1; buffers = 2; views = 0; has_union = false; has_dictionary = false }) ∷ Skip (record { nodes = 1; buffers = 3; views = 0; has_union = false; has_dictionary = false }) ∷ []; seen = no_dictionaries }
+-- by name: the second and the third have none
+abbrev pub unnamed_tree : ProjectedSchemaModel
+unnamed_tree = record { schema = record { fields = field [] (spec_float_type Double) true [] ∷ field [] types.utf8 true [] ∷ []; metadata = [] }; steps = Skip (record { nodes = 1; buffers = 2; views = 0; has_union = false; has_dictionary = false }) ∷ Read ∷ Read ∷ []; seen = no_dictionaries }
 
-pub first_is : stream_projected_schema_at (named ((98 ∷ []) ∷ (97 ∷ []) ∷ [])) doubles_message ≡ Ok (first_tree, [])
-unfolding spec_offset_at spec_back_from spec_table_at spec_field_position spec_charge_budget spec_read_table spec_read_vector spec_read_string tables_at tables_in_turn spec_items_at spec_str_at root_at spec_first_bytes spec_after_continuation spec_message_of_size spec_sized_message message_at spec_pair_at spec_metadata_at spec_bare_at spec_integer_at spec_field_at spec_union_buffers spec_skipped_fields_at spec_skipped_field_at spec_name_at spec_projected_fields_at spec_projected_schema_at stream_projected_schema_at
-first_is = rw (text_a, text_a) refl
+pub unnamed_is : stream_projected_schema_at (named ((98 ∷ []) ∷ [] ∷ [])) doubles_message ≡ Ok (unnamed_tree, [])
+unfolding spec_offset_at spec_back_from spec_table_at spec_field_position spec_charge_budget spec_read_table spec_read_vector spec_read_string tables_at tables_in_turn spec_items_at spec_str_at root_at spec_first_bytes spec_after_continuation spec_message_of_size spec_sized_message message_at spec_pair_at spec_metadata_at spec_bare_at spec_integer_at spec_float_at spec_field_at spec_union_buffers spec_skipped_fields_at spec_skipped_field_at spec_name_at spec_projected_fields_at spec_projected_schema_at spec_projected_schema_in_message stream_projected_schema_at
+unnamed_is = rw text_a refl
 
 -- string and binary views, integers and strings
 abbrev pub views_message : List ℕ
@@ -90,7 +92,7 @@ abbrev pub views_tree : ProjectedSchemaModel
 views_tree = record { schema = record { fields = field [] types.int32 true [] ∷ field [] types.utf8 true [] ∷ []; metadata = [] }; steps = Skip (record { nodes = 1; buffers = 2; views = 1; has_union = false; has_dictionary = false }) ∷ Read ∷ Skip (record { nodes = 1; buffers = 2; views = 1; has_union = false; has_dictionary = false }) ∷ Read ∷ []; seen = no_dictionaries }
 
 pub views_is : stream_projected_schema_at (at (1 ∷ 3 ∷ [])) views_message ≡ Ok (views_tree, [])
-unfolding spec_offset_at spec_back_from spec_table_at spec_field_position spec_charge_budget spec_read_table spec_read_vector spec_read_string tables_at tables_in_turn spec_items_at spec_str_at root_at spec_first_bytes spec_after_continuation spec_message_of_size spec_sized_message message_at spec_pair_at spec_metadata_at spec_bare_at spec_integer_at spec_field_at spec_union_buffers spec_skipped_fields_at spec_skipped_field_at spec_name_at spec_projected_fields_at spec_projected_schema_at stream_projected_schema_at
+unfolding spec_offset_at spec_back_from spec_table_at spec_field_position spec_charge_budget spec_read_table spec_read_vector spec_read_string tables_at tables_in_turn spec_items_at spec_str_at root_at spec_first_bytes spec_after_continuation spec_message_of_size spec_sized_message message_at spec_pair_at spec_metadata_at spec_bare_at spec_integer_at spec_field_at spec_union_buffers spec_skipped_fields_at spec_skipped_field_at spec_name_at spec_projected_fields_at spec_projected_schema_at spec_projected_schema_in_message stream_projected_schema_at
 views_is = refl
 
 -- run-end encoded float16, a list view, a struct of a dense union and a float, a struct of a dictionary; only the last is read
@@ -102,7 +104,7 @@ abbrev pub odd_tree : ProjectedSchemaModel
 odd_tree = record { schema = record { fields = field [] types.int32 true [] ∷ []; metadata = [] }; steps = Skip (record { nodes = 3; buffers = 4; views = 0; has_union = false; has_dictionary = false }) ∷ Skip (record { nodes = 2; buffers = 5; views = 0; has_union = false; has_dictionary = false }) ∷ Skip (record { nodes = 5; buffers = 10; views = 0; has_union = true; has_dictionary = false }) ∷ Skip (record { nodes = 2; buffers = 3; views = 0; has_union = false; has_dictionary = true }) ∷ Read ∷ []; seen = no_dictionaries }
 
 pub odd_is : stream_projected_schema_at (at (4 ∷ [])) odd_message ≡ Ok (odd_tree, [])
-unfolding spec_offset_at spec_back_from spec_table_at spec_field_position spec_charge_budget spec_read_table spec_read_vector spec_read_string tables_at tables_in_turn spec_items_at spec_str_at root_at spec_first_bytes spec_after_continuation spec_message_of_size spec_sized_message message_at spec_pair_at spec_metadata_at spec_bare_at spec_integer_at spec_field_at spec_union_buffers spec_skipped_fields_at spec_skipped_field_at spec_name_at spec_projected_fields_at spec_projected_schema_at stream_projected_schema_at
+unfolding spec_offset_at spec_back_from spec_table_at spec_field_position spec_charge_budget spec_read_table spec_read_vector spec_read_string tables_at tables_in_turn spec_items_at spec_str_at root_at spec_first_bytes spec_after_continuation spec_message_of_size spec_sized_message message_at spec_pair_at spec_metadata_at spec_bare_at spec_integer_at spec_field_at spec_union_buffers spec_skipped_fields_at spec_skipped_field_at spec_name_at spec_projected_fields_at spec_projected_schema_at spec_projected_schema_in_message stream_projected_schema_at
 odd_is = refl
 
 -- the struct of a dictionary is also read
@@ -110,7 +112,7 @@ abbrev pub keyed_tree : ProjectedSchemaModel
 keyed_tree = record { schema = record { fields = field [] (types.struct (more_fields (field [] (types.dictionary Int8 types.utf8 false) true []) no_fields)) true [] ∷ field [] types.int32 true [] ∷ []; metadata = [] }; steps = Skip (record { nodes = 3; buffers = 4; views = 0; has_union = false; has_dictionary = false }) ∷ Skip (record { nodes = 2; buffers = 5; views = 0; has_union = false; has_dictionary = false }) ∷ Skip (record { nodes = 5; buffers = 10; views = 0; has_union = true; has_dictionary = false }) ∷ Read ∷ Read ∷ []; seen = record { ids = pos 3 ∷ []; named = (pos 3, record { values = types.utf8; inside = [] }) ∷ [] } }
 
 pub keyed_is : stream_projected_schema_at (at (3 ∷ 4 ∷ [])) odd_message ≡ Ok (keyed_tree, [])
-unfolding spec_offset_at spec_back_from spec_table_at spec_field_position spec_charge_budget spec_read_table spec_read_vector spec_read_string tables_at tables_in_turn spec_items_at spec_str_at root_at spec_first_bytes spec_after_continuation spec_message_of_size spec_sized_message message_at spec_pair_at spec_metadata_at spec_bare_at spec_integer_at spec_key_at spec_encoding_at spec_field_at spec_union_buffers spec_skipped_fields_at spec_skipped_field_at spec_name_at spec_projected_fields_at spec_projected_schema_at stream_projected_schema_at
+unfolding spec_offset_at spec_back_from spec_table_at spec_field_position spec_charge_budget spec_read_table spec_read_vector spec_read_string tables_at tables_in_turn spec_items_at spec_str_at root_at spec_first_bytes spec_after_continuation spec_message_of_size spec_sized_message message_at spec_pair_at spec_metadata_at spec_bare_at spec_integer_at spec_key_at spec_encoding_at spec_field_at spec_union_buffers spec_skipped_fields_at spec_skipped_field_at spec_name_at spec_projected_fields_at spec_projected_schema_at spec_projected_schema_in_message stream_projected_schema_at
 keyed_is = refl
 
 -- a skipped union is an error in version V4
@@ -119,11 +121,11 @@ passed_union = refl
 
 abbrev pub ArePicked : Type 0
 ArePicked = (stream_projected_schema_at (at (2 ∷ 0 ∷ 7 ∷ [])) doubles_message ≡ Ok (doubles_tree, []))
-    × (stream_projected_schema_at (named ((98 ∷ []) ∷ (97 ∷ []) ∷ [])) doubles_message ≡ Ok (first_tree, []))
+    × (stream_projected_schema_at (named ((98 ∷ []) ∷ [] ∷ [])) doubles_message ≡ Ok (unnamed_tree, []))
     × (stream_projected_schema_at (at (1 ∷ 3 ∷ [])) views_message ≡ Ok (views_tree, []))
     × (stream_projected_schema_at (at (4 ∷ [])) odd_message ≡ Ok (odd_tree, []))
     × (stream_projected_schema_at (at (3 ∷ 4 ∷ [])) odd_message ≡ Ok (keyed_tree, []))
     × (spec_check_projected_version V4 [] odd_tree.steps ≡ Err Version)
 
 pub picked : ArePicked
-picked = (doubles_is, first_is, views_is, odd_is, keyed_is, passed_union)
+picked = (doubles_is, unnamed_is, views_is, odd_is, keyed_is, passed_union)

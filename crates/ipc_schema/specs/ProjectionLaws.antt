@@ -1,6 +1,6 @@
 -- The projection of all columns is the schema, and it round-trips.
-use Rattle.std.specs.Prelude.{◌≡◌, ◌<◌, ◌^◌, ℕ, zero, suc, ◌+◌, pos, false, List, [], ◌∷◌, ◌++◌, map, Result, Ok, Err, refl}
-use Rattle.std.proofs.Common.{ap, ◌∙◌}
+use Rattle.std.specs.Prelude.{◌≡◌, ◌<◌, ◌^◌, ℕ, zero, suc, ◌+◌, pos, false, List, [], ◌∷◌, ◌++◌, map, Option, Result, Ok, Err, refl}
+use Rattle.std.proofs.Common.{ap, sym, ◌∙◌}
 use Rattle.std.specs.List.{list_any}
 use Rattle.std.specs.Int.{w16}
 use Rattle.std.specs.Ordering.{int_eq}
@@ -13,7 +13,7 @@ use Rattle.ipc_flatbuf.specs.declared.projection.FieldAction.TheVariants.{Read}
 use Rattle.ipc_flatbuf.specs.Flatbuffers as words
 use Rattle.ipc_flatbuf.specs.Flatbuffers.{signed_at, spec_offset_at, spec_offset_field, spec_read_table, spec_items_at}
 use Rattle.ipc_flatbuf.specs.VectorLaws.{ReadsBackAs}
-use Rattle.ipc_flatbuf.specs.Messages.{message_at}
+use Rattle.ipc_flatbuf.specs.Messages.{MessageModel, message_at}
 use Rattle.ipc_flatbuf.specs.MessageBytes.{metadata_size}
 use Rattle.ipc_flatbuf.specs.declared.message.types.MetadataVersion as versions
 use Rattle.ipc_flatbuf.specs.declared.message.types.MetadataVersion.TheVariants.{V4, V5}
@@ -24,8 +24,8 @@ use Rattle.ipc_schema.specs.Schemas.{SchemaModel, spec_metadata_at, spec_field_a
 use Rattle.ipc_schema.specs.SchemaBytes.{schema_message}
 use Rattle.ipc_schema.specs.SchemaLaws.{SchemaFits, part_of, schema_cost, table_round_trips, stream_round_trips}
 use Rattle.ipc_schema.specs.Unions.{have_union, spec_check_version}
-use Rattle.ipc_schema.specs.Projections.{all}
-use Rattle.ipc_schema.specs.ProjectedSchemas.{ProjectedItem, read, ProjectedFields, ProjectedSchemaModel, with_item, spec_projected_fields_at, spec_has_union, spec_check_projected_version, spec_projected_schema_at, stream_projected_schema_at}
+use Rattle.ipc_schema.specs.Projections.{ProjectionModel, all}
+use Rattle.ipc_schema.specs.ProjectedSchemas.{ProjectedItem, read, ProjectedFields, ProjectedSchemaModel, with_item, spec_projected_fields_at, spec_has_union, spec_check_projected_version, spec_projected_schema_at, spec_projected_schema_in_message, stream_projected_schema_at}
 
 -- the action of each field is Read
 abbrev pub read_actions : List FieldTree → List FieldAction
@@ -148,11 +148,26 @@ schema_then (Err e) f g h = refl
 abbrev pub all_of_stream : List ℕ → Result (ProjectedSchemaModel × List ℕ) IpcReadError
 all_of_stream bytes = stream_schema_at bytes >>= λ x. Ok (all_projected x.0.0 x.0.1, x.1)
 
+-- the same of the schema of a message, with the bytes after it
+abbrev with_rest : List ℕ → ProjectedSchemaModel → Result (ProjectedSchemaModel × List ℕ) IpcReadError
+with_rest rest s = Ok (s, rest)
+
+abbrev schema_before : ProjectionModel → Option MessageModel → List ℕ → Result (ProjectedSchemaModel × List ℕ) IpcReadError
+schema_before picks first rest =
+    schema_parts first >>= λ parts. spec_projected_schema_at picks parts.metadata parts.root.header parts.root.left >>= λ picked. spec_check_projected_version parts.root.version picked.0.schema.fields picked.0.steps >>= λ allowed. Ok (picked.0, rest)
+
+before_rest : (picks : ProjectionModel) (first : Option MessageModel) (rest : List ℕ) → schema_before picks first rest ≡ (spec_projected_schema_in_message picks first >>= with_rest rest)
+unfolding spec_projected_schema_in_message
+before_rest picks first rest =
+    bind_step (schema_parts first) _ _ (with_rest rest)
+    (λ parts. bind_step (spec_projected_schema_at picks parts.metadata parts.root.header parts.root.left) _ _ (with_rest rest)
+    (λ picked. bind_step (spec_check_projected_version parts.root.version picked.0.schema.fields picked.0.steps) _ _ (with_rest rest) (λ allowed. refl)))
+
 pub stream_projection_of_all_is_schema : (bytes : List ℕ) → stream_projected_schema_at all bytes ≡ all_of_stream bytes
 unfolding stream_projected_schema_at stream_schema_at
 stream_projection_of_all_is_schema bytes =
     bind_step (message_at bytes) _ _ stream_all
-    (λ first. bind_step (schema_parts first.0) _ _ stream_all
+    (λ first. sym (before_rest all first.0 first.1) ∙ bind_step (schema_parts first.0) _ _ stream_all
     (λ parts. rw (projection_of_all_is_schema parts.metadata parts.root.header parts.root.left)
     (schema_then (spec_schema_at parts.metadata parts.root.header parts.root.left) _ _
     (λ schema. rw (allowed_same parts.root.version schema.0.0.fields) (bind_step (spec_check_version parts.root.version (have_union schema.0.0.fields)) _ _ stream_all (λ allowed. refl))))))

@@ -1,6 +1,6 @@
 -- The bytes of a schema. Each table follows its vtable, the parts that it refers to follow it, and each part is a multiple
 -- of 8 bytes (Schema.fbs).
-use Rattle.std.specs.Prelude.{ℕ, zero, suc, ◌+◌, ◌-◌, ◌*◌, ℤ, Bool, List, [], ◌∷◌, ◌++◌, map, length, Option, Some, None}
+use Rattle.std.specs.Prelude.{ℕ, zero, suc, ◌+◌, ◌-◌, ◌*◌, ℤ, Bool, List, [], ◌∷◌, ◌++◌, map, length, Option, Some, None, if◌then◌else◌}
 use Rattle.std.specs.Int.{from_bool}
 use Rattle.nest_memory.specs.Physical.{integer_tree}
 use Rattle.nest_memory.specs.TypeTree as types
@@ -14,6 +14,8 @@ use Rattle.nest_memory.specs.declared.datatypes.UnionMode.TheVariants.{Dense, Sp
 use Rattle.ipc_flatbuf.specs.PartBytes.{u32_bytes, i32_bytes, i64_bytes, string_bytes, table_vector_bytes, vector_bytes, offsets_size, zeros}
 use Rattle.ipc_flatbuf.specs.MessageBytes.{message_bytes}
 use Rattle.ipc_flatbuf.specs.declared.message.types.MessageKind.TheVariants as kinds
+use Rattle.ipc_schema.specs.Floats.{spec_precision_number, spec_precision_of, spec_is_float}
+use Rattle.ipc_schema.specs.declared.floats.Precision.{Precision}
 use Rattle.ipc_schema.specs.Types.{spec_children_of}
 use Rattle.ipc_schema.specs.declared.dictionaries.Encoding.{Encoding}
 use Rattle.ipc_schema.specs.Extensions.{spec_table_type, all_metadata_of}
@@ -77,6 +79,11 @@ unfoldable pub union_bytes : Option (List ℤ) → UnionMode → List ℕ
 union_bytes None mode = one_field (spec_mode_number mode)
 union_bytes (Some ids) mode = two_fields (spec_mode_number mode) 4 ++ ids_bytes ids
 
+-- table FloatingPoint
+unfoldable pub float_bytes : Option Precision → List ℕ
+float_bytes None = []
+float_bytes (Some precision) = one_field (spec_precision_number precision)
+
 -- the table of a type, without fields that have their defaults; empty for a type that cannot be written
 unfoldable pub type_bytes : TypeTree → List ℕ
 type_bytes types.null = no_field
@@ -109,6 +116,7 @@ type_bytes (types.union fs ids mode) = union_bytes ids mode
 type_bytes (types.map f sorted) = one_field (from_bool sorted)
 type_bytes (types.decimal digits after) = two_fields digits after
 type_bytes (types.decimal256 digits after) = three_fields digits after 256
+type_bytes (types.extension title type metadata) = float_bytes (spec_precision_of (types.extension title type metadata))
 type_bytes t = []
 
 -- the tag of a type (union Type)
@@ -143,6 +151,7 @@ spec_type_number (types.union fs ids mode) = 14
 spec_type_number (types.map f sorted) = 17
 spec_type_number (types.decimal digits after) = 7
 spec_type_number (types.decimal256 digits after) = 7
+spec_type_number (types.extension title type metadata) = if spec_is_float (types.extension title type metadata) then 3 else 0
 spec_type_number t = 0
 
 -- ---- fields

@@ -1,5 +1,5 @@
 -- The schema that metadata decodes to (Schema.fbs: tables Schema, Field, Int, KeyValue).
-use Rattle.std.specs.Prelude.{ℕ, zero, suc, pos, Bool, true, false, ◌&&◌, List, [], ◌∷◌, map, length, Option, Some, None, is_some, Result, Ok, Err, nat_lt, ◌==◌, if◌then◌else◌}
+use Rattle.std.specs.Prelude.{ℕ, zero, suc, pos, Bool, true, false, ◌&&◌, not, List, [], ◌∷◌, map, length, Option, Some, None, is_some, Result, Ok, Err, nat_lt, ◌==◌, if◌then◌else◌}
 use Rattle.std.specs.BTreeMap.{insert_entry}
 use Rattle.std.specs.Cmp.Lexicographic.{slice_cmp}
 use Rattle.std.specs.Ordering.{nat_cmp, int_eq}
@@ -8,7 +8,7 @@ use Rattle.nest_memory.specs.TypeOf.{entries_of, field_of}
 use Rattle.nest_memory.specs.TypeTree.{Letters, Entries, TypeTree, FieldTree}
 use Rattle.ipc_flatbuf.specs.ReadResults.{◌>>=◌, check}
 use Rattle.ipc_flatbuf.specs.declared.error.IpcReadError.{IpcReadError}
-use Rattle.ipc_flatbuf.specs.declared.error.IpcReadError.TheVariants.{MissingSchema, BodyLength, Endianness, Depth, ChildCount, Metadata}
+use Rattle.ipc_flatbuf.specs.declared.error.IpcReadError.TheVariants.{MissingSchema, BodyLength, Endianness, Depth, ChildCount, UnsupportedType, Metadata}
 use Rattle.ipc_flatbuf.specs.Flatbuffers as words
 use Rattle.ipc_flatbuf.specs.Flatbuffers.{number_at, signed_at, spec_offset_field, spec_read_table, spec_str_at, spec_items_at, tables_at}
 use Rattle.ipc_flatbuf.specs.Messages.{MessageModel, message_at}
@@ -21,7 +21,7 @@ use Rattle.ipc_schema.specs.declared.reading.Keys.{Keys}
 use Rattle.ipc_schema.specs.Dictionaries.{DictionaryTypesModel, Progress, no_dictionaries, progress, spec_record_id, spec_record_values, spec_with_encoding, spec_dictionary_at}
 use Rattle.ipc_schema.specs.DictionaryModels.{types_of}
 use Rattle.ipc_schema.specs.FieldVectors.{tables_in_turn}
-use Rattle.ipc_schema.specs.Extensions.{field_with_metadata}
+use Rattle.ipc_schema.specs.Extensions.{spec_names_float, field_with_metadata}
 use Rattle.ipc_schema.specs.Types.{spec_type_position, spec_shape_at, spec_can_have, spec_with_children}
 use Rattle.ipc_schema.specs.Unions.{have_union, spec_check_version}
 unfoldable pub use Rattle.ipc_schema.specs.Types.{spec_integer_at}
@@ -65,7 +65,7 @@ field_of_type name nullable entries dictionary before seen type = do
 abbrev pub field_of_keys : Letters → Bool → Entries → Keys → DictionaryTypesModel → Result TypeTree IpcReadError → Result (FieldTree × DictionaryTypesModel) IpcReadError
 field_of_keys name nullable entries keys seen type = field_of_type name nullable entries keys.dictionary keys.before seen type
 
--- a field, whose children are read by read
+-- a field, whose children are read by read; its metadata does not name the extension type of a floating-point type
 abbrev pub spec_field_over : (ℕ → Progress → Result (FieldTree × Progress) IpcReadError) → List ℕ → ℕ → Progress → Result (FieldTree × Progress) IpcReadError
 spec_field_over read bytes position so_far = do
   table ← spec_read_table bytes position so_far.left
@@ -84,6 +84,7 @@ spec_field_over read bytes position so_far = do
   fields ← tables_in_turn read bytes children.0.count children.0.first (progress dictionary.1 (spec_record_id dictionary.0 so_far.seen))
   to ← spec_offset_field bytes table.0 6
   metadata ← spec_metadata_at bytes to fields.1.left
+  own ← check (not (spec_names_float metadata.0)) UnsupportedType
   whole ← field_of_type name.0 (nat_lt 0 nullable) metadata.0 dictionary.0 (length so_far.seen.ids) fields.1.seen (spec_with_children shape.0 fields.0)
   Ok (whole.0, progress metadata.1 whole.1)
 

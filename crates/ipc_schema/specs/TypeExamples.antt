@@ -1,5 +1,5 @@
 -- Worked examples: the bytes of fields of another writer, which omits defaults, one for each unit and width.
-use Rattle.std.specs.Prelude.{◌≡◌, ℕ, true, List, [], ◌∷◌, None, Some, Ok, refl}
+use Rattle.std.specs.Prelude.{◌≡◌, ℕ, ◌+◌, ◌^◌, ◌<◌, ◌≤◌, true, List, [], ◌∷◌, None, Some, Ok, Err, refl}
 use Rattle.std.specs.Str.{is_utf8}
 use Rattle.std.proofs.Common.{rules, arith}
 use Rattle.std.proofs.lemmas.Str.{IsUtf8-from_ascii, is_utf8-from_IsUtf8}
@@ -7,11 +7,14 @@ use Rattle.nest_memory.specs.TypeTree as types
 use Rattle.nest_memory.specs.TypeTree.{Letters, TypeTree, field}
 use Rattle.nest_memory.specs.declared.datatypes.TimeUnit.TheVariants.{Second, Millisecond, Microsecond, Nanosecond}
 use Rattle.nest_memory.specs.declared.datatypes.IntervalUnit.TheVariants.{YearMonth, DayTime, MonthDayNano}
+use Rattle.ipc_flatbuf.specs.declared.error.IpcReadError.TheVariants.{TypeRange}
+use Rattle.ipc_flatbuf.specs.declared.error.IpcWriteError.TheVariants as reasons
 use Rattle.ipc_flatbuf.specs.Flatbuffers.{spec_offset_at, spec_back_from, spec_table_at, spec_field_position, spec_charge_budget, spec_read_table, spec_read_vector, spec_read_string, tables_at, spec_items_at, spec_str_at}
-use Rattle.ipc_schema.specs.Types.{spec_decimal_at, spec_date_at, spec_time_at, spec_zone_at, spec_timestamp_at, spec_interval_at, spec_duration_at, spec_fixed_size_binary_at}
+use Rattle.ipc_schema.specs.Types.{most_digits, most_digits256, spec_decimal_of, spec_decimal_at, spec_date_at, spec_time_at, spec_zone_at, spec_timestamp_at, spec_interval_at, spec_duration_at, spec_fixed_size_binary_at}
 use Rattle.ipc_schema.specs.Dictionaries.{no_dictionaries, progress}
 use Rattle.ipc_schema.specs.FieldVectors.{tables_in_turn}
 use Rattle.ipc_schema.specs.Schemas.{spec_metadata_at, spec_field_at}
+use Rattle.ipc_schema.specs.WriteChecks.{spec_check_type}
 
 -- the field at a position has this name and type, is nullable and without metadata, and leaves this budget of 200
 abbrev pub HasField : List ℕ → ℕ → Letters → TypeTree → ℕ → Type 0
@@ -110,6 +113,21 @@ AreDecimals = HasField decimals_metadata 76 (97 ∷ []) (types.decimal 38 2) 175
 
 pub decimals : AreDecimals
 decimals = (decimals_0, decimals_1, decimals_2)
+
+-- each number of 38 digits fits in 128 bits with a sign, not each of 39, and so for 256 bits
+abbrev pub AreMostDigits : Type 0
+AreMostDigits = (10 ^ most_digits ≤ 2 ^ 127) × (2 ^ 127 < 10 ^ (most_digits + 1)) × (10 ^ most_digits256 ≤ 2 ^ 255) × (2 ^ 255 < 10 ^ (most_digits256 + 1))
+
+pub most_digits_are : AreMostDigits
+most_digits_are = (omega arith, omega arith, omega arith, omega arith)
+
+-- the least and the greatest precision, and those beside them
+abbrev pub ArePrecisions : Type 0
+ArePrecisions = (spec_decimal_of 0 0 128 ≡ Err TypeRange) × (spec_decimal_of 1 0 128 ≡ Ok (types.decimal 1 0)) × (spec_decimal_of 39 2 128 ≡ Err TypeRange) × (spec_decimal_of 39 2 256 ≡ Ok (types.decimal256 39 2)) × (spec_decimal_of 77 2 256 ≡ Err TypeRange)
+    × (spec_check_type (types.decimal 38 2) ≡ Ok tt) × (spec_check_type (types.decimal 39 2) ≡ Err reasons.Type) × (spec_check_type (types.decimal256 77 2) ≡ Err reasons.Type) × (spec_check_type (types.decimal256 0 0) ≡ Err reasons.Type)
+
+pub precisions : ArePrecisions
+precisions = (refl, refl, refl, refl, refl, refl, refl, refl, refl)
 
 -- ---- dates and times of each unit
 

@@ -1,11 +1,11 @@
 -- Types round-trip.
-use Rattle.std.proofs.Common.{◌≡◌, ℕ, suc, ◌+◌, ◌-◌, ◌*◌, ◌^◌, ◌<◌, ◌≤◌, Bool, true, false, ltb, eqb, List, [], ◌∷◌, ◌++◌, length, drop, Option, Some, None, Result, Ok, Err, refl, ap, ◌∙◌, append_assoc, arith}
-use Rattle.std.specs.Prelude.{ℤ, pos, negsuc, not, ◌&&◌}
+use Rattle.std.proofs.Common.{◌≡◌, ℕ, suc, ◌+◌, ◌-◌, ◌*◌, ◌^◌, ◌<◌, ◌≤◌, Bool, true, false, ltb, leb, eqb, List, [], ◌∷◌, ◌++◌, length, drop, Option, Some, None, Result, Ok, Err, refl, sym, ap, subst, ◌∙◌, append_assoc, arith}
+use Rattle.std.specs.Prelude.{ℤ, pos, negsuc, is_some, not, ◌&&◌}
 use Rattle.std.specs.Int.{w8, w16, w32, from_le_bytes, cast_signed, from_bool}
 use Rattle.std.specs.Int.RustNames.{FitsSigned}
 use Rattle.std.specs.List.{flat_map, list_all, AllByRecursion}
 use Rattle.std.specs.Str.{is_utf8}
-use Rattle.std.proofs.lemmas.Bool.{ltb-true, eqb-true}
+use Rattle.std.proofs.lemmas.Bool.{ltb-true, leb-true, eqb-true}
 use Rattle.std.proofs.lemmas.Int.{ints}
 use Rattle.std.proofs.lemmas.List.{length-append}
 use Rattle.std.proofs.lemmas.Nat.{from_le_bytes-to_le_bytes_2, from_le_bytes-to_le_bytes_4}
@@ -32,9 +32,13 @@ use Rattle.ipc_schema.specs.declared.type_tags.LeafTag.{LeafTag}
 use Rattle.ipc_schema.specs.declared.type_tags.LeafTag.TheVariants as leaves
 use Rattle.ipc_schema.specs.declared.type_tags.Tag.{Tag}
 use Rattle.ipc_schema.specs.declared.type_tags.Tag.TheVariants as tags
-use Rattle.ipc_schema.specs.Types.{spec_tag_of, spec_bare_at, spec_integer_of, spec_integer_at, spec_decimal_at, spec_date_of, spec_date_at, spec_unit_of, spec_is_coarse, spec_time_of, spec_time_at, spec_zone_at, spec_timestamp_at, spec_interval_of, spec_interval_at, spec_duration_at, spec_fixed_size_binary_at, Shape, leaf, list, large_list, fixed_size_list, struct, map as map_shape, union, spec_fixed_size_list_at, spec_map_at, spec_ids_at, spec_mode_of, spec_is_union_id, spec_are_union_ids, spec_union_at, spec_type_at, spec_shape_at, field_list, spec_children_of, spec_can_have, spec_with_children}
-use Rattle.ipc_schema.specs.WriteChecks.{spec_require, spec_check_number, spec_check_size, spec_check_type, and_then_check}
-use Rattle.ipc_schema.specs.SchemaBytes.{no_field, one_field, two_fields, three_fields, spec_unit_number, spec_interval_number, timestamp_bytes, spec_mode_number, ids_bytes, union_bytes, type_bytes, spec_type_number}
+use Rattle.ipc_schema.specs.declared.floats.Precision.{Precision}
+use Rattle.ipc_schema.specs.declared.floats.Precision.TheVariants.{Half, Single, Double}
+use Rattle.ipc_schema.specs.Floats.{spec_precision_number, spec_numbered_precision, spec_float_type, spec_precision_of, spec_is_float}
+use Rattle.ipc_schema.specs.FloatLaws.{float_is}
+use Rattle.ipc_schema.specs.Types.{spec_tag_of, spec_bare_at, spec_integer_of, spec_integer_at, spec_float_at, spec_is_precision, most_digits, most_digits256, spec_decimal_at, spec_date_of, spec_date_at, spec_unit_of, spec_is_coarse, spec_time_of, spec_time_at, spec_zone_at, spec_timestamp_at, spec_interval_of, spec_interval_at, spec_duration_at, spec_fixed_size_binary_at, Shape, leaf, list, large_list, fixed_size_list, struct, map as map_shape, union, spec_fixed_size_list_at, spec_map_at, spec_ids_at, spec_mode_of, spec_is_union_id, spec_are_union_ids, spec_union_at, spec_type_at, spec_shape_at, field_list, spec_children_of, spec_can_have, spec_with_children}
+use Rattle.ipc_schema.specs.WriteChecks.{spec_require, spec_check_number, spec_check_size, spec_check_decimal, spec_check_type, and_then_check}
+use Rattle.ipc_schema.specs.SchemaBytes.{no_field, one_field, two_fields, three_fields, spec_unit_number, spec_interval_number, timestamp_bytes, spec_mode_number, ids_bytes, union_bytes, float_bytes, type_bytes, spec_type_number}
 
 -- ---- invariants of Rust types
 
@@ -215,21 +219,40 @@ key_long UInt16 = refl
 key_long UInt32 = refl
 key_long UInt64 = refl
 
-decimal_read : (digits after : ℕ) → digits < 2 ^ 31 → after < 2 ^ 31 → ReadsBackAs spec_decimal_at 12 (two_fields digits after) (types.decimal digits after) 8
+precision_small : (precision : Precision) → spec_precision_number precision < 2 ^ 15
+precision_small Half = omega arith
+precision_small Single = omega arith
+precision_small Double = omega arith
+
+precision_back : (precision : Precision) → spec_numbered_precision (spec_precision_number precision) ≡ Ok precision
+precision_back Half = refl
+precision_back Single = refl
+precision_back Double = refl
+
+float_read : (precision : Precision) → ReadsBackAs spec_float_at 12 (float_bytes (Some precision)) (spec_float_type precision) 8
+unfolding spec_float_at float_bytes
+float_read precision = record {
+  law = λ whole p q left after h within at le.
+      let t = one_is (spec_precision_number precision) whole p left after (omega (arith, precision_small precision)) h le in
+      rw (at, t.visit, t.first, t.number.short (precision_small precision), precision_back precision) refl;
+  long = one_long (spec_precision_number precision);
+}
+
+decimal_read : (digits after : ℕ) → spec_is_precision most_digits digits ≡ true → digits < 2 ^ 31 → after < 2 ^ 31 → ReadsBackAs spec_decimal_at 12 (two_fields digits after) (types.decimal digits after) 8
 unfolding spec_decimal_at
-decimal_read digits scale small few = record {
+decimal_read digits scale fits small few = record {
   law = λ whole p q left after h within at le.
       let t = two_are digits scale whole p left after small few h le in
-      rw (at, t.visit, t.first, t.number.word, t.second, t.next.word, t.others 2 (omega arith)) refl;
+      rw (at, t.visit, t.first, t.number.word, t.second, t.next.word, t.others 2 (omega arith), fits) refl;
   long = two_long digits scale;
 }
 
-decimal256_read : (digits after : ℕ) → digits < 2 ^ 31 → after < 2 ^ 31 → ReadsBackAs spec_decimal_at 12 (three_fields digits after 256) (types.decimal256 digits after) 8
+decimal256_read : (digits after : ℕ) → spec_is_precision most_digits256 digits ≡ true → digits < 2 ^ 31 → after < 2 ^ 31 → ReadsBackAs spec_decimal_at 12 (three_fields digits after 256) (types.decimal256 digits after) 8
 unfolding spec_decimal_at
-decimal256_read digits scale small few = record {
+decimal256_read digits scale fits small few = record {
   law = λ whole p q left after h within at le.
       let t = three_are digits scale 256 whole p left after small few (omega arith) h le in
-      rw (at, t.visit, t.first, t.number.word, t.second, t.next.word, t.third, t.last.word) refl;
+      rw (at, t.visit, t.first, t.number.word, t.second, t.next.word, t.third, t.last.word, fits) refl;
   long = three_long digits scale 256;
 }
 
@@ -490,10 +513,28 @@ sized size form =
     let h = both (spec_require (not (eqb size 0)) reasons.Type) (spec_check_number size) form in
     (number_small size h.1, grind (arith, passes (not (eqb size 0)) reasons.Type h.0))
 
-numbers : (a b : ℕ) → and_then_check (spec_check_number a) (spec_check_number b) ≡ Ok tt → (a < 2 ^ 31) × (b < 2 ^ 31)
-numbers a b form =
-    let h = both (spec_check_number a) (spec_check_number b) form in
-    (number_small a h.0, number_small b h.1)
+-- the parameters of a decimal that can be written
+record IsDecimal (most digits after : ℕ) : Type 0 where
+  pub fits : spec_is_precision most digits ≡ true
+  pub few : digits < 2 ^ 31
+  pub small : after < 2 ^ 31
+
+decimal_is : (most digits after : ℕ) → most < 2 ^ 31 → spec_check_decimal most digits after ≡ Ok tt → IsDecimal most digits after
+decimal_is most digits after few form =
+    let h = both (spec_require (spec_is_precision most digits) reasons.Type) (spec_check_number after) form in
+    let fits = passes (spec_is_precision most digits) reasons.Type h.0 in
+    let within : digits ≤ most = leb-true _ _ (and_both (leb 1 digits) (leb digits most) fits).1 in
+    record { fits = fits; few = omega arith; small = number_small after h.1 }
+
+float_type_is : (precision : Precision) (count : ℕ) → count ≡ 0 → TypeIs (spec_float_type precision) count
+unfolding spec_type_number type_bytes type_cost
+float_type_is Half count are = record { tag = tags.Leaf leaves.FloatingPoint; number = refl; read = leaf_read leaves.FloatingPoint count _ (spec_float_type Half) 8 (float_read Half); counted = rw are refl; back = refl }
+float_type_is Single count are = record { tag = tags.Leaf leaves.FloatingPoint; number = refl; read = leaf_read leaves.FloatingPoint count _ (spec_float_type Single) 8 (float_read Single); counted = rw are refl; back = refl }
+float_type_is Double count are = record { tag = tags.Leaf leaves.FloatingPoint; number = refl; read = leaf_read leaves.FloatingPoint count _ (spec_float_type Double) 8 (float_read Double); counted = rw are refl; back = refl }
+
+some_by : (type : TypeTree) (count : ℕ) (precision : Option Precision) → spec_precision_of type ≡ precision → is_some precision ≡ true → count ≡ 0 → TypeIs type count
+some_by type count None is some are = absurd (cc some)
+some_by type count (Some p) is some are = subst (λ (t : TypeTree). TypeIs t count) (sym (float_is type p is)) (float_type_is p count are)
 
 pub type_is : (type : TypeTree) (count : ℕ) → count ≡ length (spec_children_of type) → spec_check_type type ≡ Ok tt → TypeFits type → TypeIs type count
 unfolding spec_type_number type_bytes type_cost
@@ -519,13 +560,13 @@ type_is (types.fixed_size_binary size) count are form fits = record { tag = tags
 type_is types.large_binary count are form fits = record { tag = tags.Leaf leaves.LargeBinary; number = refl; read = leaf_read leaves.LargeBinary count _ types.large_binary 8 (bare_read types.large_binary); counted = rw are refl; back = refl }
 type_is types.utf8 count are form fits = record { tag = tags.Leaf leaves.Utf8; number = refl; read = leaf_read leaves.Utf8 count _ types.utf8 8 (bare_read types.utf8); counted = rw are refl; back = refl }
 type_is types.large_utf8 count are form fits = record { tag = tags.Leaf leaves.LargeUtf8; number = refl; read = leaf_read leaves.LargeUtf8 count _ types.large_utf8 8 (bare_read types.large_utf8); counted = rw are refl; back = refl }
-type_is (types.decimal digits after) count are form fits = record { tag = tags.Leaf leaves.Decimal; number = refl; read = leaf_read leaves.Decimal count _ (types.decimal digits after) 8 (decimal_read digits after (numbers digits after form).0 (numbers digits after form).1); counted = rw are refl; back = refl }
-type_is (types.decimal256 digits after) count are form fits = record { tag = tags.Leaf leaves.Decimal; number = refl; read = leaf_read leaves.Decimal count _ (types.decimal256 digits after) 8 (decimal256_read digits after (numbers digits after form).0 (numbers digits after form).1); counted = rw are refl; back = refl }
+type_is (types.decimal digits after) count are form fits = record { tag = tags.Leaf leaves.Decimal; number = refl; read = leaf_read leaves.Decimal count _ (types.decimal digits after) 8 (let d = decimal_is most_digits digits after (omega arith) form in decimal_read digits after d.fits d.few d.small); counted = rw are refl; back = refl }
+type_is (types.decimal256 digits after) count are form fits = record { tag = tags.Leaf leaves.Decimal; number = refl; read = leaf_read leaves.Decimal count _ (types.decimal256 digits after) 8 (let d = decimal_is most_digits256 digits after (omega arith) form in decimal256_read digits after d.fits d.few d.small); counted = rw are refl; back = refl }
 type_is types.float16 count are form fits = absurd (cc form)
 type_is types.float32 count are form fits = absurd (cc form)
 type_is types.float64 count are form fits = absurd (cc form)
 type_is (types.dictionary a b c) count are form fits = absurd (cc form)
-type_is (types.extension a b c) count are form fits = absurd (cc form)
+type_is (types.extension a b c) count are form fits = some_by (types.extension a b c) count (spec_precision_of (types.extension a b c)) refl (passes (spec_is_float (types.extension a b c)) reasons.Type form) are
 type_is (types.list f) count are form fits = record { tag = tags.List; number = refl; read = bare_read list; counted = rw are refl; back = refl }
 type_is (types.large_list f) count are form fits = record { tag = tags.LargeList; number = refl; read = bare_read large_list; counted = rw are refl; back = refl }
 type_is (types.fixed_size_list f size) count are form fits = record { tag = tags.FixedSizeList; number = refl; read = list_size_read size (sized size form).0 (sized size form).1; counted = rw are refl; back = refl }

@@ -1,5 +1,5 @@
 -- The data type of a type tag and a type table (Schema.fbs, union Type and its tables).
-use Rattle.std.specs.Prelude.{ℕ, ℤ, pos, negsuc, Bool, true, false, ◌&&◌, not, List, [], ◌∷◌, length, Option, Some, None, Result, Ok, Err, nat_lt, ◌==◌, if◌then◌else◌}
+use Rattle.std.specs.Prelude.{ℕ, ℤ, pos, negsuc, Bool, true, false, ◌&&◌, not, List, [], ◌∷◌, length, Option, Some, None, Result, Ok, Err, nat_le, nat_lt, ◌==◌, if◌then◌else◌}
 use Rattle.std.specs.Int.{w8, w16, w32}
 use Rattle.std.specs.List.{list_all}
 use Rattle.nest_memory.specs.Physical.{integer_tree}
@@ -19,6 +19,7 @@ use Rattle.ipc_flatbuf.specs.declared.error.IpcReadError.{IpcReadError}
 use Rattle.ipc_flatbuf.specs.declared.error.IpcReadError.TheVariants.{MissingType, UnknownType, UnsupportedType, TypeRange, UnionIds, ChildCount, MapEntries}
 use Rattle.ipc_flatbuf.specs.Flatbuffers as words
 use Rattle.ipc_flatbuf.specs.Flatbuffers.{spec_non_negative, number_at, signed_at, spec_offset_field, spec_read_table, spec_read_string, vector_at}
+use Rattle.ipc_schema.specs.Floats.{spec_numbered_precision, spec_float_type}
 use Rattle.ipc_schema.specs.declared.type_tags.LeafTag.{LeafTag}
 use Rattle.ipc_schema.specs.declared.type_tags.LeafTag.TheVariants as leaves
 use Rattle.ipc_schema.specs.declared.type_tags.Tag.{Tag}
@@ -31,6 +32,7 @@ abbrev pub spec_known_tag : ℕ → Result Tag IpcReadError
 spec_known_tag n =
     if n == 1 then Ok (tags.Leaf leaves.Null)
     else (if n == 2 then Ok (tags.Leaf leaves.Int)
+    else (if n == 3 then Ok (tags.Leaf leaves.FloatingPoint)
     else (if n == 4 then Ok (tags.Leaf leaves.Binary)
     else (if n == 5 then Ok (tags.Leaf leaves.Utf8)
     else (if n == 6 then Ok (tags.Leaf leaves.Bool)
@@ -49,7 +51,7 @@ spec_known_tag n =
     else (if n == 19 then Ok (tags.Leaf leaves.LargeBinary)
     else (if n == 20 then Ok (tags.Leaf leaves.LargeUtf8)
     else (if n == 21 then Ok tags.LargeList
-    else Err UnsupportedType)))))))))))))))))))
+    else Err UnsupportedType))))))))))))))))))))
 
 -- the type of a tag: 0 is NONE, the last one is 26
 abbrev pub spec_tag_of : ℕ → Result Tag IpcReadError
@@ -96,9 +98,31 @@ spec_integer_at bytes position left = do
   type ← spec_integer_of bits (nat_lt 0 sign)
   Ok (type, table.1)
 
+-- table FloatingPoint
+unfoldable pub spec_float_at : List ℕ → ℕ → ℕ → Result (TypeTree × ℕ) IpcReadError
+spec_float_at bytes position left = do
+  table ← spec_read_table bytes position left
+  number ← words.field (signed_at w16 bytes) (pos 0) bytes table.0 0
+  n ← spec_non_negative TypeRange number
+  precision ← spec_numbered_precision n
+  Ok (spec_float_type precision, table.1)
+
+-- a precision from 1 to the number of digits that always fit in the width (Schema.fbs, table Decimal: two's complement)
+abbrev pub spec_is_precision : ℕ → ℕ → Bool
+spec_is_precision most digits = nat_le 1 digits && nat_le digits most
+
+-- each number of 38 digits fits in 128 bits, of 76 digits in 256 bits
+abbrev pub most_digits : ℕ
+most_digits = 38
+
+abbrev pub most_digits256 : ℕ
+most_digits256 = 76
+
 -- decimals of a precision and scale, in 128 or 256 bits
 abbrev pub spec_decimal_of : ℕ → ℕ → ℕ → Result TypeTree IpcReadError
-spec_decimal_of digits after bits = if bits == 128 then Ok (types.decimal digits after) else (if bits == 256 then Ok (types.decimal256 digits after) else Err TypeRange)
+spec_decimal_of digits after bits =
+    if bits == 128 then (if spec_is_precision most_digits digits then Ok (types.decimal digits after) else Err TypeRange)
+    else (if bits == 256 then (if spec_is_precision most_digits256 digits then Ok (types.decimal256 digits after) else Err TypeRange) else Err TypeRange)
 
 -- table Decimal
 unfoldable pub spec_decimal_at : List ℕ → ℕ → ℕ → Result (TypeTree × ℕ) IpcReadError
@@ -257,6 +281,7 @@ spec_union_at count bytes position left = do
 abbrev pub spec_type_at : LeafTag → List ℕ → ℕ → ℕ → Result (TypeTree × ℕ) IpcReadError
 spec_type_at leaves.Null bytes position left = spec_bare_at types.null bytes position left
 spec_type_at leaves.Int bytes position left = spec_integer_at bytes position left >>= λ integer. Ok (integer_tree integer.0, integer.1)
+spec_type_at leaves.FloatingPoint bytes position left = spec_float_at bytes position left
 spec_type_at leaves.Binary bytes position left = spec_bare_at types.binary bytes position left
 spec_type_at leaves.Utf8 bytes position left = spec_bare_at types.utf8 bytes position left
 spec_type_at leaves.Bool bytes position left = spec_bare_at types.boolean bytes position left

@@ -1,12 +1,13 @@
 -- The checks of a schema before it is written, and their errors.
-use Rattle.std.specs.Prelude.{◌≡◌, ℕ, zero, suc, ◌^◌, ◌≤◌, ◌⊎◌, Bool, true, false, ◌&&◌, not, nat_lt, ◌==◌, List, [], ◌∷◌, Result, Ok, Err}
+use Rattle.std.specs.Prelude.{◌≡◌, ℕ, zero, suc, ◌^◌, ◌≤◌, ◌⊎◌, Bool, true, false, ◌&&◌, ◌||◌, not, nat_lt, ◌==◌, List, [], ◌∷◌, Result, Ok, Err}
 use Rattle.std.proofs.Common.{inl, inr, arith}
 use Rattle.nest_memory.specs.TypeTree as types
 use Rattle.nest_memory.specs.TypeTree.{Entries, TypeTree, FieldTree, field, field_type, count_fields, is_pair}
 use Rattle.ipc_flatbuf.specs.declared.error.IpcWriteError.{IpcWriteError}
 use Rattle.ipc_flatbuf.specs.declared.error.IpcWriteError.TheVariants as reasons
 use Rattle.ipc_flatbuf.specs.WriteErrors.{IsSizeError}
-use Rattle.ipc_schema.specs.Types.{spec_is_coarse, spec_are_union_ids, spec_children_of}
+use Rattle.ipc_schema.specs.Types.{spec_is_precision, most_digits, most_digits256, spec_is_coarse, spec_are_union_ids, spec_children_of}
+use Rattle.ipc_schema.specs.Floats.{spec_is_float_name, spec_is_float}
 use Rattle.ipc_schema.specs.Extensions.{extension_name, extension_metadata, spec_has_key, spec_storage_type, spec_table_type, spec_is_extension}
 use Rattle.ipc_schema.specs.DictionaryIds.{have_dictionary}
 
@@ -26,6 +27,10 @@ spec_check_number n = spec_require (nat_lt n (2 ^ 31)) reasons.Size
 -- a positive size
 abbrev pub spec_check_size : ℕ → Result (Unit {0}) IpcWriteError
 spec_check_size n = and_then_check (spec_require (not (n == 0)) reasons.Type) (spec_check_number n)
+
+-- a precision that fits the width, and a scale
+abbrev pub spec_check_decimal : ℕ → ℕ → ℕ → Result (Unit {0}) IpcWriteError
+spec_check_decimal most digits after = and_then_check (spec_require (spec_is_precision most digits) reasons.Type) (spec_check_number after)
 
 -- the error of a type that cannot be written, without its children
 abbrev pub spec_check_type : TypeTree → Result (Unit {0}) IpcWriteError
@@ -60,27 +65,33 @@ spec_check_type (types.large_list f) = Ok tt
 spec_check_type (types.struct fs) = spec_require (not (count_fields fs == 0)) reasons.Type
 spec_check_type (types.union fs ids mode) = spec_require (spec_are_union_ids ids (count_fields fs)) reasons.Type
 spec_check_type (types.map f sorted) = spec_require (is_pair (field_type f)) reasons.Type
-spec_check_type (types.decimal digits after) = and_then_check (spec_check_number digits) (spec_check_number after)
-spec_check_type (types.decimal256 digits after) = and_then_check (spec_check_number digits) (spec_check_number after)
-spec_check_type t = Err reasons.Type
+spec_check_type (types.decimal digits after) = spec_check_decimal most_digits digits after
+spec_check_type (types.decimal256 digits after) = spec_check_decimal most_digits256 digits after
+spec_check_type (types.dictionary key values ordered) = Err reasons.Type
+spec_check_type (types.extension title type metadata) = spec_require (spec_is_float (types.extension title type metadata)) reasons.Type
 
 -- the storage of an extension type is not an extension type
 abbrev pub is_not_nested_extension : TypeTree → Bool
 is_not_nested_extension type = not (spec_is_extension (spec_storage_type type))
 
+-- the name of an extension type is not that of a floating-point type
+abbrev pub spec_has_free_name : TypeTree → Bool
+spec_has_free_name (types.extension title type metadata) = spec_is_float (types.extension title type metadata) || not (spec_is_float_name title)
+spec_has_free_name type = true
+
 -- the value type of a dictionary is not a dictionary or an extension type
 abbrev pub spec_is_plain_value_type : TypeTree → Bool
 spec_is_plain_value_type (types.dictionary key values ordered) = false
-spec_is_plain_value_type (types.extension title type metadata) = false
+spec_is_plain_value_type (types.extension title type metadata) = spec_is_float (types.extension title type metadata)
 spec_is_plain_value_type type = true
 
 abbrev pub spec_can_encode : TypeTree → Bool
 spec_can_encode (types.dictionary key values ordered) = spec_is_plain_value_type values
 spec_can_encode type = true
 
--- the custom metadata of a field of an extension type has no key that is reserved for it
+-- the custom metadata of a field of an extension type has no key that is reserved for it, and its name is not reserved
 abbrev pub spec_has_no_reserved_key : TypeTree → Entries → Bool
-spec_has_no_reserved_key type entries = not (spec_has_key extension_name entries) && not (spec_is_extension type && spec_has_key extension_metadata entries)
+spec_has_no_reserved_key type entries = spec_has_free_name type && (not (spec_has_key extension_name entries) && not (spec_is_extension type && spec_has_key extension_metadata entries))
 
 -- the first error of a field, without its children
 unfoldable pub spec_check_own : FieldTree → Result (Unit {0}) IpcWriteError

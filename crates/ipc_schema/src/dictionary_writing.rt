@@ -10,6 +10,7 @@ ghost use Rattle.ipc_schema.specs.DictionaryIds.{keys_of, spec_encoding_of, next
 ghost use Rattle.ipc_schema.specs.SchemaBytes.{type_bytes, encoding_head, encoding_part, encoding_bytes, spec_table_len, spec_dictionary_slot};
 
 use crate::dictionaries::Encoding;
+use crate::floats::is_float;
 use crate::type_writing::{children_of, storage_type, table_type, write_two_fields};
 use ipc_flatbuf::{IpcWriteError, write_i64};
 use nest_memory::datatypes::{DataType, Field, IntegerType};
@@ -19,7 +20,8 @@ fn is_plain_value_type(values: &DataType) -> bool
     ensures { result ≡ spec_is_plain_value_type (type_of values.now) }
 {
     match values {
-        DataType::Dictionary(_, _, _) | DataType::Extension(_, _, _) => false,
+        DataType::Dictionary(_, _, _) => false,
+        DataType::Extension(_, _, _) => is_float(values),
         _ => true,
     }
 }

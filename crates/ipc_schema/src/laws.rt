@@ -4,9 +4,12 @@ ghost use Rattle.ipc_flatbuf.specs.MessageBytes.{metadata_size};
 ghost use Rattle.ipc_schema.specs.Examples.{worked_message, worked_tree};
 ghost use Rattle.ipc_schema.specs.NestedExamples.{AreNested, AreMaps, AreUnions};
 ghost use Rattle.ipc_schema.specs.ExtensionExamples.{AreExtended, ArePlain};
+ghost use Rattle.ipc_schema.specs.BodyLayoutExamples.{AreLayouts};
+ghost use Rattle.ipc_schema.specs.UnsupportedExamples.{IsFirstUnsupported, IsUnsupportedItem, IsSupportedColumn};
+ghost use Rattle.ipc_schema.specs.FloatExamples.{AreFloats, IsReserved, AreSingleBytes, AreCheckedFloats};
 ghost use Rattle.ipc_schema.specs.DictionaryExamples.{AreKeyed, AreOuter, AreOfOneId, AreLookedAt};
 ghost use Rattle.ipc_schema.specs.DictionaryWriteExamples.{AreWritten, AreNumbered, AreRefused};
-ghost use Rattle.ipc_schema.specs.TypeExamples.{AreDecimals, AreTimes, AreZones, AreIntervals, AreSizes};
+ghost use Rattle.ipc_schema.specs.TypeExamples.{AreDecimals, AreMostDigits, ArePrecisions, AreTimes, AreZones, AreIntervals, AreSizes};
 ghost use Rattle.ipc_schema.specs.Dictionaries.{no_dictionaries};
 ghost use Rattle.ipc_schema.specs.DictionaryIds.{have_dictionary};
 ghost use Rattle.ipc_schema.specs.OutermostIds.{ValueTypes, spec_count_nested, spec_outermost_ids};
@@ -26,8 +29,12 @@ pub fn schema_is_read()
 
 /// The bytes of another writer decode to fields of decimals, dates, times, timestamps, durations, intervals and
 /// fixed-size binaries.
+///
+/// The precision of a decimal is at least 1 and at most the number of digits that fit in its width.
 pub fn types_are_read()
     ensures decimals { AreDecimals }
+    ensures digits { AreMostDigits }
+    ensures precisions { ArePrecisions }
     ensures times { AreTimes }
     ensures zones { AreZones }
     ensures intervals { AreIntervals }
@@ -41,12 +48,34 @@ pub fn nested_types_are_read()
     ensures unions { AreUnions }
 {}
 
+/// The bytes of another writer decode to layouts that data types do not determine, also of dictionary values.
+pub fn layouts_are_read()
+    ensures { AreLayouts }
+{}
+
+/// The first field of a type that is not read is found in the bytes of another writer, with its path.
+pub fn unsupported_fields_are_found()
+    ensures schema { IsFirstUnsupported }
+    ensures item { IsUnsupportedItem }
+    ensures other { IsSupportedColumn }
+{}
+
 /// Custom metadata decodes to extension types at any depth.
 ///
 /// `ARROW:extension:metadata` alone is not an extension type, and the entries of a map cannot be one.
 pub fn extensions_are_read()
     ensures fields { AreExtended }
     ensures plain { ArePlain }
+{}
+
+/// The bytes of another writer decode to floating-point types: alone, in a list, as dictionary values and as storage.
+///
+/// Only these types are written as floating-point, and the metadata of a field does not name them.
+pub fn floats_are_read()
+    ensures fields { AreFloats }
+    ensures reserved { IsReserved }
+    ensures bytes { AreSingleBytes }
+    ensures checks { AreCheckedFloats }
 {}
 
 /// The bytes of another writer decode to dictionary-encoded fields, at any depth and as storage of an extension type.

@@ -5,6 +5,7 @@ ghost use Rattle.nest_memory.specs.TypeOf.{type_of};
 ghost use Rattle.ipc_flatbuf.specs.ReadResults.{ReturnsOrRunsOut};
 ghost use Rattle.ipc_schema.specs.LeafModels.{leaf_tree};
 
+use crate::floats::{Precision, float_type};
 use ipc_flatbuf::IpcReadError;
 use nest_memory::datatypes::{DataType, IntegerType, IntervalUnit, TimeUnit};
 use std::alloc::Global;
@@ -15,6 +16,7 @@ pub enum Leaf<'a> {
     Null,
     Boolean,
     Integer(IntegerType),
+    Float(Precision),
     Decimal(usize, usize),
     Decimal256(usize, usize),
     Date32,
@@ -51,6 +53,7 @@ pub fn data_type_of(alloc: Global, leaf: Leaf<'_>) -> Result<DataType, IpcReadEr
         Leaf::Null => Ok(DataType::Null),
         Leaf::Boolean => Ok(DataType::Boolean),
         Leaf::Integer(integer) => Ok(DataType::from(integer)),
+        Leaf::Float(precision) => float_type(alloc, precision),
         Leaf::Decimal(digits, after) => Ok(DataType::Decimal(digits, after)),
         Leaf::Decimal256(digits, after) => Ok(DataType::Decimal256(digits, after)),
         Leaf::Date32 => Ok(DataType::Date32),

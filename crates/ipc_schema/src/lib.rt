@@ -4,11 +4,13 @@
 //! [`write_schema_with_dictionaries`] writes the schema message, [`footer`] reads and writes the footer of a file.
 #![tactic(auto)]
 
+pub mod body_layouts;
 mod columns;
 mod dictionaries;
 mod dictionary_ids;
 mod dictionary_writing;
 mod equality;
+pub mod floats;
 pub mod laws;
 mod leaf_types;
 mod metadata;
@@ -22,13 +24,15 @@ mod type_tags;
 mod type_writing;
 mod types;
 mod unions;
+pub mod unsupported_fields;
 mod writing;
 
 pub use columns::{ColumnSet, Projection};
 pub use dictionaries::{DictionaryTypes, DictionaryValueType};
 pub use dictionary_ids::outermost_ids;
 pub use projected::{
-    ProjectedSchema, check_projected_version, projected_schema_at, read_projected_schema,
+    ProjectedSchema, check_projected_version, projected_schema_at, projected_schema_in_message,
+    read_projected_schema,
 };
 pub use reading::{read_schema, schema_at};
 pub use schema::{Schema, SchemaWithDictionaries};

@@ -1,12 +1,13 @@
 //! Readers of the projection of a schema: the columns that are read, and the nodes and buffers of the skipped ones.
-ghost use Rattle.std.specs.Prelude.{◌≡◌, ◌<◌, ◌≤◌, ◌^◌, ◌+◌, ◌*◌, ◌++◌, map, length, IfOk, OnOk, Ok};
+ghost use Rattle.std.specs.Prelude.{◌≡◌, ◌<◌, ◌≤◌, ◌^◌, ◌+◌, ◌*◌, ◌++◌, map, length, IfOk, IfSome, OnOk, Ok};
 ghost use Rattle.std.specs.List.{list_any};
 ghost use Rattle.nest_memory.specs.TypeOf.{field_of};
 ghost use Rattle.ipc_flatbuf.specs.ReadResults.{ReturnsOrRunsOut};
+ghost use Rattle.ipc_flatbuf.specs.Messages.{optional_model_of};
 ghost use Rattle.ipc_schema.specs.DictionaryModels.{progress_of};
 ghost use Rattle.ipc_schema.specs.Schemas.{schema_of};
 ghost use Rattle.ipc_schema.specs.Projections.{projection_of, columns_of, IsColumnSet};
-ghost use Rattle.ipc_schema.specs.ProjectedSchemas.{spec_item_by, spec_item_at, spec_projected_fields_at, spec_has_union, spec_check_projected_version, spec_projected_schema_at, stream_projected_schema_at, projected_schema_of, no_fields, with_item, appended, item_of, fields_model_of};
+ghost use Rattle.ipc_schema.specs.ProjectedSchemas.{spec_item_by, spec_item_at, spec_projected_fields_at, spec_has_union, spec_check_projected_version, spec_projected_schema_at, spec_projected_schema_in_message, stream_projected_schema_at, projected_schema_of, no_fields, with_item, appended, item_of, fields_model_of};
 
 use crate::columns::{ColumnSet, Projection};
 use crate::dictionaries::DictionaryTypes;
@@ -15,7 +16,7 @@ use crate::reading::{field_at, schema_message};
 use crate::schema::Schema;
 use crate::skipped_fields::skipped_field_at;
 use crate::unions::check_version;
-use ipc_flatbuf::message::{MetadataVersion, next_message};
+use ipc_flatbuf::message::{Message, MetadataVersion, next_message};
 use ipc_flatbuf::{
     FieldAction, IpcReadError, SkippedField, VectorItems, i16_field, items_at, offset_at,
     offset_field, read_table,
@@ -209,6 +210,35 @@ pub fn check_projected_version(
     }
 }
 
+/// Returns the projection of the schema of the first message of a stream.
+///
+/// # Errors
+/// [`IpcReadError::MissingSchema`] where the message is not a schema, and the errors of reading one.
+#[tactic(auto, unfolding(crate::specs::ProjectedSchemas::spec_projected_schema_in_message))]
+pub fn projected_schema_in_message(
+    alloc: Global,
+    columns: Projection<'_>,
+    first: Option<Message<'_>>,
+) -> Result<ProjectedSchema, IpcReadError>
+    requires { IfSome first (λ m. length m.metadata.now < 2 ^ 31) }
+    ensures { ReturnsOrRunsOut projected_schema_of result (spec_projected_schema_in_message (projection_of columns.entry) (optional_model_of first.entry)) }
+{
+    let message = schema_message(first)?;
+    let column_set = ColumnSet::new(alloc, columns)?;
+    let root = message.root;
+    let (picked, _) = projected_schema_at(
+        alloc,
+        &column_set,
+        message.metadata,
+        root.header,
+        root.left,
+    )?;
+    match check_projected_version(root.version, &picked.schema.fields, &picked.steps) {
+        Err(error) => Err(error),
+        Ok(_) => Ok(picked),
+    }
+}
+
 /// Returns the projection of the schema of a stream, and the bytes after the schema message.
 ///
 /// # Errors
@@ -222,18 +252,6 @@ pub fn read_projected_schema<'a>(
     ensures { ReturnsOrRunsOut (λ x. (projected_schema_of x.0, x.1.now)) result (stream_projected_schema_at (projection_of columns.entry) bytes.now) }
 {
     let (first, rest) = next_message(bytes)?;
-    let message = schema_message(first)?;
-    let column_set = ColumnSet::new(alloc, columns)?;
-    let root = message.root;
-    let (picked, _) = projected_schema_at(
-        alloc,
-        &column_set,
-        message.metadata,
-        root.header,
-        root.left,
-    )?;
-    match check_projected_version(root.version, &picked.schema.fields, &picked.steps) {
-        Err(error) => Err(error),
-        Ok(_) => Ok((picked, rest)),
-    }
+    let picked = projected_schema_in_message(alloc, columns, first)?;
+    Ok((picked, rest))
 }

@@ -1,9 +1,9 @@
 //! Readers of schemas.
-ghost use Rattle.std.specs.Prelude.{◌≡◌, ◌<◌, ◌≤◌, ◌^◌, ◌+◌, ◌*◌, map, length, IfOk, IfSome, Ok, string_bytes};
+ghost use Rattle.std.specs.Prelude.{◌≡◌, ◌<◌, ◌≤◌, ◌^◌, ◌+◌, ◌*◌, not, map, length, IfOk, IfSome, Ok, string_bytes};
 ghost use Rattle.nest_memory.specs.TypeOf.{entries_of, field_of, type_of};
-ghost use Rattle.ipc_schema.specs.Extensions.{field_with_metadata};
+ghost use Rattle.ipc_schema.specs.Extensions.{spec_names_float, field_with_metadata};
 ghost use Rattle.ipc_flatbuf.specs.ReadResults.{ReturnsOrRunsOut, Returns, check};
-ghost use Rattle.ipc_flatbuf.specs.declared.error.IpcReadError.TheVariants.{ChildCount};
+ghost use Rattle.ipc_flatbuf.specs.declared.error.IpcReadError.TheVariants.{ChildCount, UnsupportedType};
 ghost use Rattle.ipc_schema.specs.FieldVectors.{tables_in_turn};
 ghost use Rattle.ipc_schema.specs.DictionaryModels.{types_of, progress_of};
 ghost use Rattle.ipc_flatbuf.specs.Messages.{model_of, optional_model_of};
@@ -14,7 +14,7 @@ ghost use Rattle.ipc_schema.specs.Schemas.{field_of_keys, spec_field_over, spec_
 use crate::dictionaries::{
     DictionaryTypes, Encoding, dictionary_at, dictionary_type_of, record_id, record_values,
 };
-use crate::metadata::{metadata_at, take};
+use crate::metadata::{metadata_at, names_float, take};
 use crate::nested::shape_at;
 use crate::schema::{Schema, SchemaWithDictionaries};
 use crate::type_shapes::{Shape, can_have, with_children};
@@ -36,6 +36,17 @@ fn check_child_count(shape: &Shape<'_>, count: usize) -> Result<(), IpcReadError
         Ok(())
     } else {
         Err(IpcReadError::ChildCount)
+    }
+}
+
+// Checks that the metadata of a field does not name the extension type of a floating-point type.
+fn check_extension_name(metadata: &Metadata) -> Result<(), IpcReadError>
+    ensures { result ≡ check (not (spec_names_float (entries_of metadata.now.entries))) UnsupportedType }
+{
+    if names_float(metadata) {
+        Err(IpcReadError::UnsupportedType)
+    } else {
+        Ok(())
     }
 }
 
@@ -125,6 +136,7 @@ fn field_over(
     record_id(seen, dictionary)?;
     let (fields, left) = fields_at(alloc, depth, bytes, children, left, seen)?;
     let (metadata, left) = metadata_at(alloc, bytes, offset_field(bytes, table, 6)?, left)?;
+    check_extension_name(&metadata)?;
     let field = field_with(
         alloc,
         name,

@@ -9,6 +9,7 @@ use ipc_flatbuf::IpcReadError;
 pub enum LeafTag {
     Null,
     Int,
+    FloatingPoint,
     Binary,
     Utf8,
     Bool,
@@ -41,6 +42,7 @@ fn known_tag(number: u8) -> Result<Tag, IpcReadError>
     match number {
         1 => Ok(Tag::Leaf(LeafTag::Null)),
         2 => Ok(Tag::Leaf(LeafTag::Int)),
+        3 => Ok(Tag::Leaf(LeafTag::FloatingPoint)),
         4 => Ok(Tag::Leaf(LeafTag::Binary)),
         5 => Ok(Tag::Leaf(LeafTag::Utf8)),
         6 => Ok(Tag::Leaf(LeafTag::Bool)),

@@ -6,13 +6,14 @@ ghost use Rattle.ipc_flatbuf.specs.PartBytes.{i32_bytes};
 ghost use Rattle.ipc_flatbuf.specs.WriteErrors.{IsSizeError};
 ghost use Rattle.ipc_schema.specs.Extensions.{spec_storage_type, spec_table_type, spec_is_extension};
 ghost use Rattle.ipc_schema.specs.Types.{spec_children_of};
-ghost use Rattle.ipc_schema.specs.WriteChecks.{and_then_check, spec_require, spec_check_number, spec_check_size, spec_check_type};
-ghost use Rattle.ipc_schema.specs.SchemaBytes.{no_field, one_field, two_fields, three_fields, spec_unit_number, spec_interval_number, spec_mode_number, ids_bytes, union_bytes, timestamp_bytes, type_bytes, spec_type_number};
+ghost use Rattle.ipc_schema.specs.WriteChecks.{spec_require, spec_check_number, spec_check_size, spec_check_decimal, spec_check_type};
+ghost use Rattle.ipc_schema.specs.SchemaBytes.{float_bytes, no_field, one_field, two_fields, three_fields, spec_unit_number, spec_interval_number, spec_mode_number, ids_bytes, union_bytes, timestamp_bytes, type_bytes, spec_type_number};
 ghost use Rattle.ipc_schema.specs.TypeLaws.{IsZone, TypeFits, AreFew};
 
+use crate::floats::{Precision, is_float, precision_number, precision_of};
 use crate::nested::are_union_ids;
 use crate::type_shapes::is_pair;
-use crate::types::is_coarse;
+use crate::types::{MOST_DIGITS, MOST_DIGITS_256, is_coarse, is_precision};
 use ipc_flatbuf::{IpcWriteError, write_i32, write_string, write_u32, write_zeros};
 use nest_memory::datatypes::{DataType, Field, IntervalUnit, TimeUnit, UnionMode};
 use std::alloc::AllocError;
@@ -38,11 +39,14 @@ fn check_size(size: usize) -> Result<(), IpcWriteError>
     }
 }
 
-fn check_decimal(digits: usize, after: usize) -> Result<(), IpcWriteError>
-    ensures { result ≡ and_then_check (spec_check_number digits) (spec_check_number after) }
+fn check_decimal(most: usize, digits: usize, after: usize) -> Result<(), IpcWriteError>
+    ensures { result ≡ spec_check_decimal most digits after }
 {
-    check_number(digits)?;
-    check_number(after)
+    if is_precision(most, digits) {
+        check_number(after)
+    } else {
+        Err(IpcWriteError::Type)
+    }
 }
 
 // The error where a condition is false.
@@ -52,12 +56,12 @@ fn require(passes: bool, why: IpcWriteError) -> Result<(), IpcWriteError>
     if passes { Ok(()) } else { Err(why) }
 }
 
-/// Returns the storage type of an extension type, and any other type itself.
+/// Returns the storage type of an extension type, and any other type itself; floating-point types are not extension types.
 pub fn storage_type(data_type: &DataType) -> &DataType
     ensures { type_of result.now ≡ spec_storage_type (type_of data_type.now) }
 {
     match data_type {
-        DataType::Extension(_, inner, _) => inner,
+        DataType::Extension(_, inner, _) if !is_float(data_type) => inner,
         _ => data_type,
     }
 }
@@ -72,12 +76,12 @@ pub fn table_type(data_type: &DataType) -> &DataType
     }
 }
 
-/// Returns whether a type is an extension type.
+/// Returns whether a type is an extension type and not a floating-point type.
 pub fn is_extension(data_type: &DataType) -> bool
     ensures { result ≡ spec_is_extension (type_of data_type.now) }
 {
     match data_type {
-        DataType::Extension(_, _, _) => true,
+        DataType::Extension(_, _, _) => !is_float(data_type),
         _ => false,
     }
 }
@@ -136,10 +140,10 @@ pub fn check_type(data_type: &DataType) -> Result<(), IpcWriteError>
             IpcWriteError::Type,
         ),
         DataType::Map(field, _) => require(is_pair(&field.data_type), IpcWriteError::Type),
-        DataType::Decimal(digits, after) | DataType::Decimal256(digits, after) => {
-            check_decimal(*digits, *after)
-        }
-        DataType::Dictionary(_, _, _) | DataType::Extension(_, _, _) => Err(IpcWriteError::Type),
+        DataType::Decimal(digits, after) => check_decimal(MOST_DIGITS, *digits, *after),
+        DataType::Decimal256(digits, after) => check_decimal(MOST_DIGITS_256, *digits, *after),
+        DataType::Dictionary(_, _, _) => Err(IpcWriteError::Type),
+        DataType::Extension(_, _, _) => require(is_float(data_type), IpcWriteError::Type),
     }
 }
 
@@ -176,11 +180,9 @@ pub fn type_number(data_type: &DataType) -> u8
         DataType::LargeBinary => 19,
         DataType::LargeUtf8 => 20,
         DataType::LargeList(_) => 21,
-        DataType::Float16
-        | DataType::Float32
-        | DataType::Float64
-        | DataType::Dictionary(_, _, _)
-        | DataType::Extension(_, _, _) => 0,
+        DataType::Extension(_, _, _) => { if is_float(data_type) { 3 } else { 0 } }
+        DataType::Float16 | DataType::Float32 | DataType::Float64 | DataType::Dictionary(_, _, _) =>
+            0,
     }
 }
 
@@ -262,6 +264,16 @@ fn write_timestamp(
             write_string(out, zone.as_str())?;
             Ok(())
         }
+    }
+}
+
+#[tactic(auto, unfolding(crate::specs::SchemaBytes::float_bytes))]
+fn write_float(out: &mut Vec<u8>, precision: Option<Precision>) -> Result<(), AllocError>
+    ensures { OnOk result (out.new.items ≡ out.old.items ++ float_bytes precision) }
+{
+    match precision {
+        None => Ok(()),
+        Some(precision) => write_one_field(out, precision_number(precision)),
     }
 }
 
@@ -354,11 +366,9 @@ pub fn write_type(out: &mut Vec<u8>, data_type: &DataType) -> Result<(), IpcWrit
         DataType::Decimal256(digits, after) => {
             write_three_fields(out, *digits as u32, *after as u32, 256)?
         }
-        DataType::Float16
-        | DataType::Float32
-        | DataType::Float64
-        | DataType::Dictionary(_, _, _)
-        | DataType::Extension(_, _, _) => {}
+        DataType::Extension(_, _, _) => write_float(out, precision_of(data_type))?,
+        DataType::Float16 | DataType::Float32 | DataType::Float64 | DataType::Dictionary(_, _, _) =>
+            {}
     }
     Ok(())
 }

@@ -2,8 +2,9 @@
 ghost use Rattle.std.specs.Prelude.{◌≡◌, ◌<◌, ◌^◌, length, option_map};
 ghost use Rattle.ipc_flatbuf.specs.ReadResults.{Returns};
 ghost use Rattle.ipc_schema.specs.LeafModels.{leaf_tree};
-ghost use Rattle.ipc_schema.specs.Types.{spec_bare_at, spec_integer_of, spec_integer_at, spec_decimal_of, spec_decimal_at, spec_date_of, spec_date_at, spec_unit_of, spec_is_coarse, spec_time_of, spec_time_at, spec_zone_at, spec_timestamp_at, spec_interval_of, spec_interval_at, spec_duration_at, spec_size_of, spec_fixed_size_binary_at, spec_type_at};
+ghost use Rattle.ipc_schema.specs.Types.{spec_bare_at, spec_integer_of, spec_integer_at, spec_float_at, spec_is_precision, spec_decimal_of, spec_decimal_at, spec_date_of, spec_date_at, spec_unit_of, spec_is_coarse, spec_time_of, spec_time_at, spec_zone_at, spec_timestamp_at, spec_interval_of, spec_interval_at, spec_duration_at, spec_size_of, spec_fixed_size_binary_at, spec_type_at};
 
+use crate::floats::precision_of_number;
 use crate::leaf_types::Leaf;
 use crate::type_tags::LeafTag;
 use ipc_flatbuf::{
@@ -76,12 +77,37 @@ pub fn integer_at(
     Ok((integer, left))
 }
 
+#[tactic(auto, unfolding(crate::specs::Types::spec_float_at))]
+fn float_at(bytes: &[u8], position: usize, left: usize) -> Result<(Leaf<'_>, usize), IpcReadError>
+    requires { length bytes.now < 2 ^ 32 }
+    ensures { Returns (λ x. (leaf_tree x.0, x.1)) result (spec_float_at bytes.now position left) }
+{
+    let (table, left) = read_table(bytes, position, left)?;
+    let number = i16_field(bytes, table, 0, 0)?;
+    let number = non_negative(IpcReadError::TypeRange, number as i64)?;
+    let precision = precision_of_number(number)?;
+    Ok((Leaf::Float(precision), left))
+}
+
+/// The most digits of a 128-bit decimal.
+pub const MOST_DIGITS: usize = 38;
+
+/// The most digits of a 256-bit decimal.
+pub const MOST_DIGITS_256: usize = 76;
+
+/// Returns whether a precision is from 1 to the most digits of a width.
+pub fn is_precision(most: usize, digits: usize) -> bool
+    ensures { result ≡ spec_is_precision most digits }
+{
+    1 <= digits && digits <= most
+}
+
 fn decimal_of<'a>(digits: usize, after: usize, bits: usize) -> Result<Leaf<'a>, IpcReadError>
     ensures { Returns leaf_tree result (spec_decimal_of digits after bits) }
 {
-    if bits == 128 {
+    if bits == 128 && is_precision(MOST_DIGITS, digits) {
         Ok(Leaf::Decimal(digits, after))
-    } else if bits == 256 {
+    } else if bits == 256 && is_precision(MOST_DIGITS_256, digits) {
         Ok(Leaf::Decimal256(digits, after))
     } else {
         Err(IpcReadError::TypeRange)
@@ -299,6 +325,7 @@ pub fn type_at(
             let (integer, left) = integer_at(bytes, position, left)?;
             Ok((Leaf::Integer(integer), left))
         }
+        LeafTag::FloatingPoint => float_at(bytes, position, left),
         LeafTag::Binary => bare_at(Leaf::Binary, bytes, position, left),
         LeafTag::Utf8 => bare_at(Leaf::Utf8, bytes, position, left),
         LeafTag::Bool => bare_at(Leaf::Boolean, bytes, position, left),

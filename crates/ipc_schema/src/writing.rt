@@ -13,7 +13,7 @@ ghost use Rattle.ipc_flatbuf.specs.declared.message.types.MessageKind.TheVariant
 ghost use Rattle.ipc_schema.specs.Schemas.{schema_of, spec_schema_at, stream_schema_at};
 ghost use Rattle.ipc_schema.specs.Dictionaries.{no_dictionaries};
 ghost use Rattle.ipc_schema.specs.DictionaryIds.{total, count_dictionaries};
-ghost use Rattle.ipc_schema.specs.WriteChecks.{spec_check_type, spec_has_no_reserved_key, spec_check_own, spec_check_each, spec_check_field, check_fields, check_plain_fields, IsSchemaWriteError, IsPlainSchemaWriteError};
+ghost use Rattle.ipc_schema.specs.WriteChecks.{spec_check_type, spec_has_free_name, spec_has_no_reserved_key, spec_check_own, spec_check_each, spec_check_field, check_fields, check_plain_fields, IsSchemaWriteError, IsPlainSchemaWriteError};
 ghost use Rattle.ipc_schema.specs.SchemaBytes.{field_vtable, field_head, entries_bytes, parts_of_field, field_bytes, each_bytes, field_parts, schema_bytes, schema_message};
 ghost use Rattle.ipc_schema.specs.MetadataLaws.{AreUtf8};
 ghost use Rattle.ipc_schema.specs.TypeLaws.{TypeFits};
@@ -26,6 +26,7 @@ use crate::dictionary_writing::{
     any_has_dictionary, can_encode, dictionary_len, dictionary_slot, encoding_of, table_len,
     write_dictionary,
 };
+use crate::floats::{is_float, is_float_name};
 use crate::metadata::{has_key, with_extension, write_metadata};
 use crate::schema::Schema;
 use crate::type_writing::{
@@ -36,11 +37,22 @@ use ipc_flatbuf::{IpcWriteError, write_offset, write_string, write_tables};
 use nest_memory::datatypes::{DataType, Field, Metadata};
 use std::alloc::{AllocError, Global};
 
-// Whether the custom metadata of a field has no key that is reserved for extension types.
+// Whether the name of an extension type is not that of a floating-point type.
+fn has_free_name(data_type: &DataType) -> bool
+    ensures { result ≡ spec_has_free_name (type_of data_type.now) }
+{
+    match data_type {
+        DataType::Extension(title, _, _) => is_float(data_type) || !is_float_name(title),
+        _ => true,
+    }
+}
+
+// Whether a field has no name and no metadata key that is reserved for extension types.
 fn has_no_reserved_key(data_type: &DataType, own: &Metadata) -> bool
     ensures { result ≡ spec_has_no_reserved_key (type_of data_type.now) (entries_of own.now.entries) }
 {
-    !has_key(own, "ARROW:extension:name")
+    has_free_name(data_type)
+        && !has_key(own, "ARROW:extension:name")
         && !(is_extension(data_type) && has_key(own, "ARROW:extension:metadata"))
 }
 
@@ -241,7 +253,7 @@ fn all_metadata(
     ensures { IfOk result (λ all. unwrap_or (option_map (λ m. entries_of m.entries) all) (entries_of own.now.entries) ≡ all_metadata_of (type_of data_type.now) (entries_of own.now.entries)) }
 {
     match data_type {
-        DataType::Extension(title, _, text) => {
+        DataType::Extension(title, _, text) if !is_float(data_type) => {
             let all = with_extension(alloc, own, title, text)?;
             Ok(Some(all))
         }

@@ -6,7 +6,7 @@ ghost use Rattle.ipc_schema.specs.ProjectedFooters.{projected_footer_in};
 ghost use Rattle.ipc_schema.specs.FooterParts.{footer_by_parts, last_bytes_of, footer_bytes_in};
 ghost use Rattle.ipc_schema.specs.FooterBytes.{footer_bytes};
 ghost use Rattle.ipc_schema.specs.FooterLaws.{FooterFits, FooterRoundTrips};
-ghost use Rattle.ipc_schema.specs.FooterExamples.{worked_file, worked_tree};
+ghost use Rattle.ipc_schema.specs.FooterExamples.{worked_file, worked_tree, unversioned_file, AreVersions};
 
 /// The footer of a file round-trips where its blocks are within the bytes before it.
 pub fn footers_round_trip()
@@ -14,8 +14,12 @@ pub fn footers_round_trip()
 {}
 
 /// The bytes of a file of another writer decode to a footer of one record batch and no columns.
+///
+/// So they do without a version of the footer, which is at most V5.
 pub fn footer_is_read()
-    ensures { projected_footer_in all worked_file ≡ Ok worked_tree }
+    ensures footer { projected_footer_in all worked_file ≡ Ok worked_tree }
+    ensures unversioned { projected_footer_in all unversioned_file ≡ Ok worked_tree }
+    ensures versions { AreVersions }
 {}
 
 /// The footer depends only on the length of the file, its first 6 and last 10 bytes, and the bytes of the footer.

@@ -4,14 +4,13 @@ ghost use Rattle.std.specs.List.{list_all};
 ghost use Rattle.ipc_flatbuf.specs.ReadResults.{ReturnsOrRunsOut};
 ghost use Rattle.ipc_flatbuf.specs.Flatbuffers.{structs_at};
 ghost use Rattle.ipc_schema.specs.Projections.{projection_of, columns_of, IsColumnSet};
-ghost use Rattle.ipc_schema.specs.Footers.{spec_block_at, spec_schema_position, spec_blocks_in, spec_block_lists_at, footer_position, is_block_before};
+ghost use Rattle.ipc_schema.specs.Footers.{spec_block_at, spec_check_footer_version, spec_schema_position, spec_blocks_in, spec_block_lists_at, footer_position, is_block_before};
 ghost use Rattle.ipc_schema.specs.ProjectedFooters.{spec_projected_footer_at, spec_check_blocks, projected_footer_in, projected_footer_of};
 ghost use Rattle.ipc_schema.specs.FooterParts.{footer_before, footer_length_by_ends, length_of_footer};
 
 use crate::footer::blocks::blocks_before;
 use crate::footer::types::{Block, ProjectedFooter};
-use crate::{ColumnSet, Projection, check_projected_version, projected_schema_at};
-use ipc_flatbuf::message::version_of;
+use crate::{ColumnSet, Projection, projected_schema_at};
 use ipc_flatbuf::{
     IpcReadError, Table, VectorItems, i16_field, i32_at, i64_at, items_at, non_negative, offset_at,
     offset_field, read_table,
@@ -64,6 +63,18 @@ fn blocks_in(
     Ok((blocks, left))
 }
 
+// Checks the version of a footer; the version of each message decides what is read.
+fn check_footer_version(number: i16) -> Result<(), IpcReadError>
+    ensures { result ≡ spec_check_footer_version number }
+{
+    let version = non_negative(IpcReadError::Version, number as i64)?;
+    if version <= 4 {
+        Ok(())
+    } else {
+        Err(IpcReadError::Version)
+    }
+}
+
 // The position of the schema, which is required.
 fn schema_position(to: Option<usize>) -> Result<usize, IpcReadError>
     ensures { result ≡ spec_schema_position to }
@@ -105,19 +116,16 @@ fn projected_footer_at(
 {
     let position = offset_at(bytes, 0)?;
     let (table, left) = read_table(bytes, position, 64 * bytes.len())?;
-    let version = version_of(i16_field(bytes, table, 0, 0)?)?;
+    check_footer_version(i16_field(bytes, table, 0, 0)?)?;
     let position = schema_position(offset_field(bytes, table, 1)?)?;
     let (picked, left) = projected_schema_at(alloc, column_set, bytes, position, left)?;
-    match check_projected_version(version, &picked.schema.fields, &picked.steps) {
+    match block_lists_at(alloc, bytes, table, left) {
         Err(error) => Err(error),
-        Ok(_) => match block_lists_at(alloc, bytes, table, left) {
-            Err(error) => Err(error),
-            Ok((dictionaries, batches)) => Ok(ProjectedFooter {
-                picked,
-                dictionaries,
-                batches,
-            }),
-        },
+        Ok((dictionaries, batches)) => Ok(ProjectedFooter {
+            picked,
+            dictionaries,
+            batches,
+        }),
     }
 }
 

@@ -15,3 +15,9 @@ returns-clause-intervals c = examples.intervals
 
 pub returns-clause-sizes : goal.returns-clause-sizes
 returns-clause-sizes c = examples.fixed_size_binary
+
+pub returns-clause-digits : goal.returns-clause-digits
+returns-clause-digits c = examples.most_digits_are
+
+pub returns-clause-precisions : goal.returns-clause-precisions
+returns-clause-precisions c = examples.precisions
