@@ -3,6 +3,7 @@ pub mod Bodies
 pub mod Copies
 pub mod Covers
 pub mod Orders
+pub mod Packings
 pub mod Packing
 pub mod Sizes
 pub mod Trees

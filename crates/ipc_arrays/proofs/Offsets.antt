@@ -1,12 +1,12 @@
 -- Offsets and data that are read and written.
 use Rattle.std.proofs.Common.{◌≡◌, ℕ, ◌+◌, ◌-◌, ◌*◌, ◌^◌, ◌<◌, ◌≤◌, Bool, true, false, eqb, leb, List, [], ◌∷◌, length, get_or, take, map, ◌++◌, Ok, Err, refl, sym, ap, ◌∙◌, arith}
-use Rattle.std.specs.Prelude.{ℤ, ◌&&◌, Some, slice_get}
+use Rattle.std.specs.Prelude.{ℤ, Some, None, if◌then◌else◌, slice_get}
 use Rattle.std.proofs.Math.Nat.{mul-le-mul_left, mul-div_cancel}
 use Rattle.std.proofs.lemmas.Bool.{le-leb, lt-leb}
 use Rattle.std.proofs.lemmas.List.{length-map, map-append, take_more}
 use Rattle.std.proofs.lemmas.Option.{get_or_from_slice_get}
 use Rattle.ipc_flatbuf.specs.ReadResults.{◌>>=◌}
-use Rattle.ipc_flatbuf.specs.declared.error.IpcReadError.TheVariants.{BufferTooShort, Offsets, OffsetPastChild, Utf8}
+use Rattle.ipc_flatbuf.specs.declared.error.IpcReadError.TheVariants.{BufferTooShort, Offsets, OffsetPastChild}
 use Rattle.nest_memory.specs.Native.{signed, unsigned}
 use Rattle.nest_memory.specs.Physical.{physical_type, utf8_of_width}
 use Rattle.nest_memory.specs.Rising.{are_offsets, numbers, to_nat, last_of, IsNondecreasing}
@@ -18,7 +18,7 @@ use Rattle.nest_model.specs.Fits.{ValidityFits, Fits, FirstError, checks, covere
 use Rattle.nest_model.specs.Layout.{utf8, fixed_size_binary}
 use Rattle.nest_model.specs.Part.{Validity, begin, count_rows}
 use Rattle.nest_model.specs.Runs.{product-exact, length-cut}
-use Rattle.ipc_arrays.specs.Decoding.{decoded_values, decoded_bytes, checked_offsets, decoded_offsets, decoded_data, checked_utf8}
+use Rattle.ipc_arrays.specs.Decoding.{decoded_values, decoded_bytes, checked_offsets, decoded_offsets, decoded_data, are_utf8}
 use Rattle.ipc_arrays.specs.FixedWidth.{ByteFormat, offset_format, only}
 use Rattle.ipc_arrays.specs.FixedWidthLaws.{offset_sized, values_long}
 use Rattle.ipc_arrays.specs.VariableSizeLaws.{rebased_at, rebased_long, texts_hold, texts_fail}
@@ -67,8 +67,8 @@ offsets_past large slots bytes past few =
     let short : leb ((slots + 1) * size) (length bytes) ≡ false = lt-leb _ _ (omega (arith, many, at_least, few)) in
     rw (not_zero slots (omega (arith, at_least)), short) refl
 
--- with slots or with bytes, the offsets are read
-pub offsets_of_some : (large : Bool) (format : ByteFormat) (slots : ℕ) (bytes : List ℕ) → format ≡ offset_format large → (eqb slots 0 && eqb (length bytes) 0) ≡ false → decoded_offsets large slots bytes ≡ (decoded_values format (slots + 1) bytes >>= λ values. checked_offsets values)
+-- with slots, the offsets are read
+pub offsets_of_some : (large : Bool) (format : ByteFormat) (slots : ℕ) (bytes : List ℕ) → format ≡ offset_format large → eqb slots 0 ≡ false → decoded_offsets large slots bytes ≡ (decoded_values format (slots + 1) bytes >>= λ values. checked_offsets values)
 unfolding decoded_offsets
 offsets_of_some large format slots bytes e some = rw (some, e) refl
 
@@ -94,11 +94,11 @@ sized_fits t bs va rows kind some long fits =
     let back = mul-div_cancel rows some in
     (kind, (some, (rw long exact, (rw (long, back) fits, tt))))
 
-pub texts_are : (large : Bool) (t : TypeTree) (os bs : List ℕ) (va : Validity) → Fits (utf8 large t os bs va) → checked_utf8 large t (record { offsets = os; bytes = bs; validity = va }) ≡ Ok (utf8 large t os bs va)
+pub texts_are : (large : Bool) (t : TypeTree) (os bs : List ℕ) (va : Validity) → Fits (utf8 large t os bs va) → (if are_utf8 os bs then Some (utf8 large t os bs va) else None) ≡ Some (utf8 large t os bs va)
 texts_are large t os bs va fits = rw (texts_hold os bs fits.1.0) refl
 
 pub texts_are_none : (large : Bool) (t : TypeTree) (os bs : List ℕ) (va : Validity) (e : Error) → last_of os ≤ length bs → ValidityFits va (count_rows os) → physical_type t ≡ utf8_of_width large → FirstError e (utf8 large t os bs va)
-    → checked_utf8 large t (record { offsets = os; bytes = bs; validity = va }) ≡ Err Utf8
+    → (if are_utf8 os bs then Some (utf8 large t os bs va) else None) ≡ None
 texts_are_none large t os bs va e within slots kind error =
     rw (texts_fail os bs (λ each. pass-no_error (checks (utf8 large t os bs va)) e (within, (each, (slots, (kind, tt)))) error)) refl
 

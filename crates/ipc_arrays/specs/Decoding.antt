@@ -27,6 +27,8 @@ use Rattle.nest_model.specs.Layout.{Layout, Layouts, null, boolean, primitive, b
 use Rattle.nest_model.specs.Meaning.{len}
 use Rattle.nest_model.specs.Part.{Validity, begin, extent, count_rows, field_named, valid_at}
 use Rattle.ipc_arrays.specs.DictionaryKeys.{key_format, key_primitive, zero_at_nulls, is_same_logical_type, dictionary_of}
+use Rattle.ipc_arrays.specs.EachSlot.{each_slot}
+use Rattle.ipc_arrays.specs.PackedStrings.{packed_offsets, packed_bytes}
 use Rattle.ipc_arrays.specs.FixedWidth.{ByteFormat, format_of, offset_format, type_format, only, decoded_natives}
 use Rattle.ipc_arrays.specs.declared.cursor.NodeCounts.{NodeCounts}
 use Rattle.ipc_arrays.specs.declared.cursor.BatchCursor.{BatchCursor}
@@ -92,10 +94,10 @@ decoded_bytes size bytes = check (nat_le size (length bytes)) BufferTooShort >>=
 unfoldable pub checked_offsets : List (List ℤ) → Result (List ℕ) IpcReadError
 checked_offsets values = check (are_offsets (map only values)) Offsets >>= λ rising. Ok (map to_nat (map only values))
 
--- the offsets of `slots` values, one more than slots; the buffer of an array of length 0 may be empty
+-- The offsets of `slots` values, one more than slots ("Variable-size Binary Layout"). An array of length 0 has no slot that uses them: its
+-- offset is 0, and the buffer is not read, since writers leave it empty or anything in it.
 unfoldable pub decoded_offsets : Bool → ℕ → List ℕ → Result (List ℕ) IpcReadError
-decoded_offsets large slots bytes =
-    if slots == 0 && length bytes == 0 then Ok (0 ∷ []) else decoded_values (offset_format large) (slots + 1) bytes >>= λ values. checked_offsets values
+decoded_offsets large slots bytes = if slots == 0 then Ok (0 ∷ []) else decoded_values (offset_format large) (slots + 1) bytes >>= λ values. checked_offsets values
 
 -- the data up to the last offset
 unfoldable pub decoded_data : ℕ → List ℕ → Result (List ℕ) IpcReadError
@@ -107,7 +109,10 @@ pub record BinaryParts : Type 0 where
   pub bytes : List ℕ
   pub validity : Validity
 
--- each value is UTF-8
+abbrev pub binary_parts : List ℕ → List ℕ → Validity → BinaryParts
+binary_parts offsets bytes validity = record { offsets = offsets; bytes = bytes; validity = validity }
+
+-- the bytes of each slot are UTF-8
 unfoldable pub are_utf8 : List ℕ → List ℕ → Bool
 are_utf8 offsets bytes = list_all (λ i. is_utf8 (sublist bytes (begin offsets i) (extent offsets i))) (range_with_len 0 (count_rows offsets))
 
@@ -186,9 +191,32 @@ decoded_binary_parts large counts body rest = do
 unfoldable pub decoded_binary : Bool → TypeTree → NodeCounts → List ℕ → Rest → Result (Layout × Rest) IpcReadError
 decoded_binary large t counts body rest = decoded_binary_parts large counts body rest >>= λ s. Ok (binary large t s.0.offsets s.0.bytes s.0.validity, s.1)
 
--- the same, of UTF-8
+-- the bytes of a slot
+abbrev pub bytes_of_slot : BinaryParts → ℕ → List ℕ
+bytes_of_slot s i = sublist s.bytes (begin s.offsets i) (extent s.offsets i)
+
+-- bytes that must be UTF-8
+abbrev pub checked_string : List ℕ → Result (List ℕ) IpcReadError
+checked_string bytes = check (is_utf8 bytes) Utf8 >>= λ text. Ok bytes
+
+-- the string of a slot: its bytes, which must be UTF-8, if it is valid; empty if it is null, whatever its bytes are
+abbrev pub string_of_slot : BinaryParts → ℕ → Result (List ℕ) IpcReadError
+string_of_slot s i = if valid_at s.validity i then checked_string (bytes_of_slot s i) else Ok []
+
+-- the strings of the slots, one after the other
+abbrev pub packed_slots : BinaryParts → Result BinaryParts IpcReadError
+packed_slots s = each_slot (string_of_slot s) (count_rows s.offsets) >>= λ strings. Ok (binary_parts (packed_offsets strings) (packed_bytes strings) s.validity)
+
+-- The parts of a UTF-8 array. They are kept if the bytes of every slot are UTF-8, those under nulls too.
+abbrev pub utf8_parts : BinaryParts → Result BinaryParts IpcReadError
+utf8_parts s = if are_utf8 s.offsets s.bytes then Ok s else packed_slots s
+
+-- the UTF-8 array of parts
+abbrev pub utf8_array : Bool → TypeTree → Result BinaryParts IpcReadError → Result Layout IpcReadError
+utf8_array large t parts = parts >>= λ p. Ok (utf8 large t p.offsets p.bytes p.validity)
+
 abbrev pub checked_utf8 : Bool → TypeTree → BinaryParts → Result Layout IpcReadError
-checked_utf8 large t s = check (are_utf8 s.offsets s.bytes) Utf8 >>= λ texts. Ok (utf8 large t s.offsets s.bytes s.validity)
+checked_utf8 large t s = utf8_array large t (utf8_parts s)
 
 unfoldable pub decoded_utf8 : Bool → TypeTree → NodeCounts → List ℕ → Rest → Result (Layout × Rest) IpcReadError
 decoded_utf8 large t counts body rest = do

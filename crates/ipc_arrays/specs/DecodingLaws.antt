@@ -29,8 +29,11 @@ use Rattle.nest_model.specs.Meaning.{len, first_len}
 use Rattle.nest_model.specs.Part.{count_rows}
 use Rattle.ipc_arrays.specs.DictionaryKeys.{key_primitive, key_format, AreZeroAtNulls, AreKeysOf, is_same_logical_type}
 use Rattle.ipc_arrays.specs.DictionaryKeyLaws.{blanked_long, blank_key, native_key, keyed_type}
+use Rattle.ipc_arrays.specs.EachSlot.{each_slot}
+use Rattle.ipc_arrays.specs.EachSlotLaws.{IsEach, each_is}
+use Rattle.ipc_arrays.specs.PackedStringLaws.{rows_long as rows_packed}
 use Rattle.ipc_arrays.specs.FixedWidth.{ByteFormat, format_of, offset_format, type_format, only, decoded_natives}
-use Rattle.ipc_arrays.specs.Decoding.{Rest, VariableSizeHead, BinaryParts, UnionParts, are_utf8, first_counts, decoded_bits, decoded_values, decoded_bytes, checked_offsets, decoded_offsets, decoded_data, checked_length, decoded_node, decoded_buffer, decoded_validity_buffer, decoded_boolean, decoded_primitive, decoded_fixed_size_binary, decoded_variable_size_head, decoded_binary_parts, decoded_binary, checked_utf8, decoded_utf8, decoded_keys_as, decoded_keys, are_keys_in_range, dictionary_over, decoded_dictionary_values, decoded_dictionary, decoded_fixed_width, decoded_flat, are_type_ids, are_known_types, decoded_types, decoded_union_parts, union_child_length, are_union_offsets_valid, decoded_array, decoded_child, decoded_children}
+use Rattle.ipc_arrays.specs.Decoding.{Rest, VariableSizeHead, BinaryParts, UnionParts, are_utf8, first_counts, decoded_bits, decoded_values, decoded_bytes, checked_offsets, decoded_offsets, decoded_data, checked_length, decoded_node, decoded_buffer, decoded_validity_buffer, decoded_boolean, decoded_primitive, decoded_fixed_size_binary, decoded_variable_size_head, decoded_binary_parts, decoded_binary, string_of_slot, packed_slots, utf8_parts, checked_utf8, decoded_utf8, decoded_keys_as, decoded_keys, are_keys_in_range, dictionary_over, decoded_dictionary_values, decoded_dictionary, decoded_fixed_width, decoded_flat, are_type_ids, are_known_types, decoded_types, decoded_union_parts, union_child_length, are_union_offsets_valid, decoded_array, decoded_child, decoded_children}
 use Rattle.ipc_arrays.specs.declared.cursor.NodeCounts.{NodeCounts}
 use Rattle.ipc_arrays.specs.declared.cursor.ExpectedLength.{ExpectedLength}
 use Rattle.ipc_arrays.specs.declared.cursor.ExpectedLength.TheVariants.{Rows, Exactly, AtLeast, Any}
@@ -85,7 +88,7 @@ offsets_by slots read false none h = h
 offsets_long : (large : Bool) (slots : ℕ) (bytes : List ℕ) → IfOk (decoded_offsets large slots bytes) (λ os. length os ≡ slots + 1)
 unfolding decoded_offsets checked_offsets
 offsets_long large slots bytes =
-    offsets_by slots _ (eqb slots 0 && eqb (length bytes) 0) (λ e. eqb-true slots 0 (and_parts _ _ e).0)
+    offsets_by slots _ (eqb slots 0) (λ e. eqb-true slots 0 e)
     (after (λ (os : List ℕ). length os ≡ slots + 1) (decoded_values (offset_format large) (slots + 1) bytes) checked_offsets
     (λ values e.
     checked (λ (os : List ℕ). length os ≡ slots + 1) (are_offsets (map only values)) Offsets (λ rising. Ok (map to_nat (map only values)))
@@ -147,7 +150,21 @@ binary_is large t counts body rest =
     (λ s e. (refl, found (λ x. count_rows x.0.offsets ≡ counts.slots) _ _ e (strings_long large counts body rest)))
 
 text_of_is : (large : Bool) (t : TypeTree) (s : BinaryParts) (n : ℕ) → count_rows s.offsets ≡ n → IfOk (checked_utf8 large t s) (λ a. (layout_type a ≡ t) × (len a ≡ n))
-text_of_is large t s n h = checked (λ (a : Layout). (layout_type a ≡ t) × (len a ≡ n)) (are_utf8 s.offsets s.bytes) Utf8 (λ texts. Ok (utf8 large t s.offsets s.bytes s.validity)) (λ e. (refl, h))
+text_of_is large t s n h =
+    after (λ (a : Layout). (layout_type a ≡ t) × (len a ≡ n)) (utf8_parts s) _
+    (λ p e. (refl, found (λ (q : BinaryParts). count_rows q.offsets ≡ n) (utf8_parts s) p e (parts_long s n h)))
+  where
+    packed_long : (s : BinaryParts) (n : ℕ) → count_rows s.offsets ≡ n → IfOk (packed_slots s) (λ q. count_rows q.offsets ≡ n)
+    packed_long s n h =
+        after (λ (q : BinaryParts). count_rows q.offsets ≡ n) (each_slot (string_of_slot s) (count_rows s.offsets)) _
+        (λ strings e. rows_packed strings ∙ (found (IsEach (string_of_slot s) (count_rows s.offsets)) _ strings e (each_is (string_of_slot s) (count_rows s.offsets))).long ∙ h)
+
+    parts_long : (s : BinaryParts) (n : ℕ) → count_rows s.offsets ≡ n → IfOk (utf8_parts s) (λ q. count_rows q.offsets ≡ n)
+    parts_long s n h = by (are_utf8 s.offsets s.bytes)
+      where
+        by : (b : Bool) → IfOk (if b then Ok s else packed_slots s) (λ q. count_rows q.offsets ≡ n)
+        by true = h
+        by false = packed_long s n h
 
 text_is : (large : Bool) (t : TypeTree) (counts : NodeCounts) (body : List ℕ) (rest : Rest) → IfOk (decoded_utf8 large t counts body rest) (IsOf t counts.slots)
 unfolding decoded_utf8

@@ -1,6 +1,8 @@
 -- The definitions that contracts cite, and laws about them.
 pub mod FixedWidth
 pub mod DictionaryKeys
+pub mod EachSlot
+pub mod PackedStrings
 pub mod Decoding
 pub mod Projection
 pub mod UnionTypeIds
@@ -14,10 +16,14 @@ pub mod Encoding
 pub mod ArrayKinds
 pub mod Examples
 pub mod ReadExamples
+pub mod OtherWriters
 pub mod ProjectionExamples
 pub mod ProjectionLaws
 pub mod FixedWidthLaws
 pub mod VariableSizeLaws
+pub mod EachSlotLaws
+pub mod PackedStringLaws
+pub mod Utf8Laws
 pub mod BitmapLaws
 pub mod BodyBufferLaws
 pub mod EncodingLaws

@@ -30,20 +30,20 @@ IsRead w column = decoded_column w.type (Rows w.rows) w.body w.rest ≡ Ok (colu
 abbrev pub IsRejected : EncodedColumn → IpcReadError → Type 0
 IsRejected w error = decoded_column w.type (Rows w.rows) w.body w.rest ≡ Err error
 
-abbrev node : ℕ → ℕ → FieldNode
+abbrev pub node : ℕ → ℕ → FieldNode
 node slots nulls = record { length = pos slots; null_count = pos nulls }
 
-abbrev at : ℕ → ℕ → BufferSpec
+abbrev pub at : ℕ → ℕ → BufferSpec
 at place size = record { offset = pos place; length = pos size }
 
 -- a number in 32 bits
-abbrev word : ℕ → List ℕ
+abbrev pub word : ℕ → List ℕ
 word n = n ∷ 0 ∷ 0 ∷ 0 ∷ []
 
-abbrev item : TypeTree → FieldTree
+abbrev pub item : TypeTree → FieldTree
 item t = field [] t true []
 
-abbrev small : List ℤ → Layout
+abbrev pub small : List ℤ → Layout
 small numbers = primitive Int8 types.int8 (map (λ z. z ∷ []) numbers) None
 
 -- ---- lists

@@ -84,29 +84,30 @@ rebased_rise os never i j le lt =
     let short : j < length os = omega (arith, rebased_long os) in
     omega (arith, rebased_at os i (omega arith), rebased_at os j short, never i j le short)
 
-and_false : (b : Bool) → (b && false) ≡ false
-and_false true = refl
-and_false false = refl
+-- without slots there is one offset
+alone : (os : List ℕ) → 0 < length os → count_rows os ≡ 0 → rebased os ≡ 0 ∷ []
+alone [] some none = absurd (omega arith)
+alone (x ∷ []) some none = let e : x - x ≡ 0 = omega arith in ap (λ (n : ℕ). n ∷ []) e
+alone (x ∷ y ∷ os) some none = absurd (omega (arith, none))
 
 not_none : (n : ℕ) → 0 < n → eqb n 0 ≡ false
 not_none n some = grind arith
 
 pub offsets_again : (large : Bool) (os : List ℕ) → AreOffsets os → AllByRecursion (ValueRoundTrips (offset_format large)) (map unsigned (rebased os)) → decoded_offsets large (count_rows os) (offset_bytes large (rebased os)) ≡ Ok (rebased os)
 unfolding decoded_offsets checked_offsets
-offsets_again large os are round_trips =
-    let format : ByteFormat = offset_format large in
-    let values : List (List ℤ) = map unsigned (rebased os) in
-    let bytes : List ℕ = offset_bytes large (rebased os) in
-    let sized : IsSized format = offset_sized large in
-    let count : length values ≡ count_rows os + 1 = omega (arith, length-map (rebased os) unsigned, rebased_long os, are.0) in
-    let long : length bytes ≡ length values * format.size = values_long format values sized.long in
-    let some : 0 < length bytes = rw (long, count) (some_bytes (count_rows os) format.size sized.some) in
-    let read : decoded_values format (count_rows os + 1) bytes ≡ Ok values = subst (λ (n : ℕ). decoded_values format n bytes ≡ Ok values) count (natives_again format values sized round_trips) in
-    let rising : are_offsets (map pos (rebased os)) ≡ true = are_rising (rebased os) (omega (arith, rebased_long os, are.0)) (rebased_rise os are.1) in
-    rw (not_none (length bytes) some, and_false (eqb (count_rows os) 0), read, numbers_again (rebased os), rising, offsets_back (rebased os)) refl
+offsets_again large os are round_trips = by (count_rows os) refl
   where
-    some_bytes : (n s : ℕ) → 1 ≤ s → 0 < (n + 1) * s
-    some_bytes n s le = grind arith
+    by : (n : ℕ) → count_rows os ≡ n → decoded_offsets large (count_rows os) (offset_bytes large (rebased os)) ≡ Ok (rebased os)
+    by zero e = ap (λ (n : ℕ). decoded_offsets large n (offset_bytes large (rebased os))) e ∙ ap (λ (ns : List ℕ). Ok ns) (sym (alone os are.0 e))
+    by (suc n) e =
+        let format : ByteFormat = offset_format large in
+        let values : List (List ℤ) = map unsigned (rebased os) in
+        let bytes : List ℕ = offset_bytes large (rebased os) in
+        let sized : IsSized format = offset_sized large in
+        let count : length values ≡ count_rows os + 1 = omega (arith, length-map (rebased os) unsigned, rebased_long os, are.0) in
+        let read : decoded_values format (count_rows os + 1) bytes ≡ Ok values = subst (λ (n : ℕ). decoded_values format n bytes ≡ Ok values) count (natives_again format values sized round_trips) in
+        let rising : are_offsets (map pos (rebased os)) ≡ true = are_rising (rebased os) (omega (arith, rebased_long os, are.0)) (rebased_rise os are.1) in
+        rw (not_none (count_rows os) (omega (arith, e)), read, numbers_again (rebased os), rising, offsets_back (rebased os)) refl
 
 -- ---- UTF-8
 
@@ -133,13 +134,18 @@ pub texts_hold : (os bs : List ℕ) → EachUtf8 os bs → are_utf8 os bs ≡ tr
 unfolding are_utf8
 texts_hold os bs each = all_hold (λ i. is_utf8 (sublist bs (begin os i) (extent os i))) 0 (count_rows os) (λ i lt. is_utf8-from_IsUtf8 _ (subst (λ (j : ℕ). IsUtf8 (sublist bs (begin os j) (extent os j))) (let e : i ≡ 0 + i = omega arith in e) (each i lt)))
 
+pub are_texts : (os bs : List ℕ) → are_utf8 os bs ≡ true → EachUtf8 os bs
+unfolding are_utf8
+are_texts os bs e i lt =
+    IsUtf8-from_is_utf8 _ (subst (λ (j : ℕ). is_utf8 (sublist bs (begin os j) (extent os j)) ≡ true) (let e : 0 + i ≡ i = omega arith in e) (each_holds (λ i. is_utf8 (sublist bs (begin os i) (extent os i))) 0 (count_rows os) e i lt))
+
 pub texts_fail : (os bs : List ℕ) → (EachUtf8 os bs → ⊥) → are_utf8 os bs ≡ false
 unfolding are_utf8
 texts_fail os bs none = by (are_utf8 os bs) refl
   where
     by : (b : Bool) → are_utf8 os bs ≡ b → are_utf8 os bs ≡ false
     by false e = e
-    by true e = absurd (none (λ i lt. IsUtf8-from_is_utf8 _ (subst (λ (j : ℕ). is_utf8 (sublist bs (begin os j) (extent os j)) ≡ true) (let e : 0 + i ≡ i = omega arith in e) (each_holds (λ i. is_utf8 (sublist bs (begin os i) (extent os i))) 0 (count_rows os) e i lt))))
+    by true e = absurd (none (are_texts os bs e))
 
 -- each value is still UTF-8
 pub texts_again : (os bs : List ℕ) → AreOffsets os → EachUtf8 os bs → are_utf8 (rebased os) (covered os bs) ≡ true

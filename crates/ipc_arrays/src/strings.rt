@@ -2,15 +2,15 @@
 ghost use Rattle.std.specs.Prelude.{◌≡◌, ◌<◌, ◌≤◌, ◌^◌, ◌+◌, ◌∷◌, ◌++◌, [], map, length, IfErr, IfOk, OnOk, Ok};
 ghost use Rattle.std.specs.List.{AllByRecursion};
 ghost use Rattle.std.specs.Option.{option_map};
-ghost use Rattle.ipc_flatbuf.specs.ReadResults.{ReturnsOrRunsOut, Returns};
+ghost use Rattle.ipc_flatbuf.specs.ReadResults.{ReturnsOrRunsOut};
 ghost use Rattle.nest_memory.specs.Native.{unsigned};
-ghost use Rattle.nest_memory.specs.Physical.{physical_type, binary_of_width, utf8_of_width};
+ghost use Rattle.nest_memory.specs.Physical.{physical_type, binary_of_width};
 ghost use Rattle.nest_memory.specs.Rising.{last_of};
 ghost use Rattle.nest_memory.specs.TypeOf.{type_of};
 ghost use Rattle.nest_model.specs.Fits.{Fits, ValidityFits, covered};
 ghost use Rattle.nest_model.specs.Layout as layouts;
 ghost use Rattle.nest_model.specs.Part.{count_rows};
-ghost use Rattle.ipc_arrays.specs.Decoding.{rest_of, checked_offsets, decoded_offsets, decoded_data, decoded_variable_size_head, decoded_binary_parts, decoded_binary, decoded_utf8, checked_utf8};
+ghost use Rattle.ipc_arrays.specs.Decoding.{rest_of, checked_offsets, decoded_offsets, decoded_data, decoded_variable_size_head, decoded_binary_parts, decoded_binary};
 ghost use Rattle.ipc_arrays.specs.BodyBuffers.{padded, body_of};
 ghost use Rattle.ipc_arrays.specs.FixedWidth.{offset_format};
 ghost use Rattle.ipc_arrays.specs.FixedWidthLaws.{ValueRoundTrips};
@@ -33,13 +33,13 @@ use nest_memory::error::{Error, SpecError};
 use nest_memory::offsets::OffsetsBuffer;
 use std::alloc::{AllocError, Global};
 
-// The parts of a binary or UTF-8 array without its data type, and the remaining nodes and buffers.
+/// The parts of a binary or UTF-8 array without its data type, and the remaining nodes and buffers.
 #[derive(Drop)]
-struct BinaryParts<'a, O: FixedWidthOffset> {
-    offsets: OffsetsBuffer<O>,
-    bytes: Buffer<u8>,
-    validity: Option<Bitmap>,
-    cursor: BatchCursor<'a>,
+pub(crate) struct BinaryParts<'a, O: FixedWidthOffset> {
+    pub offsets: OffsetsBuffer<O>,
+    pub bytes: Buffer<u8>,
+    pub validity: Option<Bitmap>,
+    pub cursor: BatchCursor<'a>,
 }
 
 fn offsets_of<O: FixedWidthOffset>(
@@ -65,7 +65,7 @@ fn no_offset<O: FixedWidthOffset>(alloc: Global) -> Result<OffsetsBuffer<O>, Ipc
     }
 }
 
-// Reads `slots + 1` offsets. The buffer of an array of length 0 may be empty.
+// Reads `slots + 1` offsets. The buffer of an array of length 0 is not read.
 #[tactic(auto, unfolding(crate::specs::Decoding::decoded_offsets))]
 fn read_offsets<O: FixedWidthOffset>(
     alloc: Global,
@@ -75,8 +75,7 @@ fn read_offsets<O: FixedWidthOffset>(
     ensures read { ReturnsOrRunsOut (λ b. b) result (decoded_offsets O.IS_LARGE slots bytes.now) }
     ensures slots { IfOk result (λ b. length b ≡ slots + 1) }
 {
-    let size = bytes.len();
-    if slots == 0 && size == 0 {
+    if slots == 0 {
         return no_offset(alloc);
     }
     match slots.checked_add(1) {
@@ -127,8 +126,13 @@ pub(crate) fn read_variable_size_head<'a, O: FixedWidthOffset>(
     Ok((VariableSizeHead { offsets, validity }, cursor))
 }
 
+/// Reads the buffers of a binary or UTF-8 array.
+///
+/// # Errors
+///
+/// `IpcReadError::OffsetPastChild` if the last offset is greater than the length of the data, and those of the buffers.
 #[tactic(auto, unfolding(crate::specs::Decoding::decoded_binary_parts))]
-fn read_strings<'a, O: FixedWidthOffset>(
+pub(crate) fn read_strings<'a, O: FixedWidthOffset>(
     alloc: Global,
     counts: NodeCounts,
     body: &'a [u8],
@@ -201,66 +205,6 @@ pub(crate) fn read_binary<'a, O: FixedWidthOffset>(
     let strings = read_strings::<O>(alloc, counts, body, cursor)?;
     let cursor = strings.cursor;
     let array = binary_of(
-        alloc,
-        data_type,
-        strings.offsets,
-        strings.bytes,
-        strings.validity,
-    )?;
-    Ok((array, cursor))
-}
-
-// Returns the UTF-8 array of these parts, if each value is valid UTF-8.
-fn try_utf8<O: FixedWidthOffset>(
-    data_type: DataType,
-    offsets: OffsetsBuffer<O>,
-    bytes: Buffer<u8>,
-    validity: Option<Bitmap>,
-) -> Result<Utf8Array<O>, IpcReadError>
-    requires within { last_of offsets ≤ length bytes }
-    requires slots { ValidityFits validity (count_rows offsets) }
-    requires kind { physical_type (type_of data_type) ≡ utf8_of_width O.IS_LARGE }
-    ensures { Returns (λ a. a) result (checked_utf8 O.IS_LARGE (type_of data_type) (record { offsets = offsets; bytes = bytes; validity = validity })) }
-{
-    match Utf8Array::try_new(data_type, offsets, bytes, validity) {
-        Ok(array) => Ok(array),
-        Err(_) => Err(IpcReadError::Utf8),
-    }
-}
-
-fn utf8_of<O: FixedWidthOffset>(
-    alloc: Global,
-    data_type: &DataType,
-    offsets: OffsetsBuffer<O>,
-    bytes: Buffer<u8>,
-    validity: Option<Bitmap>,
-) -> Result<Utf8Array<O>, IpcReadError>
-    requires within { last_of offsets ≤ length bytes }
-    requires slots { ValidityFits validity (count_rows offsets) }
-    requires kind { physical_type (type_of data_type.now) ≡ utf8_of_width O.IS_LARGE }
-    ensures { ReturnsOrRunsOut (λ a. a) result (checked_utf8 O.IS_LARGE (type_of data_type.now) (record { offsets = offsets; bytes = bytes; validity = validity })) }
-{
-    match data_type.clone(alloc) {
-        Err(_) => Err(IpcReadError::Memory),
-        Ok(data_type) => try_utf8(data_type, offsets, bytes, validity),
-    }
-}
-
-/// Reads the buffers of a UTF-8 array. The errors are those of [`read_binary`], and `IpcReadError::Utf8` if a value is not UTF-8.
-#[tactic(auto, unfolding(crate::specs::Decoding::decoded_utf8))]
-pub(crate) fn read_utf8<'a, O: FixedWidthOffset>(
-    alloc: Global,
-    data_type: &DataType,
-    counts: NodeCounts,
-    body: &'a [u8],
-    cursor: BatchCursor<'a>,
-) -> Result<(Utf8Array<O>, BatchCursor<'a>), IpcReadError>
-    requires { physical_type (type_of data_type.now) ≡ utf8_of_width O.IS_LARGE }
-    ensures { ReturnsOrRunsOut (λ x. (x.0, rest_of x.1)) result (decoded_utf8 O.IS_LARGE (type_of data_type.now) counts body.now (rest_of cursor.entry)) }
-{
-    let strings = read_strings::<O>(alloc, counts, body, cursor)?;
-    let cursor = strings.cursor;
-    let array = utf8_of(
         alloc,
         data_type,
         strings.offsets,
