@@ -10,3 +10,4 @@ pub mod BlockLoops
 pub mod AppendableLaws
 pub mod DeltaParts
 pub mod UnionOffsets
+pub mod NamedColumns

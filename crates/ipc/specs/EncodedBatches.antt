@@ -21,7 +21,7 @@ use Rattle.ipc.specs.DictionaryEntries.{DictionaryEntries}
 use Rattle.ipc.specs.FileDictionaries.{DictionaryBatchTree}
 use Rattle.ipc.specs.Streams.{RecordBatchTree}
 use Rattle.ipc.specs.EncodedStreams.{batch_tree, batch_bytes, dictionary_head, dictionary_bytes, emitted_after, encoded_batch, encoded_batches, or_error, schema_error, metadata_error, error_of, each_error, error_from, IsErrorOrMemory, BatchRoundTrips, BatchesRoundTrip}
-use Rattle.ipc.specs.EncodedFiles.{block_at, written_block, dictionary_blocks, Blocks, no_blocks, batch_offset, file_dictionary_batches, blocks_from, length_error, after, FileState, file_state_after}
+use Rattle.ipc.specs.EncodedFiles.{block_at, dictionary_blocks, Blocks, no_blocks, with_blocks, batch_offset, file_dictionary_batches, blocks_from, length_error, after, FileState, file_state_after}
 
 module _ {A B : Type 0} (f : A → B) where
   pub taken : (xs : List A) (i : ℕ) (x : A) → i < length xs → x ≡ get_or xs i x → map f (take (i + 1) xs) ≡ map f (take i xs) ++ f x ∷ []
@@ -230,9 +230,9 @@ short_accepted r head none short =
 
 -- ---- the blocks of record batches
 
--- blocks after blocks
+-- the blocks of a record batch after others
 abbrev pub with_part : Blocks → ℕ → DictionaryEntries → RecordBatchTree → Blocks
-with_part blocks position emitted b = record { dictionaries = blocks.dictionaries ++ dictionary_blocks position (file_dictionary_batches emitted b); batches = blocks.batches ++ written_block (batch_offset position emitted b) b ∷ [] }
+with_part blocks position emitted b = with_blocks blocks position (file_dictionary_batches emitted b) b
 
 blocks_push : (position : ℕ) (emitted : DictionaryEntries) (bs : List RecordBatchTree) (b : RecordBatchTree) → blocks_from position emitted (bs ++ b ∷ []) ≡ with_part (blocks_from position emitted bs) (position + length (encoded_batches file_dictionary_batches emitted bs)) (emitted_after_all emitted bs) b
 unfolding blocks_from

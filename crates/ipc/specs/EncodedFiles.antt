@@ -59,6 +59,14 @@ before_blocks dictionaries batch blocks = record { dictionaries = dictionaries +
 abbrev pub batch_offset : ℕ → DictionaryEntries → RecordBatchTree → ℕ
 batch_offset position emitted b = position + length (flat_map dictionary_bytes (file_dictionary_batches emitted b))
 
+-- dictionary batches and a record batch
+abbrev pub part_bytes : List DictionaryBatchTree → RecordBatchTree → List ℕ
+part_bytes ps b = flat_map dictionary_bytes ps ++ batch_bytes b
+
+-- their blocks after others
+abbrev pub with_blocks : Blocks → ℕ → List DictionaryBatchTree → RecordBatchTree → Blocks
+with_blocks blocks position ps b = record { dictionaries = blocks.dictionaries ++ dictionary_blocks position ps; batches = blocks.batches ++ written_block (position + length (flat_map dictionary_bytes ps)) b ∷ [] }
+
 -- batch by batch, each after its dictionary batches
 unfoldable pub blocks_from : ℕ → DictionaryEntries → List RecordBatchTree → Blocks
 blocks_from position emitted [] = no_blocks
@@ -162,10 +170,14 @@ dictionary_batch_error s p = or_error (dictionary_block_error p) (unreadable_err
 abbrev pub dictionary_batches_error : StateTree → List DictionaryBatchTree → Option IpcWriteError
 dictionary_batches_error s ps = error_from state_after dictionary_batch_error s ps
 
+-- of dictionary batches, then a record batch
+abbrev pub part_error : StateTree → List DictionaryBatchTree → RecordBatchTree → Option IpcWriteError
+part_error s ps b = or_error (dictionary_batches_error s ps) (record_batch_block_error b)
+
 -- of a record batch for columns of these data types: a replaced dictionary, then its dictionary batches, then the record batch
 abbrev pub file_batch_error : List TypeTree → FileState → RecordBatchTree → Option IpcWriteError
 file_batch_error types f b =
-    if spec_are_columns types b.rows b.columns then or_error (replaced_error f.emitted (pending_by f.emitted b)) (or_error (dictionary_batches_error f.state (file_dictionary_batches f.emitted b)) (record_batch_block_error b)) else Some Columns
+    if spec_are_columns types b.rows b.columns then or_error (replaced_error f.emitted (pending_by f.emitted b)) (part_error f.state (file_dictionary_batches f.emitted b) b) else Some Columns
 
 -- batch by batch
 abbrev pub file_batches_error : List TypeTree → FileState → List RecordBatchTree → Option IpcWriteError

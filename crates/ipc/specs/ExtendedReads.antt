@@ -36,10 +36,11 @@ use Rattle.nest_model.specs.Runs.{product-exact}
 use Rattle.nest_model.specs.SameArray.{IsSameArray}
 use Rattle.nest_model.specs.SameArrayLaws.{same-refl}
 use Rattle.ipc_arrays.proofs.Nested.{names_so}
-use Rattle.ipc_arrays.specs.Decoding.{Rest, VariableSizeHead, BinaryParts, are_utf8, first_counts, first_buffer, decoded_validity, decoded_bits, decoded_values, decoded_bytes, checked_offsets, decoded_offsets, decoded_data, checked_length, decoded_node, decoded_buffer, decoded_validity_buffer, decoded_boolean, decoded_primitive, decoded_fixed_size_binary, decoded_variable_size_head, decoded_binary_parts, decoded_binary, checked_utf8, decoded_utf8, is_key_in_range, is_index_below, decoded_keys_as, decoded_keys, are_keys_in_range, dictionary_over, first_values, decoded_dictionary_values, decoded_dictionary, decoded_fixed_width, decoded_flat, validity_if_nulls}
+use Rattle.ipc_arrays.specs.Decoding.{Rest, VariableSizeHead, BinaryParts, utf8_parts, first_counts, first_buffer, decoded_validity, decoded_bits, decoded_values, decoded_bytes, checked_offsets, decoded_offsets, decoded_data, checked_length, decoded_node, decoded_buffer, decoded_validity_buffer, decoded_boolean, decoded_primitive, decoded_fixed_size_binary, decoded_variable_size_head, decoded_binary_parts, decoded_binary, checked_utf8, decoded_utf8, is_key_in_range, is_index_below, decoded_keys_as, decoded_keys, are_keys_in_range, dictionary_over, first_values, decoded_dictionary_values, decoded_dictionary, decoded_fixed_width, decoded_flat, validity_if_nulls}
 use Rattle.ipc_arrays.specs.DictionaryKeys.{key_primitive, key_format, is_same_logical_type, zero_at_nulls}
 use Rattle.ipc_arrays.specs.DecodingLaws.{AreRead, after, checked, found, keys_are, keys_of_type}
 use Rattle.ipc_arrays.specs.ReplacedValues.{IsExtendedBy}
+use Rattle.ipc_arrays.specs.Utf8Laws.{AreUtf8Parts, utf8_parts_fit}
 use Rattle.ipc_arrays.specs.FixedWidth.{ByteFormat, format_of, offset_format, only}
 use Rattle.ipc_arrays.specs.declared.cursor.NodeCounts.{NodeCounts}
 use Rattle.ipc_arrays.specs.declared.cursor.ExpectedLength.{ExpectedLength}
@@ -171,7 +172,7 @@ only_zero = (omega arith, λ i j le lt. let e : i ≡ j = omega arith in subst (
 offsets_fit : (large : Bool) (slots : ℕ) (bytes : List ℕ) → IfOk (decoded_offsets large slots bytes) AreOffsets
 unfolding decoded_offsets checked_offsets
 offsets_fit large slots bytes =
-    either (eqb slots 0 && eqb (length bytes) 0) _
+    either (eqb slots 0) _
     (after AreOffsets (decoded_values (offset_format large) (slots + 1) bytes) _
     (λ values e. checked AreOffsets (are_offsets (map only values)) Offsets _ (λ rising. some_rise values rising)))
   where
@@ -286,33 +287,26 @@ module _ (large : Bool) (t : TypeTree) (counts : NodeCounts) (body : List ℕ) (
       then_part (StringsFit counts.slots) r (IsReadOf counts.slots r) (decoded_binary_parts large counts body r) (decoded_binary_parts large counts body s) _ _ strings_next
       (λ x u v e is on. leaf counts.slots (binary large t x.offsets x.bytes x.validity) r u v (λ long. (is.offsets, (is.within, (valid_as x.validity (count_rows x.offsets) counts.slots long is.valid, (kind, tt))))) tt on)
 
-  each_text : (os bs : List ℕ) → are_utf8 os bs ≡ true → EachUtf8 os bs
-  unfolding are_utf8
-  each_text os bs all i lt =
-      let test : ℕ → Bool = λ j. is_utf8 (sublist bs (begin os j) (extent os j)) in
-      let position : get_or (range_with_len 0 (count_rows os)) i 0 ≡ i = get_or-range_with_len 0 (count_rows os) i 0 lt ∙ (let e : 0 + i ≡ i = omega arith in e) in
-      let there : i < length (range_with_len 0 (count_rows os)) = omega (arith, lt, length-range_with_len 0 (count_rows os)) in
-      IsUtf8-from_is_utf8 _ (ap test (sym position) ∙ AllPass-from_list_all test (range_with_len 0 (count_rows os)) all i 0 there)
-
   text_next : physical_type t ≡ utf8_of_width large → ReadTogether (IsReadOf counts.slots r) (decoded_utf8 large t counts body r) (decoded_utf8 large t counts body s)
   unfolding decoded_utf8
   text_next kind =
       then_part (StringsFit counts.slots) r (IsReadOf counts.slots r) (decoded_binary_parts large counts body r) (decoded_binary_parts large counts body s) _ _ strings_next
-      (λ x u v e is on. then_same (IsReadOf counts.slots r) (IsTexts x) (checked_utf8 large t x) _ _ (texts_are x)
+      (λ x u v e is on. then_same (IsReadOf counts.slots r) (IsTexts x) (checked_utf8 large t x) _ _ (texts_are x is)
       (λ a q texts. leaf counts.slots a r u v (λ long. fits_as x a texts is long kind) (below_as x a texts) on))
     where
       IsTexts : BinaryParts → Layout → Type 0
-      IsTexts x a = (a ≡ utf8 large t x.offsets x.bytes x.validity) × EachUtf8 x.offsets x.bytes
+      IsTexts x a = (p : BinaryParts) × (a ≡ utf8 large t p.offsets p.bytes p.validity) × AreUtf8Parts (count_rows x.offsets) x.validity p
 
-      texts_are : (x : BinaryParts) → IfOk (checked_utf8 large t x) (IsTexts x)
-      texts_are x = checked (IsTexts x) (are_utf8 x.offsets x.bytes) Utf8 (λ texts. Ok (utf8 large t x.offsets x.bytes x.validity)) (λ e. (refl, each_text x.offsets x.bytes e))
+      texts_are : (x : BinaryParts) → StringsFit counts.slots x → IfOk (checked_utf8 large t x) (IsTexts x)
+      texts_are x is = after (IsTexts x) (utf8_parts x) _ (λ p e. (p, refl, found (AreUtf8Parts (count_rows x.offsets) x.validity) (utf8_parts x) p e (utf8_parts_fit x is.offsets is.within)))
 
       fits_as : (x : BinaryParts) (a : Layout) → IsTexts x a → StringsFit counts.slots x → len a ≡ counts.slots → physical_type t ≡ utf8_of_width large → TopFits a
       fits_as x a texts is long k =
-          subst TopFits (sym texts.0) (is.offsets, (is.within, (texts.1, (valid_as x.validity (count_rows x.offsets) counts.slots (sym (ap len texts.0) ∙ long) is.valid, (k, tt)))))
+          let valid : ValidityFits texts.0.validity counts.slots = subst (λ va. ValidityFits va counts.slots) (sym texts.2.validity) is.valid in
+          subst TopFits (sym texts.1) (texts.2.rising, (texts.2.within, (texts.2.texts, (valid_as texts.0.validity (count_rows texts.0.offsets) counts.slots (sym (ap len texts.1) ∙ long) valid, (k, tt)))))
 
       below_as : (x : BinaryParts) (a : Layout) → IsTexts x a → ChildrenFit a
-      below_as x a texts = subst ChildrenFit (sym texts.0) tt
+      below_as x a texts = subst ChildrenFit (sym texts.1) tt
 
 -- ---- dictionary arrays
 

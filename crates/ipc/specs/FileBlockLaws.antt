@@ -131,10 +131,9 @@ message_found kind p bytes head body m front behind whole ok is long e =
     let named : take n (drop (length front) whole) ≡ bytes =
     ap (λ (x : List ℕ). take n (drop (length front) x)) e ∙ ap (take n) (drop_at front (bytes ++ behind) (length front) refl) ∙ take_at bytes behind n long in
     let read : message_at bytes ≡ Ok (Some m, []) = subst (λ (x : List ℕ). message_at x ≡ Ok (Some m, [])) (append-nil bytes) (ok.again []) in
-    let metadata = same_number (8 + length m.metadata) (length head) ok.head_long in
     let same_body = same_number (length m.body) (length body) ok.body_long in
     let kinds = same_number (spec_tag_of m.root.kind) (spec_tag_of kind) (ap spec_tag_of is) in
-    rw (named, read, metadata, same_body, kinds, ok.version) refl
+    rw (named, read, same_body, kinds, ok.version) refl
 
 -- the bytes at a position: the dictionary batches of a record batch, this, and what follows
 pub record LiesAt (emitted : DictionaryEntries) (b : RecordBatchTree) (bs : List RecordBatchTree) (position : ℕ) (front behind whole : List ℕ) : Type 0 where

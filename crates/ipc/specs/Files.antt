@@ -20,16 +20,16 @@ use Rattle.ipc.specs.declared.file.File.{File}
 
 -- ---- blocks
 
--- a message with the lengths of its block
-abbrev pub message_of_block : Block → Option MessageModel → Result MessageModel IpcReadError
-message_of_block b None = Err read_errors.Block
-message_of_block b (Some m) = check (8 + length m.metadata == unsigned_abs b.metadata_length && length m.body == unsigned_abs b.body_length) read_errors.Block >>= λ same. Ok m
+-- a message that fills its block: its body is that of the block, and no bytes follow it
+abbrev pub message_of_block : Block → Option MessageModel → List ℕ → Result MessageModel IpcReadError
+message_of_block b None behind = Err read_errors.Block
+message_of_block b (Some m) behind = check (length behind == 0 && length m.body == unsigned_abs b.body_length) read_errors.Block >>= λ same. Ok m
 
 -- the message in the bytes of a block, of the kind of its list
 unfoldable pub spec_message_in_block : MessageKind → ProjectedSchemaModel → List ℕ → Block → Result MessageModel IpcReadError
 spec_message_in_block kind p own b = do
   next ← message_at own
-  m ← message_of_block b next.0
+  m ← message_of_block b next.0 next.1
   same ← check (spec_tag_of m.root.kind == spec_tag_of kind) read_errors.HeaderType
   allowed ← spec_check_projected_version m.root.version p.schema.fields p.steps
   Ok m

@@ -18,6 +18,7 @@ pub mod FileDictionaryExamples
 -- What contracts cite.
 pub mod UnionOffsets
 pub mod Streams
+pub mod NamedColumns
 pub mod SliceStreamReaders
 pub mod StreamLaws
 pub mod ReaderLaws

@@ -1,6 +1,6 @@
 -- The ids of a written schema name the dictionaries of its columns: columns are numbered as the fields of their data types.
 use Rattle.std.proofs.Common.{◌≡◌, ℕ, zero, suc, ◌+◌, Bool, true, false, List, [], ◌∷◌, ◌++◌, map, Option, Some, None, Ok, refl, sym, ap, subst, ◌∙◌, arith}
-use Rattle.std.specs.Prelude.{ℤ, pos, not}
+use Rattle.std.specs.Prelude.{ℤ, pos, is_some, not}
 use Rattle.std.specs.BTreeMap.{is_at}
 use Rattle.std.specs.List.{AllByRecursion}
 use Rattle.std.specs.Map.{lookup}
@@ -18,6 +18,10 @@ use Rattle.nest_model.specs.Fits.{EachType, IsLogically}
 use Rattle.nest_model.specs.Layout.{Layout, Layouts, null, boolean, primitive, binary, utf8, fixed_size_binary, fixed_size_list, list as list_of, map as map_of, struct, union, dictionary, no_layouts, more_layouts, layout_type}
 use Rattle.ipc_flatbuf.specs.declared.error.IpcWriteError.TheVariants as write_errors
 use Rattle.ipc_schema.specs.Dictionaries.{ValueTypeModel}
+use Rattle.ipc_schema.specs.declared.floats.Precision.{Precision}
+use Rattle.ipc_schema.specs.declared.floats.Precision.TheVariants.{Half, Single, Double}
+use Rattle.ipc_schema.specs.Floats.{spec_bits_type, spec_float_type, spec_precision_of, spec_is_float}
+use Rattle.ipc_schema.specs.FloatLaws.{float_is}
 use Rattle.ipc_schema.specs.Extensions.{spec_storage_type, values_type, spec_table_type, spec_is_extension}
 use Rattle.ipc_schema.specs.FieldLaws.{split, own_and_inner}
 use Rattle.ipc_schema.specs.WriteChecks.{and_then_check, spec_require, spec_check_type, is_not_nested_extension, spec_is_plain_value_type, spec_can_encode, spec_has_no_reserved_key, spec_check_own, spec_check_each, spec_check_field, check_fields}
@@ -107,30 +111,70 @@ values_are (types.dictionary key values ordered) u h = record { key = key; value
 values_are (types.extension title type metadata) u h = values_has title type metadata u (values_are type u h)
 values_are t u h = absurd h
 
-no_extension : (t : TypeTree) → spec_is_extension t ≡ false → logical_type t ≡ t
-no_extension (types.extension title type metadata) h = absurd (cc h)
-no_extension t h = refl
-
 not_back : (b : Bool) → not b ≡ true → b ≡ false
 not_back true h = absurd (cc h)
 not_back false h = refl
 
+-- a type and its logical type have the same keys, values and children, unless it is an extension type
+record IsAlike (t u : TypeTree) : Type 0 where
+  keys : keys_of t ≡ keys_of u
+  children : spec_children_of (values_type t) ≡ spec_children_of (values_type u)
+  values : (key : IntegerType) (v : TypeTree) (ordered : Bool) → u ≡ types.dictionary key v ordered → t ≡ u
+
+same_alike : (t : TypeTree) → IsAlike t t
+same_alike t = record { keys = refl; children = refl; values = λ key v ordered is. refl }
+
+no_number : (key : IntegerType) (v : TypeTree) (ordered : Bool) (p : Precision) → spec_bits_type p ≡ types.dictionary key v ordered → ⊥
+no_number key v ordered Half is = cc is
+no_number key v ordered Single is = cc is
+no_number key v ordered Double is = cc is
+
+float_alike : (p : Precision) → IsAlike (spec_float_type p) (logical_type (spec_float_type p))
+float_alike Half = record { keys = refl; children = refl; values = λ key v ordered is. absurd (no_number key v ordered Half is) }
+float_alike Single = record { keys = refl; children = refl; values = λ key v ordered is. absurd (no_number key v ordered Single is) }
+float_alike Double = record { keys = refl; children = refl; values = λ key v ordered is. absurd (no_number key v ordered Double is) }
+
+floats_alike : (t : TypeTree) (precision : Option Precision) → spec_precision_of t ≡ precision → is_some precision ≡ true → IsAlike t (logical_type t)
+floats_alike t None is some = absurd (cc some)
+floats_alike t (Some p) is some = subst (λ (u : TypeTree). IsAlike u (logical_type u)) (sym (float_is t p is)) (float_alike p)
+
+not_float : (b : Bool) → not b ≡ false → b ≡ true
+not_float true h = refl
+not_float false h = absurd (cc h)
+
+no_extension : (t : TypeTree) → spec_is_extension t ≡ false → IsAlike t (logical_type t)
+no_extension (types.extension title type metadata) h = floats_alike (types.extension title type metadata) (spec_precision_of (types.extension title type metadata)) refl (not_float (spec_is_float (types.extension title type metadata)) h)
+no_extension t h = same_alike t
+
 -- the storage type of a written field
-stored_alone : (t : TypeTree) → is_not_nested_extension t ≡ true → spec_storage_type t ≡ logical_type t
-stored_alone (types.extension title type metadata) h = sym (no_extension type (not_back (spec_is_extension type) h))
-stored_alone t h = refl
+stored_alone : (t : TypeTree) → is_not_nested_extension t ≡ true → IsAlike (spec_storage_type t) (logical_type t)
+stored_alone (types.extension title type metadata) h = by_kind (spec_is_float (types.extension title type metadata)) refl
+  where
+    by_kind : (float : Bool) → spec_is_float (types.extension title type metadata) ≡ float → IsAlike (spec_storage_type (types.extension title type metadata)) (logical_type type)
+    by_kind true e = rw e (floats_alike (types.extension title type metadata) (spec_precision_of (types.extension title type metadata)) refl e)
+    by_kind false e = rw e (no_extension type (not_back (spec_is_extension type) (rw e at h)))
+stored_alone t h = same_alike t
 
 keyless_values : (t : TypeTree) → keys_of t ≡ None → values_type t ≡ t
 keyless_values (types.dictionary key values ordered) h = absurd (cc h)
 keyless_values t h = refl
 
-plain_type : (t : TypeTree) → spec_is_plain_value_type t ≡ true → IsKeyless t × (logical_type t ≡ t)
+float_plain : (p : Precision) → IsKeyless (spec_float_type p) × (spec_children_of (spec_float_type p) ≡ spec_children_of (logical_type (spec_float_type p)))
+float_plain Half = (refl, refl)
+float_plain Single = (refl, refl)
+float_plain Double = (refl, refl)
+
+floats_plain : (t : TypeTree) (precision : Option Precision) → spec_precision_of t ≡ precision → is_some precision ≡ true → IsKeyless t × (spec_children_of t ≡ spec_children_of (logical_type t))
+floats_plain t None is some = absurd (cc some)
+floats_plain t (Some p) is some = subst (λ (u : TypeTree). IsKeyless u × (spec_children_of u ≡ spec_children_of (logical_type u))) (sym (float_is t p is)) (float_plain p)
+
+plain_type : (t : TypeTree) → spec_is_plain_value_type t ≡ true → IsKeyless t × (spec_children_of t ≡ spec_children_of (logical_type t))
 plain_type (types.dictionary key values ordered) h = absurd (cc h)
-plain_type (types.extension title type metadata) h = absurd (cc h)
+plain_type (types.extension title type metadata) h = floats_plain (types.extension title type metadata) (spec_precision_of (types.extension title type metadata)) refl h
 plain_type t h = (refl, refl)
 
 record IsFree (t : TypeTree) : Type 0 where
-  alone : spec_storage_type t ≡ logical_type t
+  alone : IsAlike (spec_storage_type t) (logical_type t)
   encodes : spec_can_encode (spec_storage_type t) ≡ true
 
 free_form : (f : FieldTree) → spec_check_own f ≡ Ok tt → IsFree (field_type f)
@@ -201,7 +245,7 @@ keyless_agrees depth f n own entries none inner =
     }
 
 -- a field with one names its values, and the ids nested in them
-module _ (depth : ℕ) (f : FieldTree) (t : TypeTree) (ks c : Layout) (inner : AgreeWith depth (spec_children_of (spec_table_type (field_type f))) c) (logical : logical_type (layout_type c) ≡ spec_table_type (field_type f)) where
+module _ (depth : ℕ) (f : FieldTree) (t : TypeTree) (ks c : Layout) (inner : AgreeWith depth (spec_children_of (spec_table_type (field_type f))) c) (logical : logical_type (layout_type c) ≡ logical_type (spec_table_type (field_type f))) where
   inside_outer : (next : ℕ) (all : ValueTypes) → Has all (flattened (each_from (count_type_dictionaries depth) (value_types_from depth) next (spec_children_of (spec_table_type (field_type f))))) → spec_outermost_ids all (ids_from next (count_dictionaries c)) ≡ ids_of (own_entries next c)
   inside_outer next all has =
       let cs : List FieldTree = spec_children_of (spec_table_type (field_type f)) in
@@ -258,11 +302,11 @@ whole_agrees a keyless inside zero f typed form = absurd (no_depth f form)
 whole_agrees a keyless inside (suc depth) f typed form =
     let parts = own_and_inner depth f form in
     let free = free_form f parts.0 in
-    let same : spec_storage_type (field_type f) ≡ logical_type (layout_type a) = free.alone ∙ ap logical_type typed in
-    let none : keys_of (spec_storage_type (field_type f)) ≡ None = ap keys_of same ∙ keyless in
-    let table : spec_table_type (field_type f) ≡ logical_type (layout_type a) = keyless_values (spec_storage_type (field_type f)) none ∙ same in
-    let inner = inside depth (subst (λ (v : TypeTree). spec_check_each (spec_check_field depth) (spec_children_of v) ≡ Ok tt) table parts.1) in
-    keyless_agrees depth f (count_dictionaries a) (λ next. own_entries next a) (λ next. entries_in next a) none (subst (λ (v : TypeTree). AgreeWith depth (spec_children_of v) a) (sym table) inner)
+    let none : keys_of (spec_storage_type (field_type f)) ≡ None = free.alone.keys ∙ ap (λ (t : TypeTree). keys_of (logical_type t)) typed ∙ keyless in
+    let children : spec_children_of (spec_table_type (field_type f)) ≡ spec_children_of (logical_type (layout_type a)) =
+    free.alone.children ∙ ap (λ (t : TypeTree). spec_children_of (values_type (logical_type t))) typed ∙ ap spec_children_of (keyless_values (logical_type (layout_type a)) keyless) in
+    let inner = inside depth (subst (λ (fs : List FieldTree). spec_check_each (spec_check_field depth) fs ≡ Ok tt) children parts.1) in
+    keyless_agrees depth f (count_dictionaries a) (λ next. own_entries next a) (λ next. entries_in next a) none (subst (λ (fs : List FieldTree). AgreeWith depth fs a) (sym children) inner)
 
 agrees_by : (a : Layout) → IsKeyless (layout_type a) → Inside a → Agrees a
 agrees_by a keyless inside = record { inside = λ none. inside; whole = whole_agrees a keyless inside }
@@ -294,14 +338,15 @@ values_agree t ks c has below zero f typed form = absurd (no_depth f form)
 values_agree t ks c has below (suc depth) f typed form =
     let parts = own_and_inner depth f form in
     let free = free_form f parts.0 in
-    let same : spec_storage_type (field_type f) ≡ types.dictionary has.key has.values has.ordered = free.alone ∙ ap logical_type typed ∙ has.is in
+    let logically : logical_type (field_type f) ≡ types.dictionary has.key has.values has.ordered = ap logical_type typed ∙ has.is in
+    let same : spec_storage_type (field_type f) ≡ types.dictionary has.key has.values has.ordered = free.alone.values has.key has.values has.ordered logically ∙ logically in
     let plain = plain_type has.values (sym (ap spec_can_encode same) ∙ free.encodes) in
     let table : spec_table_type (field_type f) ≡ has.values = ap values_type same in
-    let logical : logical_type (layout_type c) ≡ has.values = has.logically ∙ plain.1 in
+    let logical : logical_type (layout_type c) ≡ logical_type (spec_table_type (field_type f)) = has.logically ∙ ap logical_type (sym table) in
     let keyless : IsKeyless (layout_type c) = ap keys_of (has.logically) ∙ plain.0 in
-    let back : spec_table_type (field_type f) ≡ logical_type (layout_type c) = table ∙ sym logical in
-    let inner = below.inside keyless depth (subst (λ (v : TypeTree). spec_check_each (spec_check_field depth) (spec_children_of v) ≡ Ok tt) back parts.1) in
-    keyed_agrees depth f t ks c (subst (λ (v : TypeTree). AgreeWith depth (spec_children_of v) c) (sym back) inner) (sym back) (has.key, has.ordered) (ap keys_of same)
+    let children : spec_children_of (spec_table_type (field_type f)) ≡ spec_children_of (logical_type (layout_type c)) = ap spec_children_of table ∙ plain.1 ∙ ap spec_children_of (sym has.logically) in
+    let inner = below.inside keyless depth (subst (λ (fs : List FieldTree). spec_check_each (spec_check_field depth) fs ≡ Ok tt) children parts.1) in
+    keyed_agrees depth f t ks c (subst (λ (fs : List FieldTree). AgreeWith depth fs c) (sym children) inner) logical (has.key, has.ordered) (ap keys_of same)
 
 dictionary_agrees : (t : TypeTree) (ks c : Layout) → HasValues t (layout_type c) → Agrees c → Agrees (dictionary t ks c)
 dictionary_agrees t ks c has below =

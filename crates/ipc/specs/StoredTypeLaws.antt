@@ -19,7 +19,7 @@ use Rattle.nest_model.specs.Meaning.{len, slot, run, slots_of, union_index, of_f
 use Rattle.nest_model.specs.Part.{valid_at, field_named}
 use Rattle.nest_model.specs.Slot as slots
 use Rattle.nest_model.specs.Slot.{seal}
-use Rattle.ipc_arrays.specs.Decoding.{Rest, VariableSizeHead, BinaryParts, decoded_buffer, decoded_validity_buffer, decoded_bits, decoded_values, decoded_bytes, decoded_variable_size_head, decoded_binary_parts, are_utf8, decoded_boolean, decoded_primitive, decoded_fixed_size_binary, decoded_binary, decoded_utf8, decoded_keys, are_keys_in_range, dictionary_over, decoded_dictionary_values, decoded_dictionary, decoded_fixed_width, decoded_flat, list_over, map_over, decoded_union_parts, union_child_length, are_union_offsets_valid, decoded_array, decoded_child, decoded_children, decoded_node, decoded_column, decoded_each, checked_exhausted, decoded_columns}
+use Rattle.ipc_arrays.specs.Decoding.{Rest, VariableSizeHead, BinaryParts, decoded_buffer, decoded_validity_buffer, decoded_bits, decoded_values, decoded_bytes, decoded_variable_size_head, decoded_binary_parts, utf8_parts, decoded_boolean, decoded_primitive, decoded_fixed_size_binary, decoded_binary, decoded_utf8, decoded_keys, are_keys_in_range, dictionary_over, decoded_dictionary_values, decoded_dictionary, decoded_fixed_width, decoded_flat, list_over, map_over, decoded_union_parts, union_child_length, are_union_offsets_valid, decoded_array, decoded_child, decoded_children, decoded_node, decoded_column, decoded_each, checked_exhausted, decoded_columns}
 use Rattle.ipc_arrays.specs.DictionaryKeys.{is_same_logical_type}
 use Rattle.ipc_arrays.specs.DecodingLaws.{size_stored, ids_stored}
 use Rattle.ipc_arrays.specs.FixedWidth.{ByteFormat, format_of}
@@ -86,11 +86,11 @@ binary_by large t u counts body rest = then_answered (retyped u) (decoded_binary
 
 text_by : (large : Bool) (t u : TypeTree) (counts : NodeCounts) (body : List ℕ) (rest : Rest) → decoded_utf8 large u counts body rest ≡ answered (retyped u) (decoded_utf8 large t counts body rest)
 unfolding decoded_utf8
-text_by large t u counts body rest = then_answered (retyped u) (decoded_binary_parts large counts body rest) _ _ (λ s. of_texts s.0 s.1 (are_utf8 s.0.offsets s.0.bytes))
+text_by large t u counts body rest = then_answered (retyped u) (decoded_binary_parts large counts body rest) _ _ (λ s. of_parts s.1 (utf8_parts s.0))
   where
-    of_texts : (s : BinaryParts) (left : Rest) (texts : Bool) → ((check texts Utf8 >>= λ x. Ok (utf8 large u s.offsets s.bytes s.validity)) >>= λ a. Ok (a, left)) ≡ answered (retyped u) ((check texts Utf8 >>= λ x. Ok (utf8 large t s.offsets s.bytes s.validity)) >>= λ a. Ok (a, left))
-    of_texts s left true = refl
-    of_texts s left false = refl
+    of_parts : (left : Rest) (r : Result BinaryParts IpcReadError) → ((r >>= λ p. Ok (utf8 large u p.offsets p.bytes p.validity)) >>= λ a. Ok (a, left)) ≡ answered (retyped u) ((r >>= λ p. Ok (utf8 large t p.offsets p.bytes p.validity)) >>= λ a. Ok (a, left))
+    of_parts left (Ok p) = refl
+    of_parts left (Err e) = refl
 
 over_by : (t u : TypeTree) (ks values : Layout) → value_type u ≡ value_type t → dictionary_over u ks values ≡ answered (λ a. with_type a u) (dictionary_over t ks values)
 over_by t u ks values same =

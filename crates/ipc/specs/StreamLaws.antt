@@ -2,14 +2,13 @@
 use Rattle.std.specs.Prelude.{◌≡◌, ℕ, zero, suc, ◌<◌, ◌≤◌, Bool, true, false, ◌==◌, List, [], ◌∷◌, length, take, drop, Option, Some, None, Result, Ok, Err, IfOk, IfSome, nat_le, if◌then◌else◌, refl}
 use Rattle.std.proofs.Common.{ap, arith, length-drop}
 use Rattle.std.specs.Int.{w32, from_le_bytes, cast_signed}
-use Rattle.ipc_flatbuf.specs.ReadResults.{◌>>=◌, check}
+use Rattle.ipc_flatbuf.specs.ReadResults.{◌>>=◌}
 use Rattle.ipc_flatbuf.specs.declared.error.IpcReadError.{IpcReadError}
-use Rattle.ipc_flatbuf.specs.declared.error.IpcReadError.TheVariants.{Truncated, Continuation, MetadataLength}
+use Rattle.ipc_flatbuf.specs.declared.error.IpcReadError.TheVariants.{Truncated, MetadataLength}
 use Rattle.ipc_flatbuf.specs.Flatbuffers.{spec_non_negative}
 use Rattle.ipc_flatbuf.specs.Messages.{MessageModel, root_at, spec_first_bytes, spec_after_continuation, spec_message_of_size, spec_sized_message, message_at}
-use Rattle.ipc_schema.specs.Schemas.{schema_parts}
 use Rattle.ipc_schema.specs.Projections.{ProjectionModel}
-use Rattle.ipc_schema.specs.ProjectedSchemas.{spec_check_projected_version, spec_projected_schema_at, stream_projected_schema_at}
+use Rattle.ipc_schema.specs.ProjectedSchemas.{spec_projected_schema_in_message, stream_projected_schema_at}
 use Rattle.ipc.specs.Streams.{RecordBatchTree, StateTree, Next, message_in, or_next, next_by, next_within, next_in, first_in, with_others, batches_within, batches_in, first_and_others}
 
 -- ---- fewer bytes follow a part
@@ -45,21 +44,29 @@ parts_leaves n m bytes le =
     (λ metadata h. if_ok_then (Leaves m) (root_at metadata.0) _
     (λ root. if_ok_bind (Leaves m) (Leaves m) (spec_first_bytes root.body_length metadata.1) _ (front_leaves root.body_length m metadata.1 h) (λ body h. h)))
 
-sized_leaves : (m : ℕ) (bytes : List ℕ) → length bytes ≤ m → IfOk (spec_sized_message bytes) (Leaves m)
+-- fewer bytes follow the length of the metadata
+length_leaves : (m : ℕ) (bytes : List ℕ) → length bytes ≤ suc m → IfOk (spec_first_bytes 4 bytes) (Leaves m)
+unfolding spec_first_bytes
+length_leaves m bytes le = if_ok (Leaves m) (nat_le 4 (length bytes)) (take 4 bytes, drop 4 bytes) Truncated (omega (arith, length-drop 4 bytes))
+
+sized_leaves : (m : ℕ) (bytes : List ℕ) → length bytes ≤ suc m → IfOk (spec_sized_message bytes) (Leaves m)
 unfolding spec_sized_message
 sized_leaves m bytes le =
-    if_ok_bind (Leaves m) (Leaves m) (spec_first_bytes 4 bytes) _ (front_leaves 4 m bytes le)
+    if_ok_bind (Leaves m) (Leaves m) (spec_first_bytes 4 bytes) _ (length_leaves m bytes le)
     (λ long h. if_ok_then (Leaves m) (spec_non_negative MetadataLength (cast_signed w32 (from_le_bytes w32 long.0))) _
     (λ size. if_either (Leaves m) (size == 0) (Ok (None, long.1)) (spec_message_of_size size long.1 >>= λ parts. Ok (Some parts.0, parts.1)) h
     (if_ok_bind (Leaves m) (Leaves m) (spec_message_of_size size long.1) _ (parts_leaves size m long.1 h) (λ parts h. h))))
 
--- fewer bytes follow the continuation marker
-mark_leaves : (b : ℕ) (bytes : List ℕ) → IfOk (spec_after_continuation (b ∷ bytes)) (λ rest. length rest ≤ length bytes)
-unfolding spec_after_continuation spec_first_bytes
-mark_leaves b bytes =
-    if_ok_bind (Leaves (length bytes)) (λ rest. length rest ≤ length bytes) (spec_first_bytes 4 (b ∷ bytes)) _
-    (if_ok (Leaves (length bytes)) (nat_le 4 (length (b ∷ bytes))) (take 4 (b ∷ bytes), drop 4 (b ∷ bytes)) Truncated (omega (arith, length-drop 3 bytes)))
-    (λ mark h. if_ok_then (λ rest. length rest ≤ length bytes) (check (from_le_bytes w32 mark.0 == 4294967295) Continuation) _ (λ none. h))
+-- no more bytes follow the continuation indicator, or its absence
+mark_leaves : (bytes : List ℕ) → IfOk (spec_after_continuation bytes) (λ rest. length rest ≤ length bytes)
+unfolding spec_after_continuation
+mark_leaves bytes =
+    if_ok_bind (Leaves (length bytes)) (λ rest. length rest ≤ length bytes) (spec_first_bytes 4 bytes) _ (front_leaves 4 (length bytes) bytes (omega arith))
+    (λ mark h. one (from_le_bytes w32 mark.0 == 4294967295) mark.1 h)
+  where
+    one : (mark : Bool) (rest : List ℕ) → length rest ≤ length bytes → length (if mark then rest else bytes) ≤ length bytes
+    one true rest h = h
+    one false rest h = omega arith
 
 -- fewer bytes follow a message, and no more follow the end
 abbrev pub Goes : {A : Type 0} → ℕ → Option A × List ℕ → Type 0
@@ -78,7 +85,7 @@ unfolding message_at
 message_goes [] = (omega arith, tt)
 message_goes (b ∷ bytes) =
     if_either (Goes (suc (length bytes))) (length (b ∷ bytes) == 0) (Ok (None, [])) (spec_after_continuation (b ∷ bytes) >>= spec_sized_message) (omega arith, tt)
-    (if_ok_bind (λ rest. length rest ≤ length bytes) (Goes (suc (length bytes))) (spec_after_continuation (b ∷ bytes)) spec_sized_message (mark_leaves b bytes)
+    (if_ok_bind (λ rest. length rest ≤ suc (length bytes)) (Goes (suc (length bytes))) (spec_after_continuation (b ∷ bytes)) spec_sized_message (mark_leaves (b ∷ bytes))
     (λ rest le. if_ok_some (length bytes) (spec_sized_message rest) (sized_leaves (length bytes) rest le)))
 
 -- ---- a record batch is that of the first message, or the next one
@@ -171,9 +178,7 @@ pub schema_leaves : (picks : ProjectionModel) (bytes : List ℕ) → IfOk (strea
 unfolding stream_projected_schema_at
 schema_leaves picks bytes =
     if_ok_bind (Leaves (length bytes)) (Leaves (length bytes)) (message_at bytes) _ (leaves_of_goes (length bytes) (message_at bytes) (message_goes bytes))
-    (λ first h. if_ok_then (Leaves (length bytes)) (schema_parts first.0) _
-    (λ parts. if_ok_then (Leaves (length bytes)) (spec_projected_schema_at picks parts.metadata parts.root.header parts.root.left) _
-    (λ picked. if_ok_then (Leaves (length bytes)) (spec_check_projected_version parts.root.version picked.0.schema.fields picked.0.steps) _ (λ allowed. h))))
+    (λ first h. if_ok_then (Leaves (length bytes)) (spec_projected_schema_in_message picks first.0) _ (λ picked. h))
 
 others_leave : (f : StateTree → List ℕ → Batches) (n : ℕ) (next : Option RecordBatchTree) (t : StateTree) (behind : List ℕ) → length behind ≤ n → ((u : StateTree) (bytes : List ℕ) → IfOk (f u bytes) (Leaves (length bytes))) → IfOk (with_others f next t behind) (Leaves n)
 others_leave f n None t behind le h = le

@@ -294,6 +294,11 @@ state_of s = record { picked = projected_schema_of s.picked; known = known_of s.
 abbrev pub known_dictionaries_of : KnownDictionaries → Known × List ℤ
 known_dictionaries_of d = (known_of d.known.entries, d.appendable.items)
 
+-- a state with its dictionaries put back as they were, if they were changed
+abbrev pub restored : Option KnownDictionaries → StateTree → StateTree
+restored None s = s
+restored (Some d) s = record { picked = s.picked; known = (known_dictionaries_of d).0; appendable = (known_dictionaries_of d).1 }
+
 -- the error of a delta that cannot be appended
 abbrev pub join_error_of : Error → IpcReadError
 join_error_of (errors.Memory refused) = Memory

@@ -17,17 +17,20 @@ use ipc_schema::footer::Block;
 use ipc_schema::{ProjectedSchema, check_projected_version};
 use std::alloc::Global;
 
-// Returns the message, if it has the lengths of its block.
-fn of_block(block: Block, next: Option<Message<'_>>) -> Result<Message<'_>, IpcReadError>
-    ensures parts { Returns model_of result (message_of_block block (optional_model_of next.entry)) }
+// Returns the message, if it fills its block. `behind` has the bytes after its body.
+fn of_block<'a>(
+    block: Block,
+    next: Option<Message<'a>>,
+    behind: &[u8],
+) -> Result<Message<'a>, IpcReadError>
+    ensures parts { Returns model_of result (message_of_block block (optional_model_of next.entry) behind.now) }
     ensures same { IfOk result (λ m. Some m ≡ next.entry) }
 {
     match next {
         None => Err(IpcReadError::Block),
         Some(message) => {
-            let metadata = block.metadata_length.unsigned_abs() as usize;
             let body = block.body_length.unsigned_abs() as usize;
-            if 8 + message.metadata.len() == metadata && message.body.len() == body {
+            if behind.is_empty() && message.body.len() == body {
                 Ok(message)
             } else {
                 Err(IpcReadError::Block)
@@ -58,8 +61,8 @@ fn message_in_block<'a>(
     ensures parts { Returns model_of result (spec_message_in_block kind (projected_schema_of picked.now) own.now block) }
     ensures small { IfOk result (λ m. length m.metadata.now < 2 ^ 31) }
 {
-    let (next, _) = next_message(own)?;
-    let message = of_block(block, next)?;
+    let (next, behind) = next_message(own)?;
+    let message = of_block(block, next, behind)?;
     if !is_kind(message.root.kind, kind) {
         return Err(IpcReadError::HeaderType);
     }
@@ -70,7 +73,7 @@ fn message_in_block<'a>(
 /// Reads a dictionary batch of a file into the state. `own` has the bytes of its block.
 ///
 /// # Errors
-/// The first error of the message: `Block`, if its lengths are not those of the block; `HeaderType`, if it is no dictionary batch; an error
+/// The first error of the message: `Block`, if it does not fill the block; `HeaderType`, if it is no dictionary batch; an error
 /// of the batch; the error of a second dictionary with an id, as files allow deltas only. Otherwise `Memory`.
 pub fn read_dictionary_block(
     alloc: Global,
@@ -88,7 +91,7 @@ pub fn read_dictionary_block(
 /// Reads a record batch of a file. `own` has the bytes of its block.
 ///
 /// # Errors
-/// The first error of the message: `Block`, if its lengths are not those of the block; `HeaderType`, if it is no record batch; an error of
+/// The first error of the message: `Block`, if it does not fill the block; `HeaderType`, if it is no record batch; an error of
 /// the batch. Otherwise `Memory`.
 pub fn read_batch_block(
     alloc: Global,

@@ -9,6 +9,8 @@
 mod appendable;
 mod batch;
 mod block;
+pub mod column_laws;
+mod columns;
 mod deltas;
 mod dictionary;
 mod file;
@@ -24,12 +26,15 @@ mod writing_files;
 
 pub use batch::Batch;
 pub use block::{read_batch_block, read_dictionary_block};
+pub use columns::batch_of_columns;
 pub use file::{File, SliceFileReader, read_file, read_file_projected};
 pub use reader::SliceStreamReader;
 pub use reading::{next_batch, read_message};
 pub use state::{DictionaryState, KnownDictionaries};
 pub use stream::{Stream, read_stream, read_stream_projected};
 pub use writing::{append_stream_batch, encode_stream_batch, write_stream};
-pub use writing_files::{FileBlocks, encode_file_batch, initial_state, write_file};
+pub use writing_files::{
+    EncodedFileBatch, FileBlocks, encode_file_batch, initial_state, write_file,
+};
 
 pub mod dictionaries;

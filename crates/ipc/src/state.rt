@@ -5,7 +5,7 @@ ghost use Rattle.ipc_flatbuf.specs.ReadResults.{ReturnsOrRunsOut};
 ghost use Rattle.ipc_schema.specs.ProjectedSchemas.{projected_schema_of};
 ghost use Rattle.ipc_arrays.specs.DictionaryKeys.{dictionary_of};
 ghost use Rattle.ipc.specs.SliceStreamReaders.{state_in};
-ghost use Rattle.ipc.specs.Streams.{start, known_dictionaries_of, known_of, values_at, state_of, with_delta, with_new};
+ghost use Rattle.ipc.specs.Streams.{start, known_dictionaries_of, known_of, restored, values_at, state_of, with_delta, with_new};
 
 use crate::appendable::appendable_after;
 use crate::dictionaries::emitted::insert_clone;
@@ -88,11 +88,22 @@ impl DictionaryState {
 
     /// Replaces the dictionaries by those of an earlier call of `dictionaries`.
     pub fn restore(&mut self, dictionaries: KnownDictionaries)
-        ensures { state_of self.new ≡ record { picked = (state_of self.old).picked; known = (known_dictionaries_of dictionaries).0; appendable = (known_dictionaries_of dictionaries).1 } }
+        ensures picked { self.new.picked ≡ self.old.picked }
+        ensures known { state_of self.new ≡ record { picked = (state_of self.old).picked; known = (known_dictionaries_of dictionaries).0; appendable = (known_dictionaries_of dictionaries).1 } }
     {
         let KnownDictionaries { known, appendable } = dictionaries;
         self.known = known;
         self.appendable = appendable;
+    }
+
+    /// Replaces the dictionaries by those before a change, if there was one.
+    pub fn undo(&mut self, before: Option<KnownDictionaries>)
+        ensures picked { self.new.picked ≡ self.old.picked }
+        ensures known { state_of self.new ≡ restored before (state_of self.old) }
+    {
+        if let Some(dictionaries) = before {
+            self.restore(dictionaries);
+        }
     }
 
     /// Sets the values of an id: a new or replacement dictionary.

@@ -1,5 +1,5 @@
 //! Writes files.
-ghost use Rattle.std.specs.Prelude.{◌≡◌, ◌+◌, ◌-◌, ◌<◌, ◌≤◌, ◌^◌, ◌++◌, ◌∷◌, [], None, map, length, pos, IfErr, IfOk, OnOk, Ok};
+ghost use Rattle.std.specs.Prelude.{◌≡◌, ◌+◌, ◌-◌, ◌<◌, ◌≤◌, ◌^◌, ◌++◌, ◌∷◌, [], None, map, length, pos, IfErr, IfOk, MatchResult, OnOk, Ok};
 ghost use Rattle.std.specs.List.{AllByRecursion, flat_map};
 ghost use Rattle.nest_array.specs.Seen.{layout_of};
 ghost use Rattle.ipc_flatbuf.specs.ReadResults.{ReturnsOrRunsOut};
@@ -10,11 +10,11 @@ ghost use Rattle.ipc_schema.specs.SchemaBytes.{schema_message};
 ghost use Rattle.ipc_arrays.specs.Encoding.{columns_body};
 ghost use Rattle.ipc.specs.FileDictionaries.{dictionary_batch_of};
 ghost use Rattle.ipc.specs.EntriesOf.{entry_of, entries_of};
-ghost use Rattle.ipc.specs.Streams.{record_batch_of, state_of, types_of, types_of_fields};
+ghost use Rattle.ipc.specs.Streams.{record_batch_of, restored, state_of, types_of, types_of_fields};
 ghost use Rattle.ipc.specs.Files.{file_in};
 ghost use Rattle.ipc.specs.SliceStreamReaders.{state_in};
 ghost use Rattle.ipc.specs.EncodedStreams.{batch_bytes, dictionary_head, dictionary_bytes, pending_by, encoded_batch, encoded_batches, encoded_messages, schema_error, IsErrorOrMemory, RecordBatchRoundTrips, DictionaryRoundTrips, BatchRoundTrips, BatchesRoundTrip, AreSameBatches};
-ghost use Rattle.ipc.specs.EncodedFiles.{block_at, written_block, dictionary_blocks, file_dictionary_batches, no_blocks, blocks_from, blocks_of, encoded_file, after, file_state_after, file_state_start, state_by, state_after, unreadable_error, spec_write_error_of, record_batch_block_error, dictionary_batch_error, dictionary_batches_error, file_batch_error, file_batches_error, file_error, decoded_file, file_state_of, messages_error, DecodesLikeStream};
+ghost use Rattle.ipc.specs.EncodedFiles.{block_at, part_bytes, part_error, with_blocks, written_block, dictionary_blocks, file_dictionary_batches, no_blocks, blocks_from, blocks_of, encoded_file, after, file_state_after, file_state_start, state_by, state_after, unreadable_error, spec_write_error_of, record_batch_block_error, dictionary_batch_error, dictionary_batches_error, file_batch_error, file_batches_error, file_error, decoded_file, file_state_of, messages_error, DecodesLikeStream};
 ghost use Rattle.ipc.specs.EncodedBatches.{with_part};
 
 use crate::batch::Batch;
@@ -22,7 +22,7 @@ use crate::dictionaries::{
     DictionaryBatch, any_replaced, dictionary_batches, pending_dictionaries, record_emitted,
 };
 use crate::dictionary::read_dictionary;
-use crate::state::DictionaryState;
+use crate::state::{DictionaryState, KnownDictionaries};
 use crate::writing::{append_dictionary, are_columns, write_record_batch};
 use ipc_flatbuf::message::next_message;
 use ipc_flatbuf::{IpcReadError, IpcWriteError};
@@ -170,15 +170,83 @@ fn write_record_batch_block(
     block_between(start, out.len(), body_length)
 }
 
+/// What is left to do with a record batch of a file that was encoded.
+#[derive(Drop)]
+pub struct EncodedFileBatch<'a> {
+    /// The pending dictionaries, which `record_emitted` adds to `emitted` once the bytes are out.
+    pub pending: Vec<(i64, &'a AnyArray)>,
+    /// The dictionaries of the reader before, if the batch changes them. `DictionaryState::undo` puts them back, if the bytes cannot be written.
+    pub before: Option<KnownDictionaries>,
+}
+
+// Appends dictionary batches and a record batch, and their blocks. After an error `known` may have other dictionaries.
+fn write_parts(
+    alloc: Global,
+    out: &mut Vec<u8>,
+    blocks: &mut FileBlocks,
+    known: &mut DictionaryState,
+    puts: &[DictionaryBatch],
+    batch: &Batch,
+) -> Result<(), IpcWriteError>
+    ensures bytes { OnOk result (out.new.items ≡ out.old.items ++ part_bytes (map dictionary_batch_of puts.now) (record_batch_of batch.now)) }
+    ensures blocks { OnOk result (blocks_of blocks.new ≡ with_blocks (blocks_of blocks.old) (length out.old.items) (map dictionary_batch_of puts.now) (record_batch_of batch.now)) }
+    ensures picked { known.new.picked ≡ known.old.picked }
+    ensures known { OnOk result (state_of known.new ≡ after state_after (state_of known.old) (map dictionary_batch_of puts.now)) }
+    ensures again { OnOk result (AllByRecursion DictionaryRoundTrips (map dictionary_batch_of puts.now)) }
+    ensures batch_again { OnOk result (RecordBatchRoundTrips (record_batch_of batch.now)) }
+    ensures form { OnOk result (part_error (state_of known.old) (map dictionary_batch_of puts.now) (record_batch_of batch.now) ≡ None) }
+    ensures err { IfErr result (IsErrorOrMemory (part_error (state_of known.old) (map dictionary_batch_of puts.now) (record_batch_of batch.now))) }
+{
+    write_dictionary_blocks(alloc, out, &mut blocks.dictionaries, known, puts)?;
+    let block = write_record_batch_block(alloc, out, batch.rows, &batch.columns)?;
+    blocks.batches.push(block)?;
+    Ok(())
+}
+
+// The same, but `known` is unchanged after an error. Returns its dictionaries before, if there are dictionary batches.
+#[tactic(auto, unfolding(crate::specs::EncodedFiles::dictionary_blocks))]
+fn write_parts_or_undo(
+    alloc: Global,
+    out: &mut Vec<u8>,
+    blocks: &mut FileBlocks,
+    known: &mut DictionaryState,
+    puts: &[DictionaryBatch],
+    batch: &Batch,
+) -> Result<Option<KnownDictionaries>, IpcWriteError>
+    ensures bytes { OnOk result (out.new.items ≡ out.old.items ++ part_bytes (map dictionary_batch_of puts.now) (record_batch_of batch.now)) }
+    ensures blocks { OnOk result (blocks_of blocks.new ≡ with_blocks (blocks_of blocks.old) (length out.old.items) (map dictionary_batch_of puts.now) (record_batch_of batch.now)) }
+    ensures picked { known.new.picked ≡ known.old.picked }
+    ensures known { OnOk result (state_of known.new ≡ after state_after (state_of known.old) (map dictionary_batch_of puts.now)) }
+    ensures undo { MatchResult result (λ before. restored before (state_of known.new) ≡ state_of known.old) (λ _. state_of known.new ≡ state_of known.old) }
+    ensures again { OnOk result (AllByRecursion DictionaryRoundTrips (map dictionary_batch_of puts.now)) }
+    ensures batch_again { OnOk result (RecordBatchRoundTrips (record_batch_of batch.now)) }
+    ensures form { OnOk result (part_error (state_of known.old) (map dictionary_batch_of puts.now) (record_batch_of batch.now) ≡ None) }
+    ensures err { IfErr result (IsErrorOrMemory (part_error (state_of known.old) (map dictionary_batch_of puts.now) (record_batch_of batch.now))) }
+{
+    if puts.is_empty() {
+        let block = write_record_batch_block(alloc, out, batch.rows, &batch.columns)?;
+        blocks.batches.push(block)?;
+        return Ok(None);
+    }
+    let before = known.dictionaries(alloc)?;
+    match write_parts(alloc, out, blocks, known, puts, batch) {
+        Ok(()) => Ok(Some(before)),
+        Err(error) => {
+            known.restore(before);
+            Err(error)
+        }
+    }
+}
+
 /// Encodes a record batch of a file: appends its dictionary batches to `out`, then its message and body, and their blocks to `blocks`.
 ///
 /// A file has no replacement dictionaries, so values that extend an emitted dictionary are appended as a delta. `known` is the state of a
-/// reader of the file before and after. Returns the pending dictionaries, which `record_emitted` adds to `emitted` once the bytes are out.
+/// reader of the file before and after; its dictionaries are cloned only if there are dictionary batches.
 ///
 /// # Errors
 /// `Columns`, if the columns are not those of the fields; `Dictionaries`, if a dictionary would be replaced; then in the order of writing:
 /// `Size` of a dictionary batch, `Dictionaries` if no reader could append the delta, as an offset or key would overflow; `Size` of the
-/// record batch. `Memory`, where an allocation fails. After an error `known` may have other dictionaries.
+/// record batch. `Memory`, where an allocation fails. After an error `known` is unchanged.
 #[tactic(auto, unfolding(crate::specs::EncodedStreams::encoded_batch))]
 pub fn encode_file_batch<'a>(
     alloc: Global,
@@ -188,9 +256,10 @@ pub fn encode_file_batch<'a>(
     emitted: &BTreeMap<i64, AnyArray>,
     known: &mut DictionaryState,
     batch: &'a Batch,
-) -> Result<Vec<(i64, &'a AnyArray)>, IpcWriteError>
+) -> Result<EncodedFileBatch<'a>, IpcWriteError>
     ensures bytes { OnOk result (out.new.items ≡ out.old.items ++ encoded_batch file_dictionary_batches (entries_of emitted.now.entries) (record_batch_of batch.now)) }
-    ensures pending { IfOk result (λ pending. map entry_of pending.items ≡ pending_by (entries_of emitted.now.entries) (record_batch_of batch.now)) }
+    ensures pending { IfOk result (λ encoded. map entry_of encoded.pending.items ≡ pending_by (entries_of emitted.now.entries) (record_batch_of batch.now)) }
+    ensures undo { MatchResult result (λ encoded. restored encoded.before (state_of known.new) ≡ state_of known.old) (λ _. state_of known.new ≡ state_of known.old) }
     ensures blocks { OnOk result (blocks_of blocks.new ≡ with_part (blocks_of blocks.old) (length out.old.items) (entries_of emitted.now.entries) (record_batch_of batch.now)) }
     ensures picked { known.new.picked ≡ known.old.picked }
     ensures known { OnOk result (state_of known.new ≡ (file_state_after (file_state_of emitted.now.entries known.old) (record_batch_of batch.now)).state) }
@@ -206,10 +275,8 @@ pub fn encode_file_batch<'a>(
         return Err(IpcWriteError::DictionaryReplacement);
     }
     let puts = dictionary_batches(alloc, emitted, &pending)?;
-    write_dictionary_blocks(alloc, out, &mut blocks.dictionaries, known, &puts)?;
-    let block = write_record_batch_block(alloc, out, batch.rows, &batch.columns)?;
-    blocks.batches.push(block)?;
-    Ok(pending)
+    let before = write_parts_or_undo(alloc, out, blocks, known, &puts, batch)?;
+    Ok(EncodedFileBatch { pending, before })
 }
 
 // The same, and records the pending dictionaries as emitted.
@@ -229,8 +296,8 @@ fn write_block(
     ensures form { OnOk result (file_batch_error (types_of_fields fields.now) (file_state_of emitted.old.entries known.old) (record_batch_of batch.now) ≡ None) }
     ensures err { IfErr result (IsErrorOrMemory (file_batch_error (types_of_fields fields.now) (file_state_of emitted.old.entries known.old) (record_batch_of batch.now))) }
 {
-    let pending = encode_file_batch(alloc, out, blocks, fields, emitted, known, batch)?;
-    record_emitted(alloc, emitted, &pending)?;
+    let encoded = encode_file_batch(alloc, out, blocks, fields, emitted, known, batch)?;
+    record_emitted(alloc, emitted, &encoded.pending)?;
     Ok(())
 }
 

@@ -1,37 +1,38 @@
 -- The next message of a reader: how many bytes are read for it, and what they decode to.
-use Rattle.std.specs.Prelude.{◌≡◌, ◌<◌, ◌+◌, ◌==◌, ◌⊎◌, ◌++◌, ℕ, List, length, drop, Option, None, Some, Result, Ok, Err, ⊤, nat_le, if◌then◌else◌}
+use Rattle.std.specs.Prelude.{◌≡◌, ◌<◌, ◌==◌, ◌⊎◌, ◌++◌, ℕ, List, [], length, Option, None, Some, Result, Ok, Err, if◌then◌else◌}
 use Rattle.std.specs.Int.{w32, from_le_bytes, cast_signed}
 use Rattle.std.specs.Io.KnownBytes.{Consumes, IsAtEnd}
-use Rattle.ipc_flatbuf.specs.ReadResults.{◌>>=◌, check}
+use Rattle.ipc_flatbuf.specs.ReadResults.{◌>>=◌, FailsOrRunsOut}
 use Rattle.ipc_flatbuf.specs.declared.error.IpcReadError as read_errors
-use Rattle.ipc_flatbuf.specs.declared.error.IpcReadError.TheVariants.{Continuation, MetadataLength, Memory}
+use Rattle.ipc_flatbuf.specs.declared.error.IpcReadError.TheVariants.{MetadataLength, Memory, Truncated}
 use Rattle.ipc_flatbuf.specs.Flatbuffers.{spec_non_negative}
-use Rattle.ipc_flatbuf.specs.Messages.{MessageModel, root_at, message_at}
-use Rattle.ipc_flatbuf.specs.declared.message.types.MessageRoot.{MessageRoot}
+use Rattle.ipc_flatbuf.specs.Messages.{MessageModel, spec_first_bytes}
 use Rattle.ipc_io.specs.declared.error.ReadError.{ReadError}
 use Rattle.ipc_io.specs.declared.error.ReadError.TheVariants.{Ipc, Io}
+use Rattle.ipc_io.specs.declared.fetching.FetchedMessage.{FetchedMessage}
 
 -- ---- lengths
 
--- a number that was read, or 0
-abbrev pub value_or_zero : Result ℕ read_errors.IpcReadError → ℕ
-value_or_zero (Ok n) = n
-value_or_zero (Err error) = 0
+-- a number of 4 bytes at the start of the bytes, and the bytes after it; None where there are no bytes
+unfoldable pub word_at : List ℕ → Result (Option ℕ × List ℕ) read_errors.IpcReadError
+word_at bytes = if length bytes == 0 then Ok (None, []) else (spec_first_bytes 4 bytes >>= λ word. Ok (Some (from_le_bytes w32 word.0), word.1))
 
--- the length of the metadata, from the first 8 bytes of a message
-unfoldable pub head_at : List ℕ → Result ℕ read_errors.IpcReadError
-head_at head = check (from_le_bytes w32 head == 4294967295) Continuation >>= λ none. spec_non_negative MetadataLength (cast_signed w32 (from_le_bytes w32 (drop 4 head)))
+-- the length of the metadata from its number
+abbrev pub number_of_size : ℕ → Result ℕ read_errors.IpcReadError
+number_of_size word = spec_non_negative MetadataLength (cast_signed w32 word)
 
--- the same, or 0 where fewer bytes were read
-unfoldable pub spec_metadata_length : List ℕ → ℕ
-spec_metadata_length buf = if nat_le 8 (length buf) then value_or_zero (head_at buf) else 0
+abbrev pub length_after : Option ℕ → Result ℕ read_errors.IpcReadError
+length_after None = Err Truncated
+length_after (Some word) = number_of_size word
 
-abbrev pub root_body : Result MessageRoot read_errors.IpcReadError → Result ℕ read_errors.IpcReadError
-root_body read = read >>= λ root. Ok root.body_length
+abbrev pub length_by : Option ℕ → List ℕ → Result (ℕ × List ℕ) read_errors.IpcReadError
+length_by None rest = Ok (0, rest)
+length_by (Some first) rest = if first == 4294967295 then (word_at rest >>= λ word. length_after word.0 >>= λ size. Ok (size, word.1)) else (number_of_size first >>= λ size. Ok (size, rest))
 
--- the length of the body, from the metadata after the first 8 bytes, if that is all that was read
-unfoldable pub spec_body_length : ℕ → List ℕ → ℕ
-spec_body_length size buf = if length buf == 8 + size then value_or_zero (root_body (root_at (drop 8 buf))) else 0
+-- the length of the metadata of the message at the start of the bytes, after the continuation indicator if there is one, and the bytes after it; 0 at the end of the
+-- stream
+unfoldable pub metadata_length_at : List ℕ → Result (ℕ × List ℕ) read_errors.IpcReadError
+metadata_length_at bytes = word_at bytes >>= λ first. length_by first.0 first.1
 
 -- ---- what was read
 
@@ -39,15 +40,21 @@ spec_body_length size buf = if length buf == 8 + size then value_or_zero (root_b
 abbrev pub ReadsUpTo : Option (List ℕ) → Option (List ℕ) → List ℕ → List ℕ → ℕ → Type 0
 ReadsUpTo old new before after want = (more : List ℕ) × (after ≡ before ++ more) × Consumes old new more × ((length more ≡ want) ⊎ ((length more < want) × IsAtEnd new))
 
--- the bytes after a message are these
-abbrev pub with_rest : Result (Option MessageModel × List ℕ) read_errors.IpcReadError → List ℕ → Result (Option MessageModel × List ℕ) read_errors.IpcReadError
-with_rest read behind = read >>= λ x. Ok (x.0, behind)
+-- the value of a message that was read
+abbrev pub fetched_message : FetchedMessage → MessageModel
+fetched_message m = record { root = m.root; metadata = m.metadata.items; body = m.body.items }
 
--- The bytes of the reader begin with the message that was read, or have its error; the bytes after the message are left.
-abbrev pub ReadsMessage : Option (List ℕ) → Option (List ℕ) → List ℕ → Type 0
-ReadsMessage None new buf = ⊤
-ReadsMessage (Some xs) None buf = ⊥
-ReadsMessage (Some xs) (Some ys) buf = message_at xs ≡ with_rest (message_at buf) ys
+abbrev pub optional_fetched : Option FetchedMessage → Option MessageModel
+optional_fetched None = None
+optional_fetched (Some m) = Some (fetched_message m)
+
+-- A value is read from a reader: it is what the bytes decode to, and the bytes after it are left; or they have this error. An I/O error may be returned instead.
+abbrev pub Fetches : {A X : Type 0} → (List ℕ → Result (A × List ℕ) read_errors.IpcReadError) → (X → A) → Option (List ℕ) → Option (List ℕ) → Result X ReadError → Type 0
+Fetches decoded view None new result = Unit {0}
+Fetches decoded view (Some xs) None (Ok x) = ⊥
+Fetches decoded view (Some xs) (Some ys) (Ok x) = decoded xs ≡ Ok (view x, ys)
+Fetches decoded view (Some xs) new (Err (Ipc error)) = FailsOrRunsOut error (decoded xs)
+Fetches decoded view (Some xs) new (Err (Io e)) = Unit {0}
 
 -- the reader failed, or an allocation did
 abbrev pub IsReadFailure : ReadError → Type 0

@@ -109,6 +109,13 @@ RecordsState state old new (Err (Ipc why)) = new.known ≡ old.known
 RecordsState state old new (Err (Io e)) = new.known.picked ≡ old.known.picked
 RecordsState state old new (Err Failed) = new.known ≡ old.known
 
+-- the state of a reader is the one now; where nothing was written it is the one before
+abbrev pub KeepsOrUndoes : StateTree → StateTree → StateTree → Result ⊤ errors.WriteError → Type 0
+KeepsOrUndoes before now new (Ok done) = new ≡ now
+KeepsOrUndoes before now new (Err (Ipc why)) = new ≡ before
+KeepsOrUndoes before now new (Err (Io e)) = new ≡ now
+KeepsOrUndoes before now new (Err Failed) = ⊥
+
 -- the blocks of a record batch and of its dictionary batches are recorded
 abbrev pub RecordsBatchBlocks : {W : Type 0} → RecordBatchTree → FileWriterTree W → FileWriterTree W → Result ⊤ errors.WriteError → Type 0
 RecordsBatchBlocks b old new result = RecordsBlocks (batch_blocks old.position old.stream.emitted b) (length (encoded_batch file_dictionary_batches old.stream.emitted b)) old new result

@@ -2,22 +2,19 @@
 use Rattle.std.specs.Prelude.{◌≡◌, ℕ, Bool, true, List, [], Option, None, Some, Result, Ok, Err, if◌then◌else◌, refl}
 use Rattle.std.specs.Option.{option_map}
 use Rattle.std.specs.Coded.{Coded, code_by, coded×, coded_bool}
-use Rattle.ipc_flatbuf.specs.ReadResults.{◌>>=◌, FailsOrRunsOut}
+use Rattle.ipc_flatbuf.specs.ReadResults.{FailsOrRunsOut}
 use Rattle.ipc_flatbuf.specs.declared.error.IpcReadError as read_errors
-use Rattle.ipc_flatbuf.specs.Messages.{MessageModel, message_at}
 use Rattle.ipc_schema.specs.declared.projected.ProjectedSchema.{ProjectedSchema}
-use Rattle.ipc_schema.specs.declared.schema.Schema.{Schema}
-use Rattle.ipc_schema.specs.Dictionaries.{DictionaryTypesModel}
 use Rattle.ipc_schema.specs.ProjectedSchemas.{projected_schema_of, stream_projected_schema_at}
 use Rattle.ipc_schema.specs.Projections.{ProjectionModel}
-use Rattle.ipc_schema.specs.Schemas.{SchemaModel, schema_of}
 use Rattle.ipc.specs.declared.batch.Batch.{Batch}
-use Rattle.ipc.specs.Streams.{RecordBatchTree, StateTree, record_batch_of, message_in, next_in}
+use Rattle.ipc.specs.Streams.{RecordBatchTree, StateTree, record_batch_of, next_in}
 use Rattle.ipc.specs.SliceStreamReaders.{SliceStreamReaderTree, coded_state, reader_in, next_of}
 use Rattle.ipc_io.specs.declared.stream_reader.Found.{Found}
 use Rattle.ipc_io.specs.declared.stream_reader.Found.TheVariants.{End, Dictionary, Next}
 use Rattle.ipc_io.specs.declared.error.ReadError.{ReadError}
 use Rattle.ipc_io.specs.declared.error.ReadError.TheVariants.{Ipc, Io}
+use Rattle.ipc_io.specs.Fetched.{Fetches}
 
 -- a reader of a stream: the inner reader, its state, and whether the stream is over, by its end or an error
 pub record StreamReaderTree (R : Type 0) : Type 0 where
@@ -32,11 +29,6 @@ coded_stream_reader {R = R} reader =
 -- the stream of a reader is over, and its projection is unchanged
 abbrev pub IsClosed : {R : Type 0} → StreamReaderTree R → StreamReaderTree R → Type 0
 IsClosed old new = (new.over ≡ true) × (new.state.picked ≡ old.state.picked)
-
--- a schema is that of a message
-abbrev pub IsSchemaOf : Schema → Result ((SchemaModel × DictionaryTypesModel) × List ℕ) read_errors.IpcReadError → Type 0
-IsSchemaOf schema (Ok x) = schema_of schema ≡ x.0.0
-IsSchemaOf schema (Err error) = ⊥
 
 -- the reader of these bytes in memory
 abbrev pub with_left : StateTree → Option (List ℕ) → Option SliceStreamReaderTree
@@ -68,11 +60,7 @@ FailsNext error (Some old) = FailsOrRunsOut error (next_of old)
 
 -- the projected schema at the start of the bytes, and the bytes left
 abbrev pub FirstIn : ProjectionModel → Option (List ℕ) → Option (List ℕ) → Result ProjectedSchema ReadError → Type 0
-FirstIn picks None new result = Unit {0}
-FirstIn picks (Some xs) None (Ok picked) = ⊥
-FirstIn picks (Some xs) (Some ys) (Ok picked) = stream_projected_schema_at picks xs ≡ Ok (projected_schema_of picked, ys)
-FirstIn picks (Some xs) new (Err (Ipc error)) = FailsOrRunsOut error (stream_projected_schema_at picks xs)
-FirstIn picks (Some xs) new (Err (Io e)) = Unit {0}
+FirstIn picks old new result = Fetches (stream_projected_schema_at picks) projected_schema_of old new result
 
 -- the next record batch, the state after it, and the bytes left
 abbrev pub NextIn : StateTree → Option (List ℕ) → StateTree → Option (List ℕ) → Result (Option Batch) ReadError → Type 0
@@ -87,20 +75,6 @@ abbrev pub GoesOn : StateTree → Option (List ℕ) → StateTree → Option (Li
 GoesOn s None t new = Unit {0}
 GoesOn s (Some xs) t None = ⊥
 GoesOn s (Some xs) t (Some ys) = next_in s xs ≡ next_in t ys
-
--- a message that was found: nothing at the end of the stream, otherwise a record batch, if it is no dictionary batch
-abbrev pub found_of : Found → Option (Option RecordBatchTree)
-found_of End = None
-found_of Dictionary = Some None
-found_of (Next batch) = Some (Some (record_batch_of batch))
-
-abbrev pub found_by : StateTree → Option MessageModel → Result (Option (Option RecordBatchTree) × StateTree) read_errors.IpcReadError
-found_by s None = Ok (None, s)
-found_by s (Some m) = message_in s m >>= λ x. Ok (Some x.0, x.1)
-
--- the message at the start of bytes, and the state after it
-abbrev pub spec_found_in : StateTree → List ℕ → Result (Option (Option RecordBatchTree) × StateTree) read_errors.IpcReadError
-spec_found_in s bytes = message_at bytes >>= λ next. found_by s next.0
 
 -- the next message: the end of the stream, a dictionary batch before the next record batch, or that
 abbrev pub MessageIn : StateTree → Option (List ℕ) → StateTree → Option (List ℕ) → Result Found ReadError → Type 0

@@ -1,5 +1,5 @@
 //! Writes a file to a writer, one record batch at a time.
-ghost use Rattle.std.specs.Prelude.{◌≡◌, ◌+◌, ◌<◌, ◌^◌, ◌++◌, length, map, false, None, Ok, IfErr, IfOk, OnOk};
+ghost use Rattle.std.specs.Prelude.{◌≡◌, ◌+◌, ◌<◌, ◌^◌, ◌++◌, length, map, false, None, Ok, IfErr, IfOk, MatchResult, OnOk};
 ghost use Rattle.std.specs.List.{AllByRecursion};
 ghost use Rattle.ipc_flatbuf.specs.declared.error.IpcWriteError.TheVariants.{Memory};
 ghost use Rattle.ipc_schema.specs.Schemas.{schema_of};
@@ -7,15 +7,18 @@ ghost use Rattle.ipc_schema.specs.FooterBytes.{file_head};
 ghost use Rattle.ipc_schema.specs.FooterLaws.{FooterRoundTrips};
 ghost use Rattle.ipc.specs.PendingDictionaries.{with_entries};
 ghost use Rattle.ipc.specs.EntriesOf.{entry_of, entries_of};
-ghost use Rattle.ipc.specs.Streams.{record_batch_of, state_of, types_of};
+ghost use Rattle.ipc.specs.Streams.{record_batch_of, restored, state_of, types_of};
 ghost use Rattle.ipc.specs.EncodedStreams.{pending_by, encoded_batch, schema_error, IsErrorOrMemory, BatchRoundTrips};
 ghost use Rattle.ipc.specs.EncodedFiles.{no_blocks, blocks_of, file_state, file_state_after, file_state_start, file_dictionary_batches};
 ghost use Rattle.ipc_io.specs.Writers.{StartsWriting, FinishesWriting, WritesBytes};
-ghost use Rattle.ipc_io.specs.FileWriters.{file_state_so_far, header_bytes, footer_with, footer_of, trailer_bytes, batch_blocks, shifted_block, shifted_blocks, IsShiftable, placed_error, trailer_error, as_stream, RecordsBlocks, RecordsBatchBlocks, RecordsState, WritesFileRecordBatch};
+ghost use Rattle.ipc_io.specs.FileWriters.{file_state_so_far, header_bytes, footer_with, footer_of, trailer_bytes, batch_blocks, shifted_block, shifted_blocks, IsShiftable, KeepsOrUndoes, placed_error, trailer_error, as_stream, RecordsBlocks, RecordsBatchBlocks, RecordsState, WritesFileRecordBatch};
 
 use crate::error::WriteError;
 use crate::stream_writer::{StreamWriter, message_of};
-use ipc::{Batch, DictionaryState, FileBlocks, encode_file_batch, initial_state};
+use ipc::{
+    Batch, DictionaryState, EncodedFileBatch, FileBlocks, KnownDictionaries, encode_file_batch,
+    initial_state,
+};
 use ipc_flatbuf::IpcWriteError;
 use ipc_schema::Schema;
 use ipc_schema::footer::{Block, write_footer};
@@ -58,12 +61,14 @@ struct Header {
     known: DictionaryState,
 }
 
-// The bytes of a record batch and its dictionary batches, their blocks, and the pending dictionaries.
+// The bytes of a record batch and its dictionary batches, their blocks, the pending dictionaries, and the dictionaries of a reader before, if
+// the batch changes them.
 #[derive(Drop)]
 struct EncodedBatch<'a> {
     bytes: Vec<u8>,
     blocks: FileBlocks,
     pending: Vec<(i64, &'a AnyArray)>,
+    before: Option<KnownDictionaries>,
 }
 
 // Returns a message after the first 8 bytes of a file.
@@ -131,7 +136,7 @@ fn shift_all_blocks(
     })
 }
 
-// Encodes a record batch that begins at a position of the file.
+// Encodes a record batch that begins at a position of the file. After an error `known` is unchanged.
 fn encode_batch_at<'a>(
     alloc: Global,
     position: u64,
@@ -145,6 +150,7 @@ fn encode_batch_at<'a>(
     ensures pending { IfOk result (λ encoded. map entry_of encoded.pending.items ≡ pending_by (entries_of emitted.now.entries) (record_batch_of batch.now)) }
     ensures small { IfOk result (λ encoded. position + length encoded.bytes.items < 2 ^ 63) }
     ensures picked { known.new.picked ≡ known.old.picked }
+    ensures undo { MatchResult result (λ encoded. restored encoded.before (state_of known.new) ≡ state_of known.old) (λ _. state_of known.new ≡ state_of known.old) }
     ensures known { OnOk result (state_of known.new ≡ (file_state_after (file_state (entries_of emitted.now.entries) (state_of known.old)) (record_batch_of batch.now)).state) }
     ensures again { OnOk result (BatchRoundTrips (file_dictionary_batches (entries_of emitted.now.entries) (record_batch_of batch.now)) (record_batch_of batch.now)) }
     ensures form { OnOk result (placed_error position (types_of (schema_of schema.now)) (file_state (entries_of emitted.now.entries) (state_of known.old)) (record_batch_of batch.now) ≡ None) }
@@ -153,7 +159,7 @@ fn encode_batch_at<'a>(
     let mut bytes = Vec::new(alloc);
     let mut blocks = FileBlocks::new(alloc);
     let fields = &schema.fields;
-    let pending = encode_file_batch(
+    let encoded = encode_file_batch(
         alloc,
         &mut bytes,
         &mut blocks,
@@ -162,16 +168,24 @@ fn encode_batch_at<'a>(
         known,
         batch,
     )?;
+    let EncodedFileBatch { pending, before } = encoded;
     let room = (1u64 << 63).saturating_sub(position);
     if bytes.len() as u64 >= room {
+        known.undo(before);
         return Err(IpcWriteError::Size);
     }
-    let blocks = shift_all_blocks(alloc, position, &blocks)?;
-    Ok(EncodedBatch {
-        bytes,
-        blocks,
-        pending,
-    })
+    match shift_all_blocks(alloc, position, &blocks) {
+        Ok(blocks) => Ok(EncodedBatch {
+            bytes,
+            blocks,
+            pending,
+            before,
+        }),
+        Err(_) => {
+            known.undo(before);
+            Err(IpcWriteError::Memory)
+        }
+    }
 }
 
 // Returns the bytes after the batches: the end-of-stream marker and the footer.
@@ -277,27 +291,21 @@ impl<W: Write + Drop> FileWriter<W> {
         Ok(())
     }
 
-    // Writes a record batch. If it cannot be written, `known` may have other dictionaries.
-    fn write_batch(&mut self, alloc: Global, batch: &Batch) -> Result<(), WriteError>
-        requires { self.old.stream.failed ≡ false }
-        ensures put { WritesFileRecordBatch W.contents (record_batch_of batch.now) self.old self.new result }
-        ensures noted { RecordsBatchBlocks (record_batch_of batch.now) self.old self.new result }
-        ensures picked { self.new.known.picked ≡ self.old.known.picked }
-        ensures known { OnOk result (self.new.known ≡ (file_state_after (file_state_so_far self.old) (record_batch_of batch.now)).state) }
-        ensures again { OnOk result (BatchRoundTrips (file_dictionary_batches self.old.stream.emitted (record_batch_of batch.now)) (record_batch_of batch.now)) }
+    // Writes an encoded batch. If it cannot be written, the dictionaries of a reader are put back.
+    fn put_or_undo(&mut self, alloc: Global, encoded: EncodedBatch<'_>) -> Result<(), WriteError>
+        requires whole { self.old.stream.failed ≡ false }
+        requires small { self.old.position + length encoded.bytes.items < 2 ^ 63 }
+        ensures put { let e = encoded.entry in
+            WritesBytes W.contents None e.bytes.items (with_entries self.old.stream.emitted (map entry_of e.pending.items)) self.old.stream self.new.stream result }
+        ensures noted { RecordsBlocks (blocks_of encoded.entry.blocks) (length encoded.entry.bytes.items) self.old self.new result }
+        ensures known { KeepsOrUndoes (restored encoded.entry.before self.old.known) self.old.known self.new.known result }
     {
-        let schema = self.stream.schema();
-        let emitted = self.stream.emitted();
-        match encode_batch_at(
-            alloc,
-            self.position,
-            schema,
-            emitted,
-            &mut self.known,
-            batch,
-        ) {
-            Ok(encoded) => self.put(alloc, &encoded),
-            Err(error) => Err(WriteError::Ipc(error)),
+        match self.put(alloc, &encoded) {
+            Err(WriteError::Ipc(error)) => {
+                self.known.undo(encoded.before);
+                Err(WriteError::Ipc(error))
+            }
+            result => result,
         }
     }
 
@@ -317,13 +325,18 @@ impl<W: Write + Drop> FileWriter<W> {
         if self.stream.is_failed() {
             return Err(WriteError::Failed);
         }
-        let before = self.known.dictionaries(alloc)?;
-        match self.write_batch(alloc, batch) {
-            Err(WriteError::Ipc(error)) => {
-                self.known.restore(before);
-                Err(WriteError::Ipc(error))
-            }
-            result => result,
+        let schema = self.stream.schema();
+        let emitted = self.stream.emitted();
+        match encode_batch_at(
+            alloc,
+            self.position,
+            schema,
+            emitted,
+            &mut self.known,
+            batch,
+        ) {
+            Ok(encoded) => self.put_or_undo(alloc, encoded),
+            Err(error) => Err(WriteError::Ipc(error)),
         }
     }
 

@@ -1,17 +1,15 @@
 //! Reads a stream from a reader, one record batch at a time.
 ghost use Rattle.std.specs.Prelude.{◌≡◌, true, None, Ok, IfOk};
-ghost use Rattle.ipc_flatbuf.specs.ReadResults.{ReturnsOrRunsOut};
 ghost use Rattle.ipc_schema.specs.Projections.{all, projection_of};
 ghost use Rattle.ipc_schema.specs.Schemas.{schema_of};
 ghost use Rattle.ipc.specs.Streams.{state_of};
-ghost use Rattle.ipc_io.specs.StreamReaders.{FirstIn, ReadsNext, MessageIn, NextIn, Opens, found_of, spec_found_in};
+ghost use Rattle.ipc_io.specs.StreamReaders.{FirstIn, ReadsNext, MessageIn, NextIn, Opens};
 
 use crate::error::ReadError;
 use crate::fetching::fetch_message;
 use ipc::{Batch, DictionaryState, read_message};
 use ipc_flatbuf::IpcReadError;
-use ipc_flatbuf::message::next_message;
-use ipc_schema::{ProjectedSchema, Projection, Schema, read_projected_schema};
+use ipc_schema::{ProjectedSchema, Projection, Schema, projected_schema_in_message};
 use std::alloc::Global;
 use std::io;
 use std::io::{ErrorKind, Read};
@@ -49,6 +47,7 @@ enum Found {
 }
 
 // Reads the schema message.
+#[tactic(auto, using(crate::proofs::StreamSteps::unfetched_first, crate::proofs::StreamSteps::first_is_missing, crate::proofs::StreamSteps::first_fails, crate::proofs::StreamSteps::first_is))]
 fn read_first<R: Read>(
     alloc: Global,
     columns: Projection<'_>,
@@ -56,34 +55,19 @@ fn read_first<R: Read>(
 ) -> Result<ProjectedSchema, ReadError>
     ensures { FirstIn (projection_of columns.entry) (R.remaining reader.old) (R.remaining reader.new) result }
 {
-    let buf = fetch_message(alloc, reader)?;
-    match read_projected_schema(alloc, columns, &buf) {
-        Err(error) => Err(ReadError::Ipc(error)),
-        Ok((picked, _)) => Ok(picked),
-    }
-}
-
-// Reads the message at the start of `bytes`.
-fn found_in_message(
-    alloc: Global,
-    state: &mut DictionaryState,
-    bytes: &[u8],
-) -> Result<Found, IpcReadError>
-    ensures read { ReturnsOrRunsOut (λ f. (found_of f, state_of state.new)) result (spec_found_in (state_of state.old) bytes.now) }
-    ensures picked { state.new.picked ≡ state.old.picked }
-{
-    let (next, _) = next_message(bytes)?;
-    match next {
-        None => Ok(Found::End),
-        Some(message) => match read_message(alloc, state, message) {
-            Err(error) => Err(error),
-            Ok(None) => Ok(Found::Dictionary),
-            Ok(Some(batch)) => Ok(Found::Next(batch)),
-        },
+    match fetch_message(alloc, reader)? {
+        None => Err(ReadError::Ipc(IpcReadError::MissingSchema)),
+        Some(first) => {
+            match projected_schema_in_message(alloc, columns, Some(first.message())) {
+                Err(error) => Err(ReadError::Ipc(error)),
+                Ok(picked) => Ok(picked),
+            }
+        }
     }
 }
 
 // Reads the next message.
+#[tactic(auto, using(crate::proofs::StreamSteps::unfetched_next, crate::proofs::StreamSteps::found_end, crate::proofs::StreamSteps::found_fails, crate::proofs::StreamSteps::found_dictionary, crate::proofs::StreamSteps::found_batch))]
 fn read_found<R: Read>(
     alloc: Global,
     reader: &mut R,
@@ -92,10 +76,13 @@ fn read_found<R: Read>(
     ensures read { MessageIn (state_of state.old) (R.remaining reader.old) (state_of state.new) (R.remaining reader.new) result }
     ensures picked { state.new.picked ≡ state.old.picked }
 {
-    let buf = fetch_message(alloc, reader)?;
-    match found_in_message(alloc, state, &buf) {
-        Err(error) => Err(ReadError::Ipc(error)),
-        Ok(found) => Ok(found),
+    match fetch_message(alloc, reader)? {
+        None => Ok(Found::End),
+        Some(next) => match read_message(alloc, state, next.message()) {
+            Err(error) => Err(ReadError::Ipc(error)),
+            Ok(None) => Ok(Found::Dictionary),
+            Ok(Some(batch)) => Ok(Found::Next(batch)),
+        },
     }
 }
 

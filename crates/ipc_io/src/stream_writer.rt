@@ -1,22 +1,21 @@
 //! Writes a stream to a writer, one record batch at a time.
 ghost use Rattle.std.specs.Prelude.{◌≡◌, ◌++◌, List, ℕ, None, map, Ok, IfErr, IfOk, OnOk};
-ghost use Rattle.ipc_flatbuf.specs.declared.error.IpcWriteError.TheVariants.{Memory};
 ghost use Rattle.ipc_flatbuf.specs.MessageBytes.{end_of_stream};
-ghost use Rattle.ipc_schema.specs.Schemas.{schema_of, stream_schema_at};
+ghost use Rattle.ipc_schema.specs.Schemas.{schema_of};
 ghost use Rattle.ipc_schema.specs.SchemaBytes.{schema_message};
 ghost use Rattle.ipc.specs.PendingDictionaries.{with_entries};
 ghost use Rattle.ipc.specs.EntriesOf.{entry_of, entries_of};
 ghost use Rattle.ipc.specs.Streams.{record_batch_of};
 ghost use Rattle.ipc.specs.EncodedStreams.{stream_dictionary_batches, schema_error, IsErrorOrMemory, BatchRoundTrips};
-ghost use Rattle.ipc_io.specs.StreamReaders.{IsSchemaOf};
 ghost use Rattle.ipc_io.specs.Writers.{StartsWriting, FinishesWriting, SchemaRoundTrips, WritesBytes, WritesRecordBatch};
 
+use crate::cloning::clone_schema;
 use crate::error::WriteError;
 use crate::output::write_all;
 use ipc::dictionaries::record_emitted;
 use ipc::{Batch, encode_stream_batch};
 use ipc_flatbuf::IpcWriteError;
-use ipc_schema::{Schema, read_schema, write_schema_with_dictionaries};
+use ipc_schema::{Schema, write_schema_with_dictionaries};
 use nest_array::any::AnyArray;
 use std::alloc::Global;
 use std::collections::BTreeMap;
@@ -48,17 +47,6 @@ impl<W> Model for StreamWriter<W> {
     ghost view = { λ w. record { inner = w.inner; schema = schema_of w.schema; emitted = entries_of w.emitted.entries; failed = w.failed } };
 }
 
-// Reads a schema from its message, which was written here.
-pub(crate) fn schema_in(alloc: Global, message: &[u8]) -> Result<Schema, IpcWriteError>
-    ensures same { IfOk result (λ schema. IsSchemaOf schema (stream_schema_at message.now)) }
-    ensures err { IfErr result (λ error. error ≡ Memory) }
-{
-    match read_schema(alloc, message) {
-        Ok((keyed, _)) => Ok(keyed.schema),
-        Err(_) => Err(IpcWriteError::Memory),
-    }
-}
-
 // Returns the message of a schema, and a clone of the schema.
 pub(crate) fn message_of(alloc: Global, schema: &Schema) -> Result<(Vec<u8>, Schema), IpcWriteError>
     ensures bytes { IfOk result (λ x. x.0.items ≡ schema_message (schema_of schema.now)) }
@@ -68,7 +56,7 @@ pub(crate) fn message_of(alloc: Global, schema: &Schema) -> Result<(Vec<u8>, Sch
     ensures err { IfErr result (IsErrorOrMemory (schema_error (schema_of schema.now))) }
 {
     let message = write_schema_with_dictionaries(alloc, schema)?;
-    let copy = schema_in(alloc, &message)?;
+    let copy = clone_schema(alloc, schema)?;
     Ok((message, copy))
 }
 

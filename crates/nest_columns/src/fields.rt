@@ -21,8 +21,11 @@ pub(crate) fn column_field(
     Field::new(alloc, name, data_type, is_nullable)
 }
 
-/// Returns a nullable field for each column.
-pub(crate) fn nullable_fields(
+/// Returns a nullable field for each column, with its name and its data type, without metadata.
+///
+/// # Errors
+/// `Memory` if an allocation fails.
+pub fn nullable_fields(
     alloc: Global,
     names: &[&str],
     columns: &[AnyArray],

@@ -9,3 +9,4 @@ pub mod laws;
 
 pub use columns::struct_of_columns;
 pub use entries::map_of_entries;
+pub use fields::nullable_fields;

@@ -1,8 +1,8 @@
 //! Files and streams of the Arrow IPC format: in memory, and over `Read`, `Write` and `Seek`.
 pub use ipc::{
-    Batch, DictionaryState, File, SliceFileReader, SliceStreamReader, Stream, next_batch,
-    read_file, read_file_projected, read_message, read_stream, read_stream_projected, write_file,
-    write_stream,
+    Batch, DictionaryState, File, SliceFileReader, SliceStreamReader, Stream, batch_of_columns,
+    next_batch, read_file, read_file_projected, read_message, read_stream, read_stream_projected,
+    write_file, write_stream,
 };
 pub use ipc_flatbuf::message::{Message, next_message};
 pub use ipc_flatbuf::{IpcReadError, IpcWriteError};

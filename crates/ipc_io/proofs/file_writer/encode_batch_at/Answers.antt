@@ -12,21 +12,21 @@ pub shift_all_blocks-requires-clause-dictionaries : goal.shift_all_blocks-requir
 shift_all_blocks-requires-clause-dictionaries c =
     let emitted : DictionaryEntries = entries_of c.args.emitted.now.entries in
     let b : RecordBatchTree = record_batch_of c.args.batch.now in
-    let long : length c.encode_file_batch.new.out.items ≡ length (encoded_batch file_dictionary_batches emitted b) = part_near c.new-bytes.result.items c.encode_file_batch.new.out.items emitted b c.new-bytes.ensures.items c.in_ok-pending.ensures.bytes in
-    let made : blocks_of c.encode_file_batch.new.blocks ≡ batch_blocks 0 emitted b = part_made c.new-bytes.result.items (blocks_of c.new-blocks.result) (blocks_of c.encode_file_batch.new.blocks) emitted b c.new-bytes.ensures.items c.new-blocks.ensures c.in_ok-pending.ensures.blocks in
+    let long : length c.encode_file_batch.new.out.items ≡ length (encoded_batch file_dictionary_batches emitted b) = part_near c.new-bytes.result.items c.encode_file_batch.new.out.items emitted b c.new-bytes.ensures.items c.in_ok-encoded.ensures.bytes in
+    let made : blocks_of c.encode_file_batch.new.blocks ≡ batch_blocks 0 emitted b = part_made c.new-bytes.result.items (blocks_of c.new-blocks.result) (blocks_of c.encode_file_batch.new.blocks) emitted b c.new-bytes.ensures.items c.new-blocks.ensures c.in_ok-encoded.ensures.blocks in
     dictionaries_end c.args.position emitted b (blocks_of c.encode_file_batch.new.blocks) (omega (arith, long, c.len.ensures, c.encode_file_batch.new.out.ok, c.saturating_sub-room.ensures, c.if-len-room.false)) made
 
 pub shift_all_blocks-requires-clause-batches : goal.shift_all_blocks-requires-clause-batches
 shift_all_blocks-requires-clause-batches c =
     let emitted : DictionaryEntries = entries_of c.args.emitted.now.entries in
     let b : RecordBatchTree = record_batch_of c.args.batch.now in
-    let long : length c.encode_file_batch.new.out.items ≡ length (encoded_batch file_dictionary_batches emitted b) = part_near c.new-bytes.result.items c.encode_file_batch.new.out.items emitted b c.new-bytes.ensures.items c.in_ok-pending.ensures.bytes in
-    let made : blocks_of c.encode_file_batch.new.blocks ≡ batch_blocks 0 emitted b = part_made c.new-bytes.result.items (blocks_of c.new-blocks.result) (blocks_of c.encode_file_batch.new.blocks) emitted b c.new-bytes.ensures.items c.new-blocks.ensures c.in_ok-pending.ensures.blocks in
+    let long : length c.encode_file_batch.new.out.items ≡ length (encoded_batch file_dictionary_batches emitted b) = part_near c.new-bytes.result.items c.encode_file_batch.new.out.items emitted b c.new-bytes.ensures.items c.in_ok-encoded.ensures.bytes in
+    let made : blocks_of c.encode_file_batch.new.blocks ≡ batch_blocks 0 emitted b = part_made c.new-bytes.result.items (blocks_of c.new-blocks.result) (blocks_of c.encode_file_batch.new.blocks) emitted b c.new-bytes.ensures.items c.new-blocks.ensures c.in_ok-encoded.ensures.blocks in
     batch_ends c.args.position emitted b (blocks_of c.encode_file_batch.new.blocks) (omega (arith, long, c.len.ensures, c.encode_file_batch.new.out.ok, c.saturating_sub-room.ensures, c.if-len-room.false)) made
 
-pub returns-clause-blocks : goal.returns-clause-blocks
-returns-clause-blocks c =
+pub returns-in-Ok-clause-blocks : goal.returns-in-Ok-clause-blocks
+returns-in-Ok-clause-blocks c =
     let emitted : DictionaryEntries = entries_of c.args.emitted.now.entries in
     let b : RecordBatchTree = record_batch_of c.args.batch.now in
-    let made : blocks_of c.encode_file_batch.new.blocks ≡ batch_blocks 0 emitted b = part_made c.new-bytes.result.items (blocks_of c.new-blocks.result) (blocks_of c.encode_file_batch.new.blocks) emitted b c.new-bytes.ensures.items c.new-blocks.ensures c.in_ok-pending.ensures.blocks in
-    c.in_ok-blocks.ensures ∙ ap (shifted_blocks c.args.position) made ∙ moved_part c.args.position emitted b
+    let made : blocks_of c.encode_file_batch.new.blocks ≡ batch_blocks 0 emitted b = part_made c.new-bytes.result.items (blocks_of c.new-blocks.result) (blocks_of c.encode_file_batch.new.blocks) emitted b c.new-bytes.ensures.items c.new-blocks.ensures c.in_ok-encoded.ensures.blocks in
+    c.in-Ok.ensures ∙ ap (shifted_blocks c.args.position) made ∙ moved_part c.args.position emitted b

@@ -1,0 +1,44 @@
+//! Clones of schemas.
+ghost use Rattle.std.specs.Prelude.{◌≡◌, map, IfErr, IfOk};
+ghost use Rattle.nest_memory.specs.TypeOf.{entries_of, field_of};
+ghost use Rattle.ipc_flatbuf.specs.declared.error.IpcWriteError.TheVariants.{Memory};
+ghost use Rattle.ipc_schema.specs.Schemas.{schema_of};
+
+use ipc_flatbuf::IpcWriteError;
+use ipc_schema::Schema;
+use nest_memory::datatypes::{Field, Metadata};
+use std::alloc::{AllocError, Global};
+
+fn clone_fields(alloc: Global, fields: &[Field]) -> Result<Vec<Field>, IpcWriteError>
+    ensures same { IfOk result (λ copy. map field_of copy.items ≡ map field_of fields.now) }
+    ensures err { IfErr result (λ error. error ≡ Memory) }
+{
+    let mut copy = Vec::new(alloc);
+    for field in fields {
+        match field.clone(alloc) {
+            Ok(field) => copy.push(field)?,
+            Err(_) => return Err(IpcWriteError::Memory),
+        }
+    }
+    Ok(copy)
+}
+
+fn clone_metadata(metadata: &Metadata) -> Result<Metadata, AllocError>
+    ensures { IfOk result (λ copy. entries_of copy.entries ≡ entries_of metadata.now.entries) }
+{
+    let copy = metadata.clone()?;
+    Ok(copy)
+}
+
+/// Returns a clone of a schema.
+///
+/// # Errors
+/// `Memory`.
+pub fn clone_schema(alloc: Global, schema: &Schema) -> Result<Schema, IpcWriteError>
+    ensures same { IfOk result (λ copy. schema_of copy ≡ schema_of schema.now) }
+    ensures err { IfErr result (λ error. error ≡ Memory) }
+{
+    let fields = clone_fields(alloc, &schema.fields)?;
+    let metadata = clone_metadata(&schema.metadata)?;
+    Ok(Schema { fields, metadata })
+}
