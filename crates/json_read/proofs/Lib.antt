@@ -7,12 +7,16 @@ mod Leaves
 pub mod LineLaws
 pub mod MoreLines
 mod Named
+mod NumberReading
 mod Pushed
 mod ReadBack
 mod RoundTrip
 pub mod RowLaws
 mod Stepping
 mod ToldLists
+pub mod TextBack
+pub mod TextResults
+mod ValuesBack
 pub mod Twins
 pub mod TypeLaws
 mod TypeParts

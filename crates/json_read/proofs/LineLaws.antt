@@ -27,6 +27,8 @@ use Rattle.nest_memory.specs.declared.datatypes.physical_type.PhysicalType.TheVa
 use Rattle.nest_model.specs.BuilderTree.{BuilderTree}
 use Rattle.nest_model.specs.Slot as slots
 use Rattle.nest_model.specs.Slot.{Slot, Slots}
+use Rattle.json_write.specs.Formats.{format_of_type}
+use Rattle.json_write.specs.declared.format.ValueFormat.{ValueFormat}
 use Rattle.json_write.specs.TypedSlots.{SlotKind, slot_kind, numbers, binaries}
 
 json-there : (line : List ℕ) (j : Json) → IsUtf8 line → document line ≡ Some j → json_value line ≡ Some j
@@ -78,9 +80,10 @@ row-error t j h = cond-false (spec_is_null_struct t j) _ _ h
 pub row-error-null : (t : TypeTree) (j : Json) → spec_is_null_struct t j ≡ true → row_error t j ≡ Some WrongType
 row-error-null t j h = cond-true (spec_is_null_struct t j) _ _ h
 
-text-there : (f : SlotKind) (s : List ℕ) → string_slot f s ≢ slots.null
-text-there binaries s e = cc
-text-there f s e = cc
+text-there : (f : SlotKind) (v : ValueFormat) (s : List ℕ) → string_slot f v s ≢ slots.null
+text-there binaries v s e = cc
+text-there numbers v s e = cc
+text-there f v s e = cc
 
 array-there : (f : SlotKind) (zs : List ℤ) (ss : Slots) → array_slot f zs ss ≢ slots.null
 array-there numbers zs ss e = cc
@@ -90,7 +93,7 @@ slot-there : (t : TypeTree) (j : Json) → physical_type t ≡ physical.Struct �
 slot-there t json.null h f e = let x : Some WrongType ≡ None = sym (row-error-null t json.null (ap spec_is_struct h)) ∙ f in cc
 slot-there t (json.boolean b) h f e = cc
 slot-there t (json.number s) h f e = cc
-slot-there t (json.string s) h f e = text-there (slot_kind t) s e
+slot-there t (json.string s) h f e = text-there (slot_kind t) (format_of_type t) s e
 slot-there t (json.array js) h f e = array-there (slot_kind t) _ _ e
 slot-there t (json.object ms) h f e = cc
 

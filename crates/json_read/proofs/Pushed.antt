@@ -12,6 +12,8 @@ use Rattle.nest_any.specs.Trees.{tree_of, trees_of}
 use Rattle.nest_any.specs.declared.any.AnyMutableArray.{AnyMutableArray}
 use Rattle.json_read.specs.DistinctNames.{HasDistinctFieldNames}
 use Rattle.json_read.specs.StructMembers.{MembersAddedTo, MembersAdded, MemberAdded, NullsAdded, child_error, child_named, over_children}
+use Rattle.json_write.specs.Formats.{format_of_type}
+use Rattle.json_write.specs.declared.format.ValueFormat.{ValueFormat}
 use Rattle.json_read.specs.FlatValues.{first_error, item_numbers, flat_error}
 use Rattle.json_read.specs.JsonSlots.{array_error, count_of, value_error, flat_value_error, field_slots, items_error, item_slots, values_physical_type, member_slots, members_error, object_error, length_error, slot_of, type_named}
 use Rattle.json_read.specs.SlotAdded.{SlotAdded, IsPushError, IsList}
@@ -75,14 +77,14 @@ size-right o s n e h = ap (λ x. length_error x n) e ∙ go (eqb_tells s n)
 pub first-later : (a b : Option ValueError) → a ≡ None → first_error a b ≡ b
 first-later a b e = ap (λ x. first_error x b) e
 
-no-rows : (p : PhysicalType) (size : ℕ) (js : Items) (inside : Option ValueError) → (p ≡ physical.List → ⊥) → (p ≡ physical.LargeList → ⊥) → (p ≡ physical.FixedSizeList → ⊥) → array_error p size js inside ≡ flat_error p size (json.array js)
-no-rows physical.List size js inside a b c = absurd (a refl)
-no-rows physical.LargeList size js inside a b c = absurd (b refl)
-no-rows physical.FixedSizeList size js inside a b c = absurd (c refl)
-no-rows p size js inside a b c = refl
+no-rows : (p : PhysicalType) (size : ℕ) (v : ValueFormat) (js : Items) (inside : Option ValueError) → (p ≡ physical.List → ⊥) → (p ≡ physical.LargeList → ⊥) → (p ≡ physical.FixedSizeList → ⊥) → array_error p size v js inside ≡ flat_error p size v (json.array js)
+no-rows physical.List size v js inside a b c = absurd (a refl)
+no-rows physical.LargeList size v js inside a b c = absurd (b refl)
+no-rows physical.FixedSizeList size v js inside a b c = absurd (c refl)
+no-rows p size v js inside a b c = refl
 
 pub numbers-error : (t : TypeTree) (j : Json) → IsList j → (values_physical_type t ≡ physical.List → ⊥) → (values_physical_type t ≡ physical.LargeList → ⊥) → (values_physical_type t ≡ physical.FixedSizeList → ⊥) → flat_value_error t j ≡ value_error t j
-numbers-error t (json.array js) h a b c = sym (no-rows (values_physical_type t) (size_of (shown_type t)) js (items_error (items_type t) js) a b c)
+numbers-error t (json.array js) h a b c = sym (no-rows (values_physical_type t) (size_of (shown_type t)) (format_of_type t) js (items_error (items_type t) js) a b c)
 numbers-error t json.null h a b c = absurd h
 numbers-error t (json.boolean x) h a b c = absurd h
 numbers-error t (json.number x) h a b c = absurd h

@@ -2,7 +2,6 @@
 use Rattle.std.proofs.Common.{◌≡◌, ◌≢◌, ℕ, zero, suc, ◌+◌, ◌*◌, ◌/◌, ◌%◌, ◌^◌, ◌<◌, ◌≤◌, ◌-◌, lit≤, ℤ, pos, negsuc, neg_ℤ, List, [], ◌∷◌, ◌++◌, length, flat_map, Bool, true, false, cond, ◌&&◌, Option, Some, None, unwrap_or, refl, sym, ap, ap₂, ◌∙◌, inl, inr, arith, lt-ltb, le-ltb as ge-ltb}
 use Rattle.std.specs.Prelude.{◌==◌}
 use Rattle.std.proofs.Math.Pow.{pow_mono}
-use Rattle.nest_memory.specs.TypeTree.{TypeTree}
 use Rattle.std.specs.Char.{digit_char, digit_value}
 use Rattle.std.specs.Fmt.{decimal, signed_decimal}
 use Rattle.std.specs.Int.Signed.{mag}
@@ -13,13 +12,15 @@ use Rattle.std.proofs.lemmas.Str.Parse.{digit_from_value}
 use borrow.Author.Tests.{ne_eqb}
 use Rattle.json.specs.Json.{number}
 use Rattle.json_read.specs.FlatValues.{Range, signed, unsigned, is_in, ranges_of, integer_error, native_error, number_error, number_in, is_hex, are_hex_pairs, bytes_of_hex}
-use Rattle.json_read.specs.FlatRoundTrip.{AreInRange, NumbersRoundTrip, BytesRoundTrip}
+use Rattle.json_read.specs.FlatRoundTrip.{AreInRange, BytesRoundTrip}
+use Rattle.json_read.specs.NativeNumbers.{numbers_in}
 use Rattle.json_read.specs.RoundTrip.{AreBytes}
 use Rattle.json_read.specs.Integers.{are_decimal_digits, integer_of}
 use Rattle.nest_memory.specs.declared.datatypes.physical_type.PrimitiveType.{PrimitiveType}
 use Rattle.nest_memory.specs.declared.datatypes.physical_type.PrimitiveType.TheVariants as primitive
 use Rattle.json_read.proofs.Wholes.{are-digits, signed-in, unsigned-in}
 use Rattle.json_write.specs.JsonText.{hex_byte}
+use Rattle.json_write.specs.JsonTree.{tree_of_number}
 
 -- ---- numbers
 
@@ -37,10 +38,10 @@ decimal-back (negsuc n) h =
     rw (are-digits (decimal (suc n)) d.0) (ap (λ x. Some (neg_ℤ (pos x))) d.1)
 
 -- what the ranges have is of 128 bits
-signed-mag : (bits : ℕ) (z : ℤ) → bits ≤ 128 → is_in (signed bits) z ≡ true → mag z < 2 ^ 128
+pub signed-mag : (bits : ℕ) (z : ℤ) → bits ≤ 128 → is_in (signed bits) z ≡ true → mag z < 2 ^ 128
 signed-mag bits z h e = let k : bits - 1 ≤ 128 = omega arith in omega (arith, signed-in bits z e, pow_mono k)
 
-unsigned-mag : (bits : ℕ) (z : ℤ) → bits ≤ 128 → is_in (unsigned bits) z ≡ true → mag z < 2 ^ 128
+pub unsigned-mag : (bits : ℕ) (z : ℤ) → bits ≤ 128 → is_in (unsigned bits) z ≡ true → mag z < 2 ^ 128
 unsigned-mag bits (pos n) h e = omega (arith, unsigned-in bits n e, pow_mono h)
 unsigned-mag bits (negsuc m) h e = absurd (cc)
 
@@ -56,38 +57,41 @@ signed-back bits z h e = number-back (signed bits) z e (signed-mag bits z h e)
 unsigned-back : (bits : ℕ) (z : ℤ) → bits ≤ 128 → is_in (unsigned bits) z ≡ true → (number_error (unsigned bits) (number (signed_decimal z)) ≡ None) × (number_in (number (signed_decimal z)) ≡ z)
 unsigned-back bits z h e = number-back (unsigned bits) z e (unsigned-mag bits z h e)
 
-pub numbers-back : (p : PrimitiveType) (t : TypeTree) (z : ℤ) (zs : List ℤ) → AreInRange (ranges_of p) (z ∷ zs) → NumbersRoundTrip p t (z ∷ zs)
-numbers-back primitive.Int8 t z [] h = one-back (signed 8) z (signed-back 8 z (lit≤ tt) h.0)
-numbers-back primitive.Int8 t z (y ∷ ys) h = absurd h.1
-numbers-back primitive.Int16 t z [] h = one-back (signed 16) z (signed-back 16 z (lit≤ tt) h.0)
-numbers-back primitive.Int16 t z (y ∷ ys) h = absurd h.1
-numbers-back primitive.Int32 t z [] h = one-back (signed 32) z (signed-back 32 z (lit≤ tt) h.0)
-numbers-back primitive.Int32 t z (y ∷ ys) h = absurd h.1
-numbers-back primitive.Int64 t z [] h = one-back (signed 64) z (signed-back 64 z (lit≤ tt) h.0)
-numbers-back primitive.Int64 t z (y ∷ ys) h = absurd h.1
-numbers-back primitive.Int128 t z [] h = one-back (signed 128) z (signed-back 128 z (lit≤ tt) h.0)
-numbers-back primitive.Int128 t z (y ∷ ys) h = absurd h.1
-numbers-back primitive.UInt8 t z [] h = one-back (unsigned 8) z (unsigned-back 8 z (lit≤ tt) h.0)
-numbers-back primitive.UInt8 t z (y ∷ ys) h = absurd h.1
-numbers-back primitive.UInt16 t z [] h = one-back (unsigned 16) z (unsigned-back 16 z (lit≤ tt) h.0)
-numbers-back primitive.UInt16 t z (y ∷ ys) h = absurd h.1
-numbers-back primitive.UInt32 t z [] h = one-back (unsigned 32) z (unsigned-back 32 z (lit≤ tt) h.0)
-numbers-back primitive.UInt32 t z (y ∷ ys) h = absurd h.1
-numbers-back primitive.UInt64 t z [] h = one-back (unsigned 64) z (unsigned-back 64 z (lit≤ tt) h.0)
-numbers-back primitive.UInt64 t z (y ∷ ys) h = absurd h.1
-numbers-back primitive.Float16 t z zs h = absurd h
-numbers-back primitive.Float32 t z zs h = absurd h
-numbers-back primitive.Float64 t z zs h = absurd h
-numbers-back primitive.Int256 t z [] h = absurd h.1
-numbers-back primitive.Int256 t z (y ∷ []) h = rw ((signed-back 128 z (lit≤ tt) h.0).0, (signed-back 128 z (lit≤ tt) h.0).1, (unsigned-back 128 y (lit≤ tt) h.1.0).0, (unsigned-back 128 y (lit≤ tt) h.1.0).1) (refl, refl)
-numbers-back primitive.Int256 t z (y ∷ x ∷ xs) h = absurd h.1.1
-numbers-back primitive.DaysMs t z [] h = absurd h.1
-numbers-back primitive.DaysMs t z (y ∷ []) h = rw ((signed-back 32 z (lit≤ tt) h.0).0, (signed-back 32 z (lit≤ tt) h.0).1, (signed-back 32 y (lit≤ tt) h.1.0).0, (signed-back 32 y (lit≤ tt) h.1.0).1) (refl, refl)
-numbers-back primitive.DaysMs t z (y ∷ x ∷ xs) h = absurd h.1.1
-numbers-back primitive.MonthDayNano t z [] h = absurd h.1
-numbers-back primitive.MonthDayNano t z (y ∷ []) h = absurd h.1.1
-numbers-back primitive.MonthDayNano t z (y ∷ x ∷ []) h = rw ((signed-back 32 z (lit≤ tt) h.0).0, (signed-back 32 z (lit≤ tt) h.0).1, (signed-back 32 y (lit≤ tt) h.1.0).0, (signed-back 32 y (lit≤ tt) h.1.0).1, (signed-back 64 x (lit≤ tt) h.1.1.0).0, (signed-back 64 x (lit≤ tt) h.1.1.0).1) (refl, refl)
-numbers-back primitive.MonthDayNano t z (y ∷ x ∷ w ∷ ws) h = absurd h.1.1.1
+abbrev pub PlainRoundTrip : PrimitiveType → List ℤ → Type 0
+PlainRoundTrip p zs = (native_error (ranges_of p) (tree_of_number zs) ≡ None) × (numbers_in (tree_of_number zs) ≡ zs)
+
+pub numbers-back : (p : PrimitiveType) (z : ℤ) (zs : List ℤ) → AreInRange (ranges_of p) (z ∷ zs) → PlainRoundTrip p (z ∷ zs)
+numbers-back primitive.Int8 z [] h = one-back (signed 8) z (signed-back 8 z (lit≤ tt) h.0)
+numbers-back primitive.Int8 z (y ∷ ys) h = absurd h.1
+numbers-back primitive.Int16 z [] h = one-back (signed 16) z (signed-back 16 z (lit≤ tt) h.0)
+numbers-back primitive.Int16 z (y ∷ ys) h = absurd h.1
+numbers-back primitive.Int32 z [] h = one-back (signed 32) z (signed-back 32 z (lit≤ tt) h.0)
+numbers-back primitive.Int32 z (y ∷ ys) h = absurd h.1
+numbers-back primitive.Int64 z [] h = one-back (signed 64) z (signed-back 64 z (lit≤ tt) h.0)
+numbers-back primitive.Int64 z (y ∷ ys) h = absurd h.1
+numbers-back primitive.Int128 z [] h = one-back (signed 128) z (signed-back 128 z (lit≤ tt) h.0)
+numbers-back primitive.Int128 z (y ∷ ys) h = absurd h.1
+numbers-back primitive.UInt8 z [] h = one-back (unsigned 8) z (unsigned-back 8 z (lit≤ tt) h.0)
+numbers-back primitive.UInt8 z (y ∷ ys) h = absurd h.1
+numbers-back primitive.UInt16 z [] h = one-back (unsigned 16) z (unsigned-back 16 z (lit≤ tt) h.0)
+numbers-back primitive.UInt16 z (y ∷ ys) h = absurd h.1
+numbers-back primitive.UInt32 z [] h = one-back (unsigned 32) z (unsigned-back 32 z (lit≤ tt) h.0)
+numbers-back primitive.UInt32 z (y ∷ ys) h = absurd h.1
+numbers-back primitive.UInt64 z [] h = one-back (unsigned 64) z (unsigned-back 64 z (lit≤ tt) h.0)
+numbers-back primitive.UInt64 z (y ∷ ys) h = absurd h.1
+numbers-back primitive.Float16 z zs h = absurd h
+numbers-back primitive.Float32 z zs h = absurd h
+numbers-back primitive.Float64 z zs h = absurd h
+numbers-back primitive.Int256 z [] h = absurd h.1
+numbers-back primitive.Int256 z (y ∷ []) h = rw ((signed-back 128 z (lit≤ tt) h.0).0, (signed-back 128 z (lit≤ tt) h.0).1, (unsigned-back 128 y (lit≤ tt) h.1.0).0, (unsigned-back 128 y (lit≤ tt) h.1.0).1) (refl, refl)
+numbers-back primitive.Int256 z (y ∷ x ∷ xs) h = absurd h.1.1
+numbers-back primitive.DaysMs z [] h = absurd h.1
+numbers-back primitive.DaysMs z (y ∷ []) h = rw ((signed-back 32 z (lit≤ tt) h.0).0, (signed-back 32 z (lit≤ tt) h.0).1, (signed-back 32 y (lit≤ tt) h.1.0).0, (signed-back 32 y (lit≤ tt) h.1.0).1) (refl, refl)
+numbers-back primitive.DaysMs z (y ∷ x ∷ xs) h = absurd h.1.1
+numbers-back primitive.MonthDayNano z [] h = absurd h.1
+numbers-back primitive.MonthDayNano z (y ∷ []) h = absurd h.1.1
+numbers-back primitive.MonthDayNano z (y ∷ x ∷ []) h = rw ((signed-back 32 z (lit≤ tt) h.0).0, (signed-back 32 z (lit≤ tt) h.0).1, (signed-back 32 y (lit≤ tt) h.1.0).0, (signed-back 32 y (lit≤ tt) h.1.0).1, (signed-back 64 x (lit≤ tt) h.1.1.0).0, (signed-back 64 x (lit≤ tt) h.1.1.0).1) (refl, refl)
+numbers-back primitive.MonthDayNano z (y ∷ x ∷ w ∷ ws) h = absurd h.1.1.1
 
 -- ---- bytes
 

@@ -11,14 +11,16 @@ use Rattle.json_read.specs.FlatValues.{number_in, item_numbers, bytes_of_hex}
 use Rattle.json_read.specs.JsonSlots.{slot_of, item_slots, member_slots, field_slots, slot_named, type_named, array_slot, string_slot}
 use Rattle.json_read.specs.RoundTrip.{AreBytes, CanRoundTrip, CanAllRoundTrip}
 use Rattle.json_read.proofs.ReadBack.{bytes-back, decimal-back}
+use Rattle.json_read.proofs.TextBack.{text-back}
 use Rattle.json_read.proofs.Feeding.{eq-false, eq-same}
 use Rattle.nest_memory.specs.TypeTree as types
 use Rattle.nest_memory.specs.TypeTree.{Letters, TypeTree, FieldTree, field, FieldTrees, no_fields, more_fields, field_type}
 use Rattle.nest_model.specs.Slot as slots
 use Rattle.nest_model.specs.Slot.{Slot, Slots, no_slots, more_slots}
+use Rattle.json_write.specs.Formats.{format_of_type, text_of_numbers}
 use Rattle.json_write.specs.JsonText.{items_type, members_of, field_name, hex_byte}
-use Rattle.json_write.specs.TypedSlots.{NumbersFitIn128Bits, IsSlotOf, AreItems, AreMembers, LacksField, HaveDistinctNames, slot_kind, lists, structs}
-use Rattle.json_write.specs.JsonTree.{tree_of_slot, tree_items, tree_members}
+use Rattle.json_write.specs.TypedSlots.{NumbersFitIn128Bits, IsSlotOf, AreItems, AreMembers, LacksField, HaveDistinctNames, slot_kind, numbers, lists, structs}
+use Rattle.json_write.specs.JsonTree.{tree_of_number, tree_of_text, tree_of_slot, tree_items, tree_members}
 
 -- ---- types
 
@@ -86,10 +88,27 @@ decimal z h = ap (λ o. unwrap_or o (pos 0)) (decimal-back z h)
 hex : (bs : List ℕ) → AreBytes bs → bytes_of_hex (flat_map hex_byte bs) ≡ bs
 hex bs h = (bytes-back bs h).1
 
-numbers-back : (z y : ℤ) (zs : List ℤ) → NumbersFitIn128Bits (z ∷ y ∷ zs) → item_numbers (items_in (tree_of_slot types.null (slots.number (z ∷ y ∷ zs)))) ≡ z ∷ y ∷ zs
+numbers-back : (z y : ℤ) (zs : List ℤ) → NumbersFitIn128Bits (z ∷ y ∷ zs) → item_numbers (items_in (tree_of_number (z ∷ y ∷ zs))) ≡ z ∷ y ∷ zs
 unfolding items_in
 numbers-back z y [] h = rw (decimal z h.0, decimal y h.1.0) refl
 numbers-back z y (w ∷ zs) h = rw (decimal z h.0, numbers-back y w zs h.1) refl
+
+-- a value that is written as numbers, and one that is written as text
+plain-back : (t : TypeTree) (zs : List ℤ) → slot_kind t ≡ numbers → NumbersFitIn128Bits zs → slot_of t (tree_of_number zs) ≡ slots.number zs
+unfolding items_in
+plain-back t [] h b = rw h refl
+plain-back t (z ∷ []) h b = ap (λ y. slots.number (y ∷ [])) (decimal z b.0)
+plain-back t (z ∷ y ∷ zs) h b = rw h (ap slots.number (numbers-back z y zs b))
+
+value-back : (t : TypeTree) (zs : List ℤ) → slot_kind t ≡ numbers → NumbersFitIn128Bits zs → slot_of t (tree_of_slot t (slots.number zs)) ≡ slots.number zs
+value-back t zs h b = go (text_of_numbers (format_of_type t) zs) refl
+  where
+    go : (o : Option (List ℕ)) → text_of_numbers (format_of_type t) zs ≡ o → slot_of t (tree_of_text (text_of_numbers (format_of_type t) zs) zs) ≡ slots.number zs
+    go (Some s) e =
+        ap (λ o. slot_of t (tree_of_text o zs)) e
+        ∙ ap (λ k. string_slot k (format_of_type t) s) h
+        ∙ ap (λ o. slots.number (unwrap_or o [])) (text-back (format_of_type t) zs s b e)
+    go None e = ap (λ o. slot_of t (tree_of_text o zs)) e ∙ plain-back t zs h b
 
 mutual
   unfolding AllTyped named_slots items_in
@@ -97,9 +116,7 @@ mutual
   pub slot-back : (t : TypeTree) (s : Slot) → HasDistinctFieldNames t → IsSlotOf t s → CanRoundTrip s → slot_of t (tree_of_slot t s) ≡ s
   slot-back t slots.null a h b = refl
   slot-back t (slots.boolean x) a h b = refl
-  slot-back t (slots.number []) a h b = rw h refl
-  slot-back t (slots.number (z ∷ [])) a h b = ap (λ y. slots.number (y ∷ [])) (decimal z b.0)
-  slot-back t (slots.number (z ∷ y ∷ zs)) a h b = rw h (ap slots.number (numbers-back z y zs b))
+  slot-back t (slots.number zs) a h b = value-back t zs h b
   slot-back t (slots.utf8 bs) a h b = rw h refl
   slot-back t (slots.bytes bs) a h b = rw (h, hex bs b) refl
   slot-back t (slots.list ss) a h b = rw (h.0, items-back (items_type t) ss (items-apart t a h.0) h.1 b) refl

@@ -60,7 +60,7 @@ limit bits = let p : 0 < 2 ^ bits = pow_pos bits in (2 ^ bits - 1, omega arith)
 in-limit : (h k : ℕ) (z : ℤ) → k ≡ suc h → not (int_lt z (neg_ℤ (pos k))) && int_lt z (pos k) ≡ not (int_lt z (negsuc h)) && int_lt z (pos (suc h))
 in-limit h k z e = rw e refl
 
-in-signed : (bits : ℕ) (z : ℤ) → mag z < 2 ^ (bits - 1) → is_in (signed bits) z ≡ true
+pub in-signed : (bits : ℕ) (z : ℤ) → mag z < 2 ^ (bits - 1) → is_in (signed bits) z ≡ true
 in-signed bits z f = let l = limit (bits - 1) in in-limit l.0 (2 ^ (bits - 1)) z l.1 ∙ within l.0 z (omega (arith, l.1))
 
 pub signed-in : (bits : ℕ) (z : ℤ) → is_in (signed bits) z ≡ true → mag z < 2 ^ (bits - 1)

@@ -1,18 +1,21 @@
 -- JSON values as slots without children, and their errors. Literals are booleans. An integer is a native value of one number, an array of
--- integers one of several. A string is UTF-8, or binary data as pairs of hexadecimal digits.
+-- integers one of several, and a string one that is written as text. Other strings are UTF-8, or binary data as pairs of hexadecimal
+-- digits.
 use Rattle.std.specs.Prelude.{ℕ, suc, ◌*◌, ◌+◌, ◌-◌, ◌^◌, ℤ, pos, neg_ℤ, List, [], ◌∷◌, Bool, true, false, nat_lt, int_lt, ◌==◌, ◌&&◌, not, length, Option, Some, None, unwrap_or, if◌then◌else◌}
 use Rattle.std.specs.Char.{digit_value}
 use Rattle.json.specs.Json as json
 use Rattle.json.specs.Json.{Json, Items, no_items, item}
 use Rattle.json_read.specs.Integers.{integer_of}
+use Rattle.json_read.specs.TextNumbers.{numbers_of_text, is_within_precision}
 use Rattle.json_read.specs.declared.value_error.ValueError.{ValueError}
-use Rattle.json_read.specs.declared.value_error.ValueError.TheVariants.{WrongType, NotAnInteger, OutOfRange, InvalidHex, WrongLength}
+use Rattle.json_read.specs.declared.value_error.ValueError.TheVariants.{WrongType, NotAnInteger, OutOfRange, InvalidText, PrecisionExceeded, InvalidHex, WrongLength}
 use Rattle.nest_memory.specs.declared.datatypes.physical_type.PhysicalType.{PhysicalType}
 use Rattle.nest_memory.specs.declared.datatypes.physical_type.PhysicalType.TheVariants as physical
 use Rattle.nest_memory.specs.declared.datatypes.physical_type.PrimitiveType.{PrimitiveType}
 use Rattle.nest_memory.specs.declared.datatypes.physical_type.PrimitiveType.TheVariants as primitive
-use Rattle.nest_model.specs.Slot as slots
-use Rattle.nest_model.specs.Slot.{Slot}
+use Rattle.json_write.specs.Formats.{has_format}
+use Rattle.json_write.specs.declared.format.ValueFormat.{ValueFormat}
+use Rattle.json_write.specs.declared.format.ValueFormat.TheVariants.{Number, Decimal}
 
 -- one error before another
 abbrev pub first_error : Option ValueError → Option ValueError → Option ValueError
@@ -82,6 +85,26 @@ abbrev pub item_numbers : Items → List ℤ
 item_numbers no_items = []
 item_numbers (item j js) = number_in j ∷ item_numbers js
 
+-- ---- texts
+
+-- a number in each range
+abbrev pub are_in : List Range → List ℤ → Bool
+are_in [] [] = true
+are_in (r ∷ rs) (z ∷ zs) = is_in r z && are_in rs zs
+are_in _ _ = false
+
+-- the numbers with the text, in the ranges of the native type and within the precision
+abbrev pub text_error : ValueFormat → List Range → Option (List ℤ) → Option ValueError
+text_error v rs None = Some InvalidText
+text_error v rs (Some zs) = first_error (error_unless (are_in rs zs) InvalidText) (error_unless (is_within_precision v zs) PrecisionExceeded)
+
+-- a value that is never text is no string, a decimal is one
+abbrev pub value_error_of : PrimitiveType → ValueFormat → Json → Option ValueError
+value_error_of p Number (json.string s) = Some WrongType
+value_error_of p v (json.string s) = text_error v (ranges_of p) (numbers_of_text v s)
+value_error_of p (Decimal precision scale) j = Some WrongType
+value_error_of p v j = native_error (ranges_of p) j
+
 -- ---- bytes
 
 -- a hexadecimal digit of either case
@@ -105,16 +128,21 @@ hex_error s = error_unless (are_hex_pairs s) InvalidHex
 
 -- ---- slots without children
 
--- the error of a non-null value for a physical type; `size` is the size of fixed-size binary
-abbrev pub flat_error : PhysicalType → ℕ → Json → Option ValueError
-flat_error physical.Boolean size (json.boolean b) = None
-flat_error (physical.Primitive p) size j = native_error (ranges_of p) j
-flat_error physical.Utf8 size (json.string s) = None
-flat_error physical.LargeUtf8 size (json.string s) = None
-flat_error physical.Binary size (json.string s) = hex_error s
-flat_error physical.LargeBinary size (json.string s) = hex_error s
-flat_error physical.FixedSizeBinary size (json.string s) = first_error (hex_error s) (error_unless (length (bytes_of_hex s) == size) WrongLength)
-flat_error _ size _ = Some WrongType
+-- the error of a non-null value for a physical type; `size` is the size of fixed-size binary, `v` the format of native values
+abbrev pub flat_error : PhysicalType → ℕ → ValueFormat → Json → Option ValueError
+flat_error physical.Boolean size v (json.boolean b) = None
+flat_error (physical.Primitive p) size v j = value_error_of p v j
+flat_error physical.Utf8 size v (json.string s) = None
+flat_error physical.LargeUtf8 size v (json.string s) = None
+flat_error physical.Binary size v (json.string s) = hex_error s
+flat_error physical.LargeBinary size v (json.string s) = hex_error s
+flat_error physical.FixedSizeBinary size v (json.string s) = first_error (hex_error s) (error_unless (length (bytes_of_hex s) == size) WrongLength)
+flat_error _ size v _ = Some WrongType
+
+-- the native values of the physical type have the format
+abbrev pub has_values_format : PhysicalType → ValueFormat → Bool
+has_values_format (physical.Primitive p) v = has_format p v
+has_values_format _ v = true
 
 -- binary physical types
 abbrev pub is_bytes : PhysicalType → Bool

@@ -1,10 +1,11 @@
 -- The slot of a JSON value under a data type, or its error. Null is a null of any type. An array is a list slot of its items. An object is
 -- a struct slot of its members, in any order; a field without a member is null.
-use Rattle.std.specs.Prelude.{ℕ, suc, ℤ, List, [], ◌∷◌, ◌++◌, Bool, false, ◌||◌, not, bytes_eq, ◌==◌, Option, Some, None, if◌then◌else◌}
+use Rattle.std.specs.Prelude.{ℕ, suc, ℤ, List, [], ◌∷◌, ◌++◌, Bool, false, ◌||◌, not, bytes_eq, ◌==◌, Option, Some, None, unwrap_or, if◌then◌else◌}
 use Rattle.std.specs.List.{list_any}
 use Rattle.json.specs.Json as json
 use Rattle.json.specs.Json.{Json, Items, no_items, item, Members, no_members, member}
 use Rattle.nest_array.specs.SeenScalar.{shown_type}
+use Rattle.json_read.specs.TextNumbers.{numbers_of_text}
 use Rattle.json_read.specs.FlatValues.{first_error, error_unless, item_numbers, number_in, bytes_of_hex, flat_error}
 use Rattle.json_read.specs.declared.value_error.ValueError.{ValueError}
 use Rattle.json_read.specs.declared.value_error.ValueError.TheVariants.{WrongType, WrongLength, UnknownField, DuplicateField}
@@ -15,13 +16,16 @@ use Rattle.nest_memory.specs.declared.datatypes.physical_type.PhysicalType.{Phys
 use Rattle.nest_memory.specs.declared.datatypes.physical_type.PhysicalType.TheVariants as physical
 use Rattle.nest_model.specs.Slot as slots
 use Rattle.nest_model.specs.Slot.{Slot, Slots, no_slots, more_slots}
+use Rattle.json_write.specs.Formats.{format_of_type}
+use Rattle.json_write.specs.declared.format.ValueFormat.{ValueFormat}
 use Rattle.json_write.specs.JsonText.{items_type, members_of, field_name}
 use Rattle.json_write.specs.TypedSlots.{SlotKind, slot_kind, numbers, binaries}
 
--- a string is UTF-8, or for binary types the bytes that its digits encode
-abbrev pub string_slot : SlotKind → List ℕ → Slot
-string_slot binaries s = slots.bytes (bytes_of_hex s)
-string_slot _ s = slots.utf8 s
+-- a string is UTF-8, or for binary types the bytes that its digits encode, or for native values the value with this text
+abbrev pub string_slot : SlotKind → ValueFormat → List ℕ → Slot
+string_slot numbers v s = slots.number (unwrap_or (numbers_of_text v s) [])
+string_slot binaries v s = slots.bytes (bytes_of_hex s)
+string_slot _ v s = slots.utf8 s
 
 -- an array is a list slot of its items, or for native values the value of its numbers
 abbrev pub array_slot : SlotKind → List ℤ → Slots → Slot
@@ -53,7 +57,7 @@ abbrev mutual
   slot_of t json.null = slots.null
   slot_of t (json.boolean b) = slots.boolean b
   slot_of t (json.number s) = slots.number (number_in (json.number s) ∷ [])
-  slot_of t (json.string s) = string_slot (slot_kind t) s
+  slot_of t (json.string s) = string_slot (slot_kind t) (format_of_type t) s
   slot_of t (json.array js) = array_slot (slot_kind t) (item_numbers js) (item_slots (items_type t) js)
   slot_of t (json.object ms) = slots.record_of (field_slots (members_of t) (member_slots (members_of t) ms))
 
@@ -80,11 +84,11 @@ length_error None n = None
 length_error (Some size) n = error_unless (size == n) WrongLength
 
 -- the error of an array for a physical type
-abbrev pub array_error : PhysicalType → ℕ → Items → Option ValueError → Option ValueError
-array_error physical.List size js inside = inside
-array_error physical.LargeList size js inside = inside
-array_error physical.FixedSizeList size js inside = first_error inside (length_error (Some size) (count_of js))
-array_error p size js inside = flat_error p size (json.array js)
+abbrev pub array_error : PhysicalType → ℕ → ValueFormat → Items → Option ValueError → Option ValueError
+array_error physical.List size v js inside = inside
+array_error physical.LargeList size v js inside = inside
+array_error physical.FixedSizeList size v js inside = first_error inside (length_error (Some size) (count_of js))
+array_error p size v js inside = flat_error p size v (json.array js)
 
 abbrev pub object_error : PhysicalType → Option ValueError → Option ValueError
 object_error physical.Struct inside = inside
@@ -102,10 +106,10 @@ name_error fs before k = first_error (error_unless (is_named k fs) UnknownField)
 abbrev mutual
   pub value_error : TypeTree → Json → Option ValueError
   value_error t json.null = None
-  value_error t (json.boolean b) = flat_error (values_physical_type t) (size_of (shown_type t)) (json.boolean b)
-  value_error t (json.number s) = flat_error (values_physical_type t) (size_of (shown_type t)) (json.number s)
-  value_error t (json.string s) = flat_error (values_physical_type t) (size_of (shown_type t)) (json.string s)
-  value_error t (json.array js) = array_error (values_physical_type t) (size_of (shown_type t)) js (items_error (items_type t) js)
+  value_error t (json.boolean b) = flat_error (values_physical_type t) (size_of (shown_type t)) (format_of_type t) (json.boolean b)
+  value_error t (json.number s) = flat_error (values_physical_type t) (size_of (shown_type t)) (format_of_type t) (json.number s)
+  value_error t (json.string s) = flat_error (values_physical_type t) (size_of (shown_type t)) (format_of_type t) (json.string s)
+  value_error t (json.array js) = array_error (values_physical_type t) (size_of (shown_type t)) (format_of_type t) js (items_error (items_type t) js)
   value_error t (json.object ms) = object_error (values_physical_type t) (members_error (members_of t) [] ms)
 
   pub items_error : TypeTree → Items → Option ValueError
@@ -120,4 +124,4 @@ abbrev mutual
 -- the same for a type without children
 abbrev pub flat_value_error : TypeTree → Json → Option ValueError
 flat_value_error t json.null = None
-flat_value_error t j = flat_error (values_physical_type t) (size_of (shown_type t)) j
+flat_value_error t j = flat_error (values_physical_type t) (size_of (shown_type t)) (format_of_type t) j

@@ -14,3 +14,4 @@ pub mod LineSplit
 pub mod SlotAdded
 pub mod UnsupportedTypes
 pub mod Integers
+pub mod TextNumbers

@@ -1,13 +1,15 @@
 -- JSON values as integers of a range and as native values.
-use Rattle.std.specs.Prelude.{◌≡◌, ℕ, ℤ, pos, List, [], ◌∷◌, Option, Some, None, is_some, Result, Ok, Err, if◌then◌else◌}
+use Rattle.std.specs.Prelude.{◌≡◌, ℕ, ℤ, pos, List, [], ◌∷◌, Option, Some, None, is_some, unwrap_or, Result, Ok, Err, if◌then◌else◌}
 use Rattle.json.specs.Json as json
 use Rattle.json.specs.Json.{Json, Items, no_items, item}
 use Rattle.nest_flat.specs.AnyNative.{native_kind, native_numbers}
 use Rattle.nest_flat.specs.declared.any_native.AnyNative.{AnyNative}
-use Rattle.json_read.specs.FlatValues.{Range, signed, unsigned, number_error, number_in, item_numbers, native_error, ranges_of}
+use Rattle.json_read.specs.FlatValues.{Range, signed, unsigned, number_error, number_in, item_numbers, native_error, ranges_of, value_error_of}
+use Rattle.json_read.specs.TextNumbers.{numbers_of_text}
 use Rattle.json_read.specs.Integers.{integer_of}
 use Rattle.json_read.specs.declared.value_error.ValueError.{ValueError}
 use Rattle.json_read.specs.declared.value_error.ValueError.TheVariants.{NotAnInteger, OutOfRange}
+use Rattle.json_write.specs.declared.format.ValueFormat.{ValueFormat}
 use Rattle.nest_memory.specs.declared.datatypes.physical_type.PrimitiveType.{PrimitiveType}
 use Rattle.nest_memory.specs.declared.datatypes.physical_type.PrimitiveType.TheVariants as primitive
 
@@ -42,3 +44,13 @@ numbers_in j = number_in j ∷ []
 abbrev pub ReadsNative : PrimitiveType → Json → Result AnyNative ValueError → Type 0
 ReadsNative kind j (Ok x) = (native_error (ranges_of kind) j ≡ None) × (native_kind x ≡ kind) × (native_numbers x ≡ numbers_in j)
 ReadsNative kind j (Err e) = native_error (ranges_of kind) j ≡ Some e
+
+-- the numbers of a JSON value that may be a text
+abbrev pub value_numbers : ValueFormat → Json → List ℤ
+value_numbers v (json.string s) = unwrap_or (numbers_of_text v s) []
+value_numbers v j = numbers_in j
+
+-- the native value of that type and that format, or its error
+abbrev pub ReadsValue : PrimitiveType → ValueFormat → Json → Result AnyNative ValueError → Type 0
+ReadsValue kind v j (Ok x) = (value_error_of kind v j ≡ None) × (native_kind x ≡ kind) × (native_numbers x ≡ value_numbers v j)
+ReadsValue kind v j (Err e) = value_error_of kind v j ≡ Some e

@@ -6,19 +6,22 @@ ghost use Rattle.nest_any.specs.Trees.{tree_of};
 ghost use Rattle.nest_any.specs.Words.{IsComplete, builder_type};
 ghost use Rattle.nest_flat.specs.Words.{plain_value};
 ghost use Rattle.json_read.specs.StructMembers.{IsLimitError};
-ghost use Rattle.json_read.specs.FlatValues.{is_bytes, flat_error};
+ghost use Rattle.json_read.specs.FlatValues.{is_bytes, flat_error, has_values_format};
 ghost use Rattle.json_read.specs.JsonSlots.{flat_value_error, values_physical_type, slot_of};
 ghost use Rattle.json_read.specs.SlotAdded.{IsPushError, SlotAdded};
+ghost use Rattle.json_write.specs.Formats.{format_of_type};
+ghost use Rattle.json_write.specs.declared.format.ValueFormat.{ValueFormat};
 ghost use Rattle.nest_memory.specs.TypeTree.{TypeTree};
 ghost use Rattle.nest_model.specs.BuilderItem.{slot_of_plain};
 ghost use Rattle.nest_model.specs.Slot as slots;
 
 use crate::hexadecimal::bytes_of;
 use crate::list_rows::limit_error;
-use crate::numbers::native_of;
+use crate::texts::value_of;
 use crate::value_error::{PushError, ValueError};
 use crate::values_type::values_type;
 use json::Value;
+use json_write::ValueFormat;
 use nest_any::AnyMutableArray;
 use nest_build::array::MutableArray;
 use nest_flat::plain::Plain;
@@ -71,14 +74,16 @@ fn push_valid(
     ensures valid { OnOk result (flat_value_error (builder_type (tree_of builder.old)) (value_view value.now) ≡ None) }
     ensures error { IfErr result (λ e. IsPushError e (flat_value_error (builder_type (tree_of builder.old)) (value_view value.now))) }
 {
-    let data_type = values_type(builder.data_type());
-    let physical = data_type.to_physical_type();
-    let size = data_type.size().unwrap_or(0);
+    let data_type = builder.data_type();
+    let format = ValueFormat::of_type(data_type);
+    let values = values_type(data_type);
+    let physical = values.to_physical_type();
+    let size = values.size().unwrap_or(0);
     if are_bytes(physical) {
         let bytes = bytes_in(alloc, physical, size, value)?;
         push_plain(builder, Plain::Bytes(&bytes))
     } else {
-        match plain_of(physical, value) {
+        match plain_of(physical, format, value) {
             Ok(plain) => push_plain(builder, plain),
             Err(reason) => Err(PushError::Value(reason)),
         }
@@ -108,18 +113,23 @@ fn are_bytes(physical: PhysicalType) -> bool
 }
 
 // Converts a JSON value to a value of a physical type other than binary.
-fn plain_of<'a>(physical: PhysicalType, value: &Value<'a>) -> Result<Plain<'a>, ValueError>
-    requires { is_bytes physical ≡ false }
-    ensures slot { IfOk result (λ p. (t : TypeTree) → values_physical_type t ≡ physical → slot_of_plain (plain_value p) ≡ slot_of t (value_view value.now)) }
-    ensures valid { OnOk result ((size : ℕ) → flat_error physical size (value_view value.now) ≡ None) }
-    ensures error { IfErr result (λ e. (size : ℕ) → flat_error physical size (value_view value.now) ≡ Some e) }
+fn plain_of<'a>(
+    physical: PhysicalType,
+    format: ValueFormat,
+    value: &Value<'a>,
+) -> Result<Plain<'a>, ValueError>
+    requires bytes { is_bytes physical ≡ false }
+    requires format { has_values_format physical format ≡ true }
+    ensures slot { IfOk result (λ p. (t : TypeTree) → values_physical_type t ≡ physical → format_of_type t ≡ format → slot_of_plain (plain_value p) ≡ slot_of t (value_view value.now)) }
+    ensures valid { OnOk result ((size : ℕ) → flat_error physical size format (value_view value.now) ≡ None) }
+    ensures error { IfErr result (λ e. (size : ℕ) → flat_error physical size format (value_view value.now) ≡ Some e) }
 {
     match physical {
         PhysicalType::Boolean => match value {
             Value::Bool(truth) => Ok(Plain::Boolean(*truth)),
             _ => Err(ValueError::WrongType),
         },
-        PhysicalType::Primitive(kind) => match native_of(kind, value) {
+        PhysicalType::Primitive(kind) => match value_of(kind, format, value) {
             Ok(native) => Ok(Plain::Native(native)),
             Err(reason) => Err(reason),
         },
@@ -140,8 +150,8 @@ fn bytes_in(
 ) -> Result<Vec<u8>, PushError>
     requires { is_bytes physical ≡ true }
     ensures slot { IfOk result (λ v. (t : TypeTree) → values_physical_type t ≡ physical → slots.bytes v.items ≡ slot_of t (value_view value.now)) }
-    ensures valid { OnOk result (flat_error physical size (value_view value.now) ≡ None) }
-    ensures error { IfErr result (λ e. IsPushError e (flat_error physical size (value_view value.now))) }
+    ensures valid { OnOk result ((v : ValueFormat) → flat_error physical size v (value_view value.now) ≡ None) }
+    ensures error { IfErr result (λ e. (v : ValueFormat) → IsPushError e (flat_error physical size v (value_view value.now))) }
 {
     let Value::String(text) = value else {
         return Err(PushError::Value(ValueError::WrongType));

@@ -2,7 +2,7 @@
 ghost use Rattle.std.specs.Prelude.{◌≡◌, ℕ, ℤ, List, [], ◌∷◌, None, Some, codes, negsuc, pos, true};
 ghost use Rattle.json.specs.Json.{array, item, member, no_items, no_members, null, number, object, string};
 ghost use Rattle.json_read.specs.FlatValues.{bytes_of_hex, hex_error, native_error, number_in, ranges_of};
-ghost use Rattle.json_read.specs.FlatRoundTrip.{AreInRange, BytesRoundTrip, NumbersRoundTrip};
+ghost use Rattle.json_read.specs.FlatRoundTrip.{AreNumbersOf, BytesRoundTrip, NumbersRoundTrip};
 ghost use Rattle.json_read.specs.DistinctNames.{HasDistinctFieldNames};
 ghost use Rattle.json_read.specs.Examples.{struct_type, tags_and_id, id_and_tags};
 ghost use Rattle.json_read.specs.JsonSlots.{value_error, slot_of};
@@ -17,9 +17,9 @@ ghost use Rattle.nest_model.specs.Slot.{Slot, more_slots, no_slots};
 ghost use Rattle.json_write.specs.TypedSlots.{IsSlotOf};
 ghost use Rattle.json_write.specs.JsonTree.{tree_of_slot};
 
-/// The numbers of a native value are read back from their JSON text.
+/// The numbers of a native value are read back from their JSON text: a number, an array of numbers or a string, as the data type has it.
 pub fn numbers_round_trip()
-    ensures { (p : PrimitiveType) (t : TypeTree) (z : ℤ) (zs : List ℤ) → AreInRange (ranges_of p) (z ∷ zs) → NumbersRoundTrip p t (z ∷ zs) }
+    ensures { (p : PrimitiveType) (t : TypeTree) (z : ℤ) (zs : List ℤ) → AreNumbersOf p t (z ∷ zs) → NumbersRoundTrip p t (z ∷ zs) }
 {}
 
 /// Bytes are read back from their hexadecimal digits.

@@ -16,6 +16,8 @@ mod natives;
 mod numbers;
 mod push;
 mod struct_rows;
+mod text_numbers;
+mod texts;
 mod unsupported;
 mod value_error;
 mod values_type;

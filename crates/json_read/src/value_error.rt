@@ -17,6 +17,12 @@ pub enum ValueError {
     /// The integer is out of the range of its type.
     #[error("integer out of range")]
     OutOfRange,
+    /// The string is not the text of a value of the data type, such as a date that does not exist.
+    #[error("string is not the text of a value of the type")]
+    InvalidText,
+    /// The decimal has more digits than its precision.
+    #[error("decimal exceeds its precision")]
+    PrecisionExceeded,
     /// The string of a binary value is not pairs of hexadecimal digits.
     #[error("binary value is not a string of hexadecimal digit pairs")]
     InvalidHex,

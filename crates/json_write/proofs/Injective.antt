@@ -9,7 +9,8 @@ use Rattle.nest_model.specs.Slot as slots
 use Rattle.nest_model.specs.Slot.{Slot, Slots, no_slots, more_slots, seal, unseal}
 use Rattle.json_write.specs.JsonText.{items_type, members_of, field_name, field_name_at, comma, json_of_slot, json_items, json_members, json_list}
 use Rattle.json_write.specs.TypedSlots.{SlotKind, nulls, booleans, numbers, strings, binaries, lists, structs, unions, slot_kind, field_type_at, IsSlotOf, AreItems, AreMembers, FitsIn128Bits, FitIn128Bits, LacksField, HaveDistinctNames, HasDistinctUnionNames, FieldHasDistinctUnionNames, FieldsHaveDistinctUnionNames}
-use Rattle.json_write.proofs.Literals.{first, tail, some_or, quoted-told, bytes-told, Stops, number-first, number-told}
+use Rattle.json_write.proofs.Literals.{first, tail, some_or, quoted-told, bytes-told, Stops, value-first, value-told}
+use Rattle.json_write.specs.Formats.{format_of_type}
 
 -- ---- the constructor of a slot
 
@@ -48,7 +49,7 @@ slot-first : (t : TypeTree) (s : Slot) (r : List ℕ) → FitsIn128Bits s → (f
 slot-first t slots.null r h = (λ e. omega arith, λ e. refl)
 slot-first t (slots.boolean true) r h = (λ e. omega arith, λ e. absurd (omega arith))
 slot-first t (slots.boolean false) r h = (λ e. omega arith, λ e. absurd (omega arith))
-slot-first t (slots.number zs) r h = let k = number-first zs r h in (λ e. omega arith, λ e. absurd (omega arith))
+slot-first t (slots.number zs) r h = let k = value-first (format_of_type t) zs r h in (λ e. omega arith, λ e. absurd (omega arith))
 slot-first t (slots.utf8 bs) r h = (λ e. omega arith, λ e. absurd (omega arith))
 slot-first t (slots.bytes bs) r h = (λ e. omega arith, λ e. absurd (omega arith))
 slot-first t (slots.list ss) r h = (λ e. omega arith, λ e. absurd (omega arith))
@@ -160,7 +161,7 @@ mutual
   slot-told t (slots.boolean false) (slots.boolean false) r q o i j h l a b e = (refl, ap (drop 5) e)
   slot-told t (slots.boolean true) (slots.boolean false) r q o i j h l a b e = absurd (omega (arith, ap first e))
   slot-told t (slots.boolean false) (slots.boolean true) r q o i j h l a b e = absurd (omega (arith, ap first e))
-  slot-told t (slots.number zs) (slots.number ys) r q o i j h l a b e = let same = number-told zs ys r q h l a b e in (ap slots.number same.0, same.1)
+  slot-told t (slots.number zs) (slots.number ys) r q o i j h l a b e = let same = value-told (format_of_type t) zs ys r q h l a b e in (ap slots.number same.0, same.1)
   slot-told t (slots.utf8 bs) (slots.utf8 cs) r q o i j h l a b e = let same = quoted-told bs cs r q e in (ap slots.utf8 same.0, same.1)
   slot-told t (slots.bytes bs) (slots.bytes cs) r q o i j h l a b e = let same = bytes-told bs cs r q e in (ap slots.bytes same.0, same.1)
   slot-told t (slots.list ss) (slots.list zs) r q o i j h l a b e =

@@ -6,3 +6,7 @@ mod Literals
 mod Escapes
 mod ScalarText
 mod Typed
+pub mod OneText
+mod PlainTexts
+pub mod TypeFormats
+mod NativeTexts

@@ -12,8 +12,11 @@ use Rattle.std.proofs.lemmas.Str.Parse.{digit_from_value}
 use Rattle.json.specs.Print.{escape, quoted}
 use Rattle.json.specs.Text.{content, plain}
 use Rattle.json.proofs.Printed.Strings.{content-escape}
-use Rattle.json_write.specs.JsonText.{hex_byte, hex_quoted, json_of_number}
+use Rattle.json_write.proofs.OneText.{one-text}
+use Rattle.json_write.specs.Formats.{text_of_numbers}
+use Rattle.json_write.specs.JsonText.{hex_byte, hex_quoted, json_of_number, json_of_value, string_or_numbers}
 use Rattle.json_write.specs.TypedSlots.{NumbersFitIn128Bits}
+use Rattle.json_write.specs.declared.format.ValueFormat.{ValueFormat}
 
 abbrev pub first : List ℕ → ℕ
 first [] = 0
@@ -154,3 +157,33 @@ number-told (z ∷ k ∷ zs) (y ∷ []) r q a b h l e = absurd (omega (arith, si
 number-told (z ∷ k ∷ zs) (y ∷ j ∷ ys) r q a b h l e =
     joined-told z y (k ∷ zs) (j ∷ ys) r q a b
     (sym (append_assoc (numbers_text (z ∷ k ∷ zs)) (93 ∷ []) r) ∙ ap tail e ∙ append_assoc (numbers_text (y ∷ j ∷ ys)) (93 ∷ []) q)
+
+-- ---- values
+
+signed-above : (z : ℤ) (r : List ℕ) → mag z < 2 ^ 128 → 44 < first (signed_decimal z ++ r)
+signed-above (pos n) r h = omega (arith, (decimal-first n r (omega arith)).0)
+signed-above (negsuc n) r h = omega arith
+
+-- no number begins with a quote
+number-above : (zs : List ℤ) (r : List ℕ) → NumbersFitIn128Bits zs → 44 < first (json_of_number zs ++ r)
+number-above [] r h = omega arith
+number-above (z ∷ []) r h = signed-above z r h.0
+number-above (z ∷ y ∷ zs) r h = omega arith
+
+text-first : (text : Option (List ℕ)) (zs : List ℤ) (r : List ℕ) → NumbersFitIn128Bits zs → first (string_or_numbers text zs ++ r) < 92
+text-first None zs r h = number-first zs r h
+text-first (Some bs) zs r h = omega arith
+
+pub value-first : (v : ValueFormat) (zs : List ℤ) (r : List ℕ) → NumbersFitIn128Bits zs → first (json_of_value v zs ++ r) < 92
+value-first v zs r h = text-first (text_of_numbers v zs) zs r h
+
+text-told : (s t : Option (List ℕ)) (zs ys : List ℤ) (r q : List ℕ) → NumbersFitIn128Bits zs → NumbersFitIn128Bits ys → Stops r → Stops q
+    → ((a : List ℕ) → s ≡ Some a → t ≡ Some a → zs ≡ ys) → string_or_numbers s zs ++ r ≡ string_or_numbers t ys ++ q → (zs ≡ ys) × (r ≡ q)
+text-told None None zs ys r q a b h l law e = number-told zs ys r q a b h l e
+text-told (Some s) (Some t) zs ys r q a b h l law e = let same = quoted-told s t r q e in (law s refl (ap Some (sym same.0)), same.1)
+text-told None (Some t) zs ys r q a b h l law e = absurd (omega (arith, number-above zs r a, ap first e))
+text-told (Some s) None zs ys r q a b h l law e = absurd (omega (arith, number-above ys q b, ap first e))
+
+pub value-told : (v : ValueFormat) (zs ys : List ℤ) (r q : List ℕ) → NumbersFitIn128Bits zs → NumbersFitIn128Bits ys → Stops r → Stops q → json_of_value v zs ++ r ≡ json_of_value v ys ++ q
+    → (zs ≡ ys) × (r ≡ q)
+value-told v zs ys r q a b h l e = text-told (text_of_numbers v zs) (text_of_numbers v ys) zs ys r q a b h l (one-text v zs ys) e

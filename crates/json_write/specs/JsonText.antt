@@ -1,7 +1,8 @@
 -- Slots as JSON (RFC 8259). A boolean is a literal and an integer a number. UTF-8 is a string with the shortest escapes, and binary data
--- a string of hexadecimal digits. A list is an array, a struct an object of its fields, and a union an object of the selected field. A
--- native value of several numbers is an array of them. Names come from the data type.
-use Rattle.std.specs.Prelude.{◌≡◌, ℕ, zero, suc, ◌/◌, ◌%◌, ◌==◌, nat_lt, ℤ, Bool, true, false, ◌||◌, List, [], ◌∷◌, ◌++◌, map, flat_map, codes, if◌then◌else◌}
+-- a string of hexadecimal digits. A decimal, a date, a time, a timestamp, a duration and an interval are strings too. A list is an array,
+-- a struct an object of its fields, and a union an object of the selected field. Another native value of several numbers is an array of
+-- them. Names come from the data type.
+use Rattle.std.specs.Prelude.{◌≡◌, ℕ, zero, suc, ◌/◌, ◌%◌, ◌==◌, nat_lt, ℤ, Bool, true, false, ◌||◌, List, [], ◌∷◌, ◌++◌, map, flat_map, codes, Option, Some, None, if◌then◌else◌}
 use Rattle.std.specs.Char.{digit_char}
 use Rattle.std.specs.Fmt.{signed_decimal}
 use Rattle.std.specs.List.{join_with_byte}
@@ -14,6 +15,8 @@ use Rattle.nest_model.specs.Layout.{Layout, Layouts, layout_type}
 use Rattle.nest_model.specs.Meaning.{each, run, slot, slots_of}
 use Rattle.nest_model.specs.Slot as slots
 use Rattle.nest_model.specs.Slot.{Slot, Slots, no_slots, more_slots, seal}
+use Rattle.json_write.specs.Formats.{format_of_type, text_of_numbers}
+use Rattle.json_write.specs.declared.format.ValueFormat.{ValueFormat}
 
 -- the data type of a list's items; for a dictionary that of its values, for an extension that of its storage
 abbrev pub items_type : TypeTree → TypeTree
@@ -57,6 +60,14 @@ abbrev pub json_of_number : List ℤ → List ℕ
 json_of_number (z ∷ []) = signed_decimal z
 json_of_number zs = 91 ∷ (join_with_byte 44 (map signed_decimal zs) ++ 93 ∷ [])
 
+-- the string of a text, or the numbers of a value that has none
+abbrev pub string_or_numbers : Option (List ℕ) → List ℤ → List ℕ
+string_or_numbers (Some text) zs = quoted text
+string_or_numbers None zs = json_of_number zs
+
+abbrev pub json_of_value : ValueFormat → List ℤ → List ℕ
+json_of_value v zs = string_or_numbers (text_of_numbers v zs) zs
+
 -- the separator before an item or a member that follows another
 abbrev pub comma : Bool → List ℕ
 comma after = if after then 44 ∷ [] else []
@@ -65,7 +76,7 @@ abbrev mutual
   pub json_of_slot : TypeTree → Slot → List ℕ
   json_of_slot t slots.null = codes "null"
   json_of_slot t (slots.boolean b) = if b then codes "true" else codes "false"
-  json_of_slot t (slots.number zs) = json_of_number zs
+  json_of_slot t (slots.number zs) = json_of_value (format_of_type t) zs
   json_of_slot t (slots.utf8 bs) = quoted bs
   json_of_slot t (slots.bytes bs) = hex_quoted bs
   json_of_slot t (slots.list ss) = 91 ∷ (json_items (items_type t) false ss ++ 93 ∷ [])

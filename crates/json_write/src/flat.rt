@@ -4,9 +4,13 @@ ghost use Rattle.std.specs.Fmt.{WritesOnOk};
 ghost use Rattle.nest_flat.specs.AnyNative.{native_numbers};
 ghost use Rattle.nest_flat.specs.AnyPrimitive.{primitive_layout};
 ghost use Rattle.nest_model.specs.Accessors.{natives_of};
+ghost use Rattle.nest_model.specs.Layout.{layout_type};
 ghost use Rattle.nest_model.specs.Meaning.{len, slot};
+ghost use Rattle.json_write.specs.Formats.{format_of_type};
 ghost use Rattle.json_write.specs.JsonText.{json_of_number, slot_json, slots_json};
 
+use crate::format::ValueFormat;
+use crate::native::write_native;
 use crate::quoting::{write_bytes, write_comma, write_quoted};
 use itoa::{Buffer, Integer};
 use nest_array::FixedSizeBinaryArray;
@@ -43,26 +47,29 @@ pub(crate) fn write_primitive<W: fmt::Write, T: Native>(
     requires { i < len array.now }
     ensures { WritesOnOk W.write_str_gives f.old result (slot_json array.now i) f.new }
 {
-    write_value(f, array, array.values().as_slice(), i)
+    let format = ValueFormat::of_type(array.data_type());
+    write_value(f, array, array.values().as_slice(), format, i)
 }
 
-/// Writes slot `i` of an array with these raw values.
+/// Writes slot `i` of an array with these raw values in this format.
 #[inline(always)]
 fn write_value<W: fmt::Write, T: Native>(
     f: &mut Formatter<W>,
     array: &PrimitiveArray<T>,
     values: &[T],
+    format: ValueFormat,
     i: usize,
 ) -> fmt::Result
     requires within { i < len array.now }
     requires raw { map T.numbers values.now ≡ natives_of array.now }
+    requires format { format ≡ format_of_type (layout_type array.now) }
     ensures { WritesOnOk W.write_str_gives f.old result (slot_json array.now i) f.new }
 {
     array.known();
     if array.is_null(i) {
         return f.write_str("null");
     }
-    write_number(f, values[i].to_any())
+    write_native(f, format, values[i].to_any())
 }
 
 /// Writes `count` slots from index `start`, separated by commas.
@@ -75,7 +82,8 @@ pub(crate) fn write_primitive_items<W: fmt::Write, T: Native>(
     requires { start + count ≤ len array.now }
     ensures { WritesOnOk W.write_str_gives f.old result (slots_json array.now start count) f.new }
 {
-    write_value_items(f, array, array.values().as_slice(), start, count)
+    let format = ValueFormat::of_type(array.data_type());
+    write_value_items(f, array, array.values().as_slice(), format, start, count)
 }
 
 // Takes the slice of values, so that the loop does not load it again after each call of the generic writer.
@@ -83,17 +91,19 @@ fn write_value_items<W: fmt::Write, T: Native>(
     f: &mut Formatter<W>,
     array: &PrimitiveArray<T>,
     values: &[T],
+    format: ValueFormat,
     start: usize,
     count: usize,
 ) -> fmt::Result
     requires within { start + count ≤ len array.now }
     requires raw { map T.numbers values.now ≡ natives_of array.now }
+    requires format { format ≡ format_of_type (layout_type array.now) }
     ensures { WritesOnOk W.write_str_gives f.old result (slots_json array.now start count) f.new }
 {
     let _end = array.len();
     for k in 0..count {
         write_comma(f, k > 0)?;
-        write_value(f, array, values, start + k)?;
+        write_value(f, array, values, format, start + k)?;
     }
     Ok(())
 }
@@ -110,7 +120,8 @@ pub(crate) fn write_any_primitive<W: fmt::Write>(
     if array.is_null(i) {
         return f.write_str("null");
     }
-    write_number(f, array.value(i))
+    let format = ValueFormat::of_type(array.data_type());
+    write_native(f, format, array.value(i))
 }
 
 /// Writes `count` slots from index `start`, separated by commas. The primitive type is matched once.

@@ -5,7 +5,9 @@
 
 pub mod display;
 mod flat;
+pub mod format;
 pub mod laws;
+mod native;
 mod nested;
 pub mod output;
 mod quoting;
@@ -14,4 +16,5 @@ pub mod struct_rows;
 pub mod traits;
 
 pub use display::Json;
+pub use format::ValueFormat;
 pub use traits::WriteJson;

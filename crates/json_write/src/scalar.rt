@@ -6,7 +6,8 @@ ghost use Rattle.nest_model.specs.Layout.{field_types};
 ghost use Rattle.nest_array.specs.ScalarParts.{slots_in, types_in};
 ghost use Rattle.json_write.specs.JsonText.{json_members, json_of_slot, members_of, field_name_at};
 
-use crate::flat::write_number;
+use crate::format::ValueFormat;
+use crate::native::write_native;
 use crate::nested::{name, write_array};
 use crate::quoting::{write_bytes, write_comma, write_quoted};
 use nest_array::{AnyScalar, ScalarValue};
@@ -23,7 +24,9 @@ pub(crate) fn write_scalar<W: fmt::Write>(f: &mut Formatter<W>, scalar: &AnyScal
         ScalarValue::Null => f.write_str("null"),
         ScalarValue::Boolean(true) => f.write_str("true"),
         ScalarValue::Boolean(false) => f.write_str("false"),
-        ScalarValue::Native(value) => write_number(f, *value),
+        ScalarValue::Native(value) => {
+            write_native(f, ValueFormat::of_type(scalar.data_type()), *value)
+        }
         ScalarValue::Text(text) => write_quoted(f, text),
         ScalarValue::Bytes(bytes) => write_bytes(f, bytes),
         ScalarValue::List(items) => write_array(f, items, 0, items.len()),

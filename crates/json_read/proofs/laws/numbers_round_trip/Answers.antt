@@ -1,5 +1,5 @@
-use Rattle.json_read.proofs.ReadBack.{numbers-back}
+use Rattle.json_read.proofs.ValuesBack.{values-back}
 use Rattle.json_read.proofs.laws.numbers_round_trip.Goals as goal
 
 pub returns : goal.returns
-returns c p t z zs h = numbers-back p t z zs h
+returns c p t z zs h = values-back p t z zs h

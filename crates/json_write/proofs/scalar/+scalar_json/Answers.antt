@@ -1,4 +1,4 @@
-use Rattle.std.proofs.Common.{◌≡◌, [], ◌++◌, codes, false, sym, ap, subst, ◌∙◌, inl, inr, rules, arith}
+use Rattle.std.proofs.Common.{◌≡◌, [], ◌++◌, codes, true, false, sym, ap, subst, ◌∙◌, inl, inr, rules, arith}
 use Rattle.std.proofs.Output.{has_written_append, has_written_of_eq, writes_in_calls_nil}
 use Rattle.json.specs.Print.{quoted}
 use Rattle.nest_model.specs.Layout.{field_types}
@@ -7,7 +7,10 @@ use Rattle.nest_array.specs.Seen.{layout_of}
 use Rattle.nest_array.specs.SeenScalar.{ValueFits, slot_of_value}
 use Rattle.nest_memory.specs.TypeOf.{field_list_of}
 use Rattle.nest_model.specs.Slot.{node_count, count_within}
-use Rattle.json_write.specs.JsonText.{comma, json_members, json_of_slot, members_of}
+use Rattle.nest_flat.specs.AnyNative.{native_kind, native_numbers}
+use Rattle.json_write.proofs.TypeFormats.{shown-format-fits}
+use Rattle.json_write.specs.Formats.{format_of_type, has_format}
+use Rattle.json_write.specs.JsonText.{comma, json_members, json_of_slot, json_of_value, members_of}
 use Rattle.json_write.proofs.ScalarText.{members-shown, items-text, first-value, value-text, values-none}
 use Rattle.json_write.proofs.scalar.+scalar_json.Goals as goal
 
@@ -70,10 +73,24 @@ write_scalar-write_scalar_members-requires g t c κs within =
     let w = ap node_count (sym c.value.ensures.slot ∙ ap slot_of_value c.in-Struct.is) in
     let seen : c.deref-in-Struct.result.now ≡ c.in-Struct.values.items = c.deref-in-Struct.ensures.value in
     let v = ap (λ vs. count_within (slots_in vs)) seen in
-    (omega (arith, w, v), (within, ap field_types (c.members.ensures ∙ ap members_of c.data_type.ensures ∙ sym (members-shown dt)) ∙ fits ∙ ap types_in (sym seen)))
+    (omega (arith, w, v), (within, ap field_types (c.members.ensures ∙ ap members_of c.data_type-in-Struct.ensures ∙ sym (members-shown dt)) ∙ fits ∙ ap types_in (sym seen)))
 
 pub write_scalar-returns-in-List : goal.write_scalar-returns-in-List
 write_scalar-returns-in-List g t c plain ok =
     let dt = c.args.scalar.now.data_type in
     let fits = subst (ValueFits dt) c.in-List.is c.value.ensures.fits in
     has_written_of_eq _ _ _ _ _ (items-text dt (layout_of c.in-List.items) _ _ c.len.ensures fits (sym (ap slot_of_value c.in-List.is) ∙ c.value.ensures.slot)) (c.write_array.ensures plain ok)
+
+pub write_scalar-write_native-requires : goal.write_scalar-write_native-requires
+write_scalar-write_native-requires g t c =
+    let dt = c.args.scalar.now.data_type in
+    let fits = subst (ValueFits dt) c.in-Native.is c.value.ensures.fits in
+    subst (λ v. has_format (native_kind c.in-Native.value) v ≡ true) (ap format_of_type (sym c.data_type.ensures) ∙ sym c.of_type.ensures) (shown-format-fits dt (native_kind c.in-Native.value) fits)
+
+pub write_scalar-returns-in-Native : goal.write_scalar-returns-in-Native
+write_scalar-returns-in-Native g t c plain ok =
+    let dt = c.args.scalar.now.data_type in
+    has_written_of_eq _ _ _ _ _
+    (ap (λ v. json_of_value v (native_numbers c.in-Native.value)) (c.of_type.ensures ∙ ap format_of_type c.data_type.ensures)
+    ∙ ap (json_of_slot dt) (sym (ap slot_of_value c.in-Native.is) ∙ c.value.ensures.slot))
+    (c.write_native.ensures plain ok)

@@ -1,0 +1,12 @@
+use Rattle.std.proofs.Common.{FitsSigned, subst, w32}
+use Rattle.std.specs.Option.{SomeIff}
+use Rattle.value_text.specs.Times.{date_text}
+use Rattle.value_text.proofs.TimeFacts.{date_injective}
+use Rattle.json_read.proofs.NumberReading.{back-64, day-fits, narrow-result}
+use Rattle.json_read.proofs.texts.date_32.Goals as goal
+
+pub returns : goal.returns
+returns c =
+    let read = c.in_ok-day.ensures in
+    narrow-result date_text w32 c.args.text.now c.in_ok-day.day date_injective read.1 c.i64_to_i32.result
+    (subst (λ z. SomeIff c.i64_to_i32.result (FitsSigned w32 z) z) (back-64 c.in_ok-day.day (day-fits c.in_ok-day.day read.0)) c.i64_to_i32.ensures)

@@ -1,0 +1,70 @@
+-- The native values that are JSON strings: decimals, dates, times, timestamps, durations and intervals. Their data type decides the text.
+use Rattle.std.specs.Prelude.{◌≡◌, ℕ, ◌*◌, ◌+◌, ◌^◌, ℤ, pos, Bool, true, false, is_some, unwrap_or, List, [], ◌∷◌, Option, Some, None, if◌then◌else◌}
+use Rattle.nest_memory.specs.TypeTree as types
+use Rattle.nest_memory.specs.TypeTree.{TypeTree}
+use Rattle.nest_memory.specs.declared.datatypes.IntervalUnit.{IntervalUnit}
+use Rattle.nest_memory.specs.declared.datatypes.IntervalUnit.TheVariants as interval
+use Rattle.nest_memory.specs.declared.datatypes.physical_type.PrimitiveType.{PrimitiveType}
+use Rattle.nest_memory.specs.declared.datatypes.physical_type.PrimitiveType.TheVariants as primitive
+use Rattle.value_text.specs.Decimals.{decimal_text}
+use Rattle.value_text.specs.Times.{unit_digits, date_text, millisecond_date_text, is_time_of_day, time_text, timestamp_text, duration_text, months_text, days_ms_text, month_day_nano_text}
+use Rattle.json_write.specs.declared.format.ValueFormat.{ValueFormat}
+use Rattle.json_write.specs.declared.format.ValueFormat.TheVariants.{Number, Decimal, Date, MillisecondDate, Time, Timestamp, Duration, Months, DaysMs, MonthDayNano}
+
+abbrev interval_format : IntervalUnit → ValueFormat
+interval_format interval.YearMonth = Months
+interval_format interval.DayTime = DaysMs
+interval_format interval.MonthDayNano = MonthDayNano
+
+-- for a dictionary that of its values, for an extension that of its storage
+abbrev pub format_of_type : TypeTree → ValueFormat
+format_of_type (types.decimal p s) = Decimal p s
+format_of_type types.date32 = Date
+format_of_type types.date64 = MillisecondDate
+format_of_type (types.time32 u) = Time u
+format_of_type (types.time64 u) = Time u
+format_of_type (types.timestamp u z) = Timestamp u (is_some z)
+format_of_type (types.duration u) = Duration u
+format_of_type (types.interval u) = interval_format u
+format_of_type (types.dictionary k t b) = format_of_type t
+format_of_type (types.extension n t m) = format_of_type t
+format_of_type t = Number
+
+-- the text of a native value with these numbers, unless it is written as numbers; a time outside of a day is a number
+abbrev pub text_of_numbers : ValueFormat → List ℤ → Option (List ℕ)
+text_of_numbers (Decimal precision scale) (n ∷ []) = Some (decimal_text scale n)
+text_of_numbers Date (n ∷ []) = Some (date_text n)
+text_of_numbers MillisecondDate (n ∷ []) = Some (millisecond_date_text n)
+text_of_numbers (Time u) (n ∷ []) = if is_time_of_day (unit_digits u) n then Some (time_text (unit_digits u) n) else None
+text_of_numbers (Timestamp u utc) (n ∷ []) = Some (timestamp_text (unit_digits u) utc n)
+text_of_numbers (Duration u) (n ∷ []) = Some (duration_text (unit_digits u) n)
+text_of_numbers Months (n ∷ []) = Some (months_text n)
+text_of_numbers DaysMs (days ∷ ms ∷ []) = Some (days_ms_text days ms)
+text_of_numbers MonthDayNano (months ∷ days ∷ ns ∷ []) = Some (month_day_nano_text months days ns)
+text_of_numbers f zs = None
+
+-- the number of numbers of a value that has a text
+abbrev pub numbers_count : ValueFormat → ℕ
+numbers_count Number = 0
+numbers_count DaysMs = 2
+numbers_count MonthDayNano = 3
+numbers_count f = 1
+
+-- the text of a value that has one
+abbrev pub text_in : ValueFormat → List ℤ → List ℕ
+text_in f zs = unwrap_or (text_of_numbers f zs) []
+
+-- the native types of a format: any type has numbers
+abbrev pub has_format : PrimitiveType → ValueFormat → Bool
+has_format k Number = true
+has_format primitive.Int128 (Decimal precision scale) = true
+has_format primitive.Int32 Date = true
+has_format primitive.Int64 MillisecondDate = true
+has_format primitive.Int32 (Time u) = true
+has_format primitive.Int64 (Time u) = true
+has_format primitive.Int64 (Timestamp u utc) = true
+has_format primitive.Int64 (Duration u) = true
+has_format primitive.Int32 Months = true
+has_format primitive.DaysMs DaysMs = true
+has_format primitive.MonthDayNano MonthDayNano = true
+has_format k f = false
