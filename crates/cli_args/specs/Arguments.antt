@@ -29,6 +29,10 @@ pub record ArgumentsTree : Type 0 where
 abbrev pub with_options : Option (List ℕ) → Option (List ℕ) → List (List ℕ) → ArgumentsTree
 with_options columns out positional = record { columns = columns; out = out; positional = positional }
 
+-- `cut f 1` and further arguments
+abbrev pub cut_arguments : List (List ℕ) → List (List ℕ)
+cut_arguments others = codes "cut" ∷ codes "f" ∷ codes "1" ∷ others
+
 abbrev pub with_output : OptionValue → Option ArgumentsTree
 with_output c = option_map (λ (o : OptionValue). record { columns = c.0; out = o.0; positional = o.1 }) (option_value (codes "-o") c.1)
 

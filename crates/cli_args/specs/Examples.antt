@@ -1,6 +1,6 @@
 -- Examples of requests.
 use Rattle.std.specs.Prelude.{◌≡◌, [], ◌∷◌, Some, None, codes, refl}
-use Rattle.cli_args.specs.Requests.{all, indices, selection_of_arguments, columns, slice, request_of_arguments, rows, where_true}
+use Rattle.cli_args.specs.Requests.{all, indices, named, selection_of_arguments, columns, slice, request_of_arguments, rows, where_true}
 
 pub schema_asks : request_of_arguments (codes "schema") [] ≡ Some columns
 schema_asks = refl
@@ -32,7 +32,7 @@ cut_asks = refl
 pub cut_no_number : request_of_arguments (codes "cut") [] ≡ None
 cut_no_number = refl
 
-pub where_asks : request_of_arguments (codes "where") (codes "ok" ∷ []) ≡ Some (rows (where_true (codes "ok")))
+pub where_asks : request_of_arguments (codes "where") (codes "ok" ∷ []) ≡ Some (rows (where_true (named (codes "ok"))))
 where_asks = refl
 
 pub where_no_column : request_of_arguments (codes "where") [] ≡ None

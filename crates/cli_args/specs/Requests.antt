@@ -2,12 +2,17 @@
 use Rattle.std.specs.Prelude.{ℕ, List, [], ◌∷◌, length, ◌==◌, Option, Some, None, option_map, codes, bytes_eq, if◌then◌else◌}
 use Rattle.cli_args.specs.Numbers.{integers_of, integer_pair}
 
--- all rows; a slice by its offset and its maximal length; the row at each index; the rows where the boolean column of this name is true
+-- the first column of a name, or the column at an index
+pub data ColumnTree : Type 0 where
+  named : List ℕ → ColumnTree
+  indexed : ℕ → ColumnTree
+
+-- all rows; a slice by its offset and its maximal length; the row at each index; the rows where this boolean column is true
 pub data SelectionTree : Type 0 where
   all : SelectionTree
   slice : ℕ → ℕ → SelectionTree
   indices : List ℕ → SelectionTree
-  where_true : List ℕ → SelectionTree
+  where_true : ColumnTree → SelectionTree
 
 -- the schema, or rows
 pub data RequestTree : Type 0 where
@@ -29,7 +34,7 @@ indices_of_arguments arguments = option_map indices (integers_of arguments)
 -- `COLUMN`
 abbrev pub where_of_arguments : List (List ℕ) → Option SelectionTree
 where_of_arguments [] = None
-where_of_arguments (name ∷ []) = Some (where_true name)
+where_of_arguments (name ∷ []) = Some (where_true (named name))
 where_of_arguments (name ∷ other ∷ others) = None
 
 -- the selection of a command and the arguments after its input

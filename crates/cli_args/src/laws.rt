@@ -1,8 +1,8 @@
 //! Examples of parsed command lines. Each function's contract is an example, and its body is empty.
 ghost use Rattle.std.specs.Prelude.{◌≡◌, [], ◌∷◌, Some, None, codes};
-ghost use Rattle.cli_args.specs.Requests.{all, indices, selection_of_arguments, columns, slice, request_of_arguments, rows, where_true};
+ghost use Rattle.cli_args.specs.Requests.{all, indices, named, selection_of_arguments, columns, slice, request_of_arguments, rows, where_true};
 ghost use Rattle.cli_args.specs.Imports.{import_request};
-ghost use Rattle.cli_args.specs.Arguments.{column_names, arguments_of, with_options};
+ghost use Rattle.cli_args.specs.Arguments.{arguments_of, column_names, cut_arguments, with_options};
 
 /// `schema`, `rows`, `rows 10 3`, `cut 10 3`, `take 7 0 7`, `where ok`.
 pub fn requests_are_parsed()
@@ -11,7 +11,7 @@ pub fn requests_are_parsed()
     ensures slice { request_of_arguments (codes "rows") (codes "10" ∷ codes "3" ∷ []) ≡ Some (rows (slice 10 3)) }
     ensures cut { request_of_arguments (codes "cut") (codes "10" ∷ codes "3" ∷ []) ≡ Some (rows (slice 10 3)) }
     ensures indices { request_of_arguments (codes "take") (codes "7" ∷ codes "0" ∷ codes "7" ∷ []) ≡ Some (rows (indices (7 ∷ 0 ∷ 7 ∷ []))) }
-    ensures column { request_of_arguments (codes "where") (codes "ok" ∷ []) ≡ Some (rows (where_true (codes "ok"))) }
+    ensures column { request_of_arguments (codes "where") (codes "ok" ∷ []) ≡ Some (rows (where_true (named (codes "ok")))) }
 {}
 
 /// `schema 0`, `rows 10`, `take 07`, `cut`, `where`, `where ok ok`, `show`. And `rows 10 3` is no selection for an output.
@@ -31,7 +31,7 @@ pub fn options_are_anywhere()
     ensures none { arguments_of (codes "rows" ∷ codes "f" ∷ []) ≡ Some (with_options None None (codes "rows" ∷ codes "f" ∷ [])) }
     ensures before { arguments_of (codes "--columns" ∷ codes "a,b" ∷ codes "rows" ∷ codes "f" ∷ []) ≡ Some (with_options (Some (codes "a,b")) None (codes "rows" ∷ codes "f" ∷ [])) }
     ensures after { arguments_of (codes "rows" ∷ codes "f" ∷ codes "--columns" ∷ codes "a,b" ∷ []) ≡ Some (with_options (Some (codes "a,b")) None (codes "rows" ∷ codes "f" ∷ [])) }
-    ensures among { arguments_of (codes "cut" ∷ codes "f" ∷ codes "1" ∷ codes "-o" ∷ codes "g" ∷ codes "2" ∷ []) ≡ Some (with_options None (Some (codes "g")) (codes "cut" ∷ codes "f" ∷ codes "1" ∷ codes "2" ∷ [])) }
+    ensures among { arguments_of (cut_arguments (codes "-o" ∷ codes "g" ∷ codes "2" ∷ [])) ≡ Some (with_options None (Some (codes "g")) (cut_arguments (codes "2" ∷ []))) }
 {}
 
 /// `rows f --columns`; `-o g -o h`.

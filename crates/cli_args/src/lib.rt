@@ -11,4 +11,4 @@ mod request;
 pub use arguments::{Arguments, parse_arguments, parse_column_names};
 pub use format::{Format, format_of};
 pub use import::{ImportRequest, parse_import};
-pub use request::{Request, Selection, parse_request, parse_selection};
+pub use request::{Column, Request, Selection, parse_request, parse_selection};

@@ -6,6 +6,15 @@ ghost use Rattle.cli_args.specs.Requests.{columns, indices_of_arguments, request
 use crate::numbers::{parse_indices, parse_slice};
 use std::alloc::{AllocError, Global};
 
+/// A column.
+#[derive(Drop)]
+pub enum Column {
+    /// The first column of this name.
+    Named(String),
+    /// The column at this index.
+    Indexed(usize),
+}
+
 /// A selection of rows.
 #[derive(Drop)]
 pub enum Selection {
@@ -15,8 +24,8 @@ pub enum Selection {
     Slice(usize, usize),
     /// The row at each index, in the order of the indices.
     Indices(Vec<usize>),
-    /// The rows where the boolean column of this name is true.
-    Where(String),
+    /// The rows where this boolean column is true.
+    Where(Column),
 }
 
 /// What to print of an input.
@@ -60,7 +69,10 @@ fn where_selection(alloc: Global, arguments: &[String]) -> Result<Option<Selecti
     ensures { IfOk result (λ c. option_map selection_tree c ≡ where_of_arguments (map string_bytes arguments.now)) }
 {
     match arguments {
-        [name] => Ok(Some(Selection::Where(String::from_str(alloc, name.as_str())?))),
+        [name] => {
+            let column = Column::Named(String::from_str(alloc, name.as_str())?);
+            Ok(Some(Selection::Where(column)))
+        }
         _ => Ok(None),
     }
 }

@@ -1,5 +1,5 @@
 -- Files of equal bytes, of which one is read.
-use Rattle.std.proofs.Common.{◌≡◌, ℕ, List, [], ◌∷◌, length, Err, inl, Option, Some, None, Result, refl, sym, ap, ◌∙◌, subst}
+use Rattle.std.proofs.Common.{◌≡◌, ℕ, List, [], ◌∷◌, length, Err, inl, Option, Some, None, Result, refl, sym, subst}
 use Rattle.std.specs.Option.{option_map}
 use Rattle.std.specs.Io.KnownBytes.{Keeps}
 use Rattle.ipc_schema.specs.Schemas.{SchemaModel}
@@ -7,7 +7,7 @@ use Rattle.cli_read.specs.Decoded.{Decoded}
 use Rattle.cli_rows.specs.Rows.{Row}
 use Rattle.cli_rows.specs.declared.difference.Difference.{Difference}
 use Rattle.cli_rows.specs.declared.error.CliError.{CliError}
-use Rattle.cli_rows.specs.declared.error.CliError.TheVariants.{Input, Memory}
+use Rattle.cli_rows.specs.declared.error.CliError.TheVariants.{Input}
 use Rattle.cli_read.specs.EqualBytes.{HaveEqualBytes}
 use Rattle.cli_read.specs.Remaining.{FailsToOpen, IsOpened, Remaining, with_schema}
 use Rattle.cli_read.specs.Comparisons.{ComparesInputs}
@@ -51,8 +51,3 @@ pub device-failed : (x y : Option Decoded) (k : ℕ) → ComparesInputs x y (Err
 device-failed None y k = tt
 device-failed (Some x) None k = tt
 device-failed (Some x) (Some y) k = (tt, inl tt)
-
-pub out-of-memory : (x y : Option Decoded) → ComparesInputs x y (Err (First (record { batch = None; error = Memory })))
-out-of-memory None y = tt
-out-of-memory (Some x) None = tt
-out-of-memory (Some x) (Some y) = tt

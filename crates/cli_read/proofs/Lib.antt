@@ -7,6 +7,7 @@ mod Lists
 pub mod BufferSteps
 pub mod Readers
 pub mod PrintSteps
+mod Resolved
 mod Buffers
 mod AllBatches
 mod SameBytes

@@ -120,7 +120,3 @@ unopened-by Memory q x old h = absurd h
 pub unopened : (q : RequestTree) (x : Option Decoded) (old : Option (List ℕ)) (error : CliError) → FailsToOpen error x → Prints q x (Err (record { batch = None; error = error })) old old
 unopened q None old error h = tt
 unopened q (Some x) old error h = unopened-by error q x old h
-
-pub out-of-memory : (q : RequestTree) (x : Option Decoded) (old : Option (List ℕ)) → Prints q x (Err (record { batch = None; error = Memory })) old old
-out-of-memory q None old = tt
-out-of-memory q (Some x) old = (Keeps-refl old, tt)

@@ -39,37 +39,37 @@ cut-both xs ys o n =
 abbrev picked : SelectionTree → List Row → List Row
 picked all rs = rs
 picked (slice o n) rs = sublist rs o n
-picked (where_true name) rs = filter (is_true_in name) rs
+picked (where_true column) rs = filter (is_true_in column) rs
 picked (indices wanted) rs = []
 
 choice-is : (c : SelectionTree) (rs : List Row) → IsInRowOrder c → selected_rows c rs ≡ Some (picked c rs)
 choice-is all rs h = refl
 choice-is (slice o n) rs h = refl
-choice-is (where_true name) rs h = refl
+choice-is (where_true column) rs h = refl
 choice-is (indices wanted) rs h = absurd h
 
 abbrev pub behind : SelectionTree → ℕ → SelectionTree
 behind (slice o n) k = slice (o - k) (n - (k - o))
 behind all k = all
-behind (where_true name) k = where_true name
+behind (where_true column) k = where_true column
 behind (indices wanted) k = indices wanted
 
 pub left-is : (c : SelectionTree) (k : ℕ) → remaining_request (rows c) k ≡ rows (behind c k)
 left-is all k = refl
 left-is (slice o n) k = refl
-left-is (where_true name) k = refl
+left-is (where_true column) k = refl
 left-is (indices wanted) k = refl
 
 pub in-order-behind : (c : SelectionTree) (k : ℕ) → IsInRowOrder c → IsInRowOrder (behind c k)
 in-order-behind all k h = tt
 in-order-behind (slice o n) k h = tt
-in-order-behind (where_true name) k h = tt
+in-order-behind (where_true column) k h = tt
 in-order-behind (indices wanted) k h = h
 
 picked-both : (c : SelectionTree) (xs ys : List Row) → IsInRowOrder c → picked c (xs ++ ys) ≡ picked c xs ++ picked (behind c (length xs)) ys
 picked-both all xs ys h = refl
 picked-both (slice o n) xs ys h = cut-both xs ys o n
-picked-both (where_true name) xs ys h = filter-append (is_true_in name) xs ys
+picked-both (where_true column) xs ys h = filter-append (is_true_in column) xs ys
 picked-both (indices wanted) xs ys h = absurd h
 
 from-twice : (o n a b : ℕ) → slice ((o - a) - b) ((n - (a - o)) - (b - (o - a))) ≡ slice (o - (a + b)) (n - (a + b - o))
@@ -81,7 +81,7 @@ from-twice o n a b =
 behind-twice : (c : SelectionTree) (a b : ℕ) → behind (behind c a) b ≡ behind c (a + b)
 behind-twice all a b = refl
 behind-twice (slice o n) a b = from-twice o n a b
-behind-twice (where_true name) a b = refl
+behind-twice (where_true column) a b = refl
 behind-twice (indices wanted) a b = refl
 
 pub left-twice : (q : RequestTree) (a b : ℕ) → remaining_request (remaining_request q a) b ≡ remaining_request q (a + b)
@@ -98,7 +98,7 @@ pub left-none : (q : RequestTree) → remaining_request q 0 ≡ q
 left-none columns = refl
 left-none (rows all) = refl
 left-none (rows (slice o n)) = ap rows (from-none o n)
-left-none (rows (where_true name)) = refl
+left-none (rows (where_true column)) = refl
 left-none (rows (indices wanted)) = refl
 
 abbrev rows_under : List FieldTree → List RecordBatchTree → List Row
@@ -137,7 +137,7 @@ unless-some (Some refusal) found x h = absurd cc
 error-behind : (c : SelectionTree) (k : ℕ) (fs : List FieldTree) → spec_selection_error (behind c k) fs ≡ spec_selection_error c fs
 error-behind all k fs = refl
 error-behind (slice o n) k fs = refl
-error-behind (where_true name) k fs = refl
+error-behind (where_true column) k fs = refl
 error-behind (indices wanted) k fs = refl
 
 pub query-left : (q : RequestTree) (k : ℕ) (fs : List FieldTree) → request_error (remaining_request q k) fs ≡ request_error q fs
@@ -179,14 +179,14 @@ pub enough : (q : RequestTree) (h : TableTree) → is_complete_request (remainin
 enough columns h e = tt
 enough (rows all) h e = absurd cc
 enough (rows (slice o n)) h e = let z = eqb-true (n - (table_row_count h - o)) 0 e in omega (arith, z)
-enough (rows (where_true name)) h e = absurd cc
+enough (rows (where_true column)) h e = absurd cc
 enough (rows (indices wanted)) h e = absurd cc
 
 pub not-enough : (q : RequestTree) (h : TableTree) → is_complete_request (remaining_request q (table_row_count h)) ≡ false → HasAllRows q h → ⊥
 not-enough columns h e is = absurd cc
 not-enough (rows all) h e is = is
 not-enough (rows (slice o n)) h e is = let z : n - (table_row_count h - o) ≡ 0 = omega (arith, is) in absurd (grind (arith, z, e))
-not-enough (rows (where_true name)) h e is = is
+not-enough (rows (where_true column)) h e is = is
 not-enough (rows (indices wanted)) h e is = is
 
 pub enough-is-all : (q : RequestTree) (s : SchemaModel) (as_ bs : List RecordBatchTree) → HasAllRows q (of_batches s as_) → spec_request_text q (of_batches s as_) ≡ spec_request_text q (of_batches s (as_ ++ bs))
@@ -202,5 +202,5 @@ enough-is-all (rows (slice o n)) s as_ bs h =
     ∙ ap (λ k. sublist xs o n ++ take k (drop (o - length xs) ys)) none
     ∙ append-nil (sublist xs o n)) in
     ap (λ rs. Some (text_of_rows rs)) same
-enough-is-all (rows (where_true name)) s as_ bs h = absurd h
+enough-is-all (rows (where_true column)) s as_ bs h = absurd h
 enough-is-all (rows (indices wanted)) s as_ bs h = absurd h

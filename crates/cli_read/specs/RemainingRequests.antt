@@ -20,7 +20,7 @@ abbrev pub HasAllRows : RequestTree → TableTree → Type 0
 HasAllRows columns t = Unit {0}
 HasAllRows (rows (slice o n)) t = n ≤ table_row_count t - o
 HasAllRows (rows all) t = ⊥
-HasAllRows (rows (where_true name)) t = ⊥
+HasAllRows (rows (where_true column)) t = ⊥
 HasAllRows (rows (indices wanted)) t = ⊥
 
 -- what is printed after so many rows

@@ -18,7 +18,9 @@ use Rattle.cli_rows.specs.Output.{HasTable}
 use Rattle.cli_rows.specs.declared.difference.Difference.TheVariants.{Row as ARow}
 use Rattle.cli_rows.specs.declared.error.CliError.{CliError}
 use Rattle.cli_read.specs.Remaining.{Remaining, Advances, with_schema}
+use Rattle.cli_read.specs.Readers.{reader_schema, remaining_batches}
 use Rattle.cli_read.specs.Comparisons.{ComparesInputs, IsBatchReadError}
+use Rattle.cli_read.specs.declared.reader.BatchReader.{BatchReader}
 use Rattle.cli_read.specs.declared.comparison.inputs.Comparison.{Comparison}
 use Rattle.cli_read.specs.declared.comparison.inputs.Comparison.TheVariants.{Equal, Decided}
 use Rattle.cli_read.specs.declared.comparison.inputs.Step.{Step}
@@ -39,6 +41,11 @@ ReturnsRows s (Some old) (Some new) (Some a) = (b : RecordBatchTree) × (a ≡ b
 abbrev pub FailsRows : SchemaModel → CliError → Option Remaining → Type 0
 FailsRows s error None = Unit {0}
 FailsRows s error (Some old) = IsBatchReadError error (table_with s (old.first 1))
+
+module _ {R : Type 0} (remaining : R → Option (List ℕ)) (position : R → Option ℕ) (bytes : R → Option (List ℕ)) where
+  -- those of the next record batch of a reader
+  abbrev pub ReturnsNextRows : BatchReader R → BatchReader R → Option Layout → Type 0
+  ReturnsNextRows old new rows = ReturnsRows (reader_schema old) (remaining_batches remaining position bytes old) (remaining_batches remaining position bytes new) rows
 
 -- ---- one input
 

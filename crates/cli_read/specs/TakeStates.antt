@@ -1,5 +1,5 @@
 -- States of taking rows by index.
-use Rattle.std.specs.Prelude.{◌≡◌, ◌⊎◌, ◌<◌, ◌≤◌, ℕ, Bool, true, false, List, [], get_or, length, map, take, Option, None, Some}
+use Rattle.std.specs.Prelude.{◌≡◌, ◌⊎◌, ◌<◌, ◌≤◌, ℕ, Bool, true, false, List, [], ◌++◌, get_or, length, map, take, Option, None, Some}
 use Rattle.std.specs.List.{AllByRecursion, flat_map}
 use Rattle.std.specs.List.Sorted.{IsNonDecreasing, IsPermutation}
 use Rattle.nest_memory.specs.TypeTree.{FieldTree}
@@ -31,6 +31,10 @@ rows_taken t = flat_map rows_of (map layout_of t.rows.items)
 
 abbrev pub HasTakenFrom : List FieldTree → List Row → TakeState → Type 0
 HasTakenFrom fs rows t = AreTaken fs t.wanted.items rows t.next t.passed (rows_taken t)
+
+-- more rows of these fields were read, and those at indices taken
+abbrev pub TakesRows : List Row → TakeState → TakeState → Type 0
+TakesRows more old new = (fs : List FieldTree) (rows : List Row) → AreRowsOf fs more → HasTakenFrom fs rows old → HasTakenFrom fs (rows ++ more) new
 
 abbrev pub HasMoreIndices : TakeState → Type 0
 HasMoreIndices t = t.next < length t.wanted.items

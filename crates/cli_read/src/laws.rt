@@ -25,8 +25,8 @@ pub fn all_batches_are_the_decoded_table()
 
 /// An error in the first record batches is the error of all.
 pub fn an_error_in_a_prefix_is_the_error()
-    ensures stream { (picks : ProjectionModel) (bytes : List ℕ) (k : ℕ) (error : read_errors.IpcReadError) → (decoded_stream picks bytes).first k ≡ Err error → (decoded_stream picks bytes).whole ≡ Err error }
-    ensures file { (picks : ProjectionModel) (bytes : List ℕ) (k : ℕ) (error : read_errors.IpcReadError) → (decoded_file picks bytes).first k ≡ Err error → (decoded_file picks bytes).whole ≡ Err error }
+    ensures stream { (picks : ProjectionModel) (bytes : List ℕ) (k : ℕ) (e : read_errors.IpcReadError) → (decoded_stream picks bytes).first k ≡ Err e → (decoded_stream picks bytes).whole ≡ Err e }
+    ensures file { (picks : ProjectionModel) (bytes : List ℕ) (k : ℕ) (e : read_errors.IpcReadError) → (decoded_file picks bytes).first k ≡ Err e → (decoded_file picks bytes).whole ≡ Err e }
 {}
 
 /// Without an error the first record batches are those of the decoded table.
@@ -43,7 +43,7 @@ pub fn sufficient_batches_print_the_text()
 
 /// If both inputs are read without an error, the difference found is the first difference of their tables.
 pub fn found_differences_are_the_first()
-    ensures { (picks : ProjectionModel) (xs ys : List ℕ) (s t : Decoded) (h g : TableTree) (d : Option Difference) → IsDecodedFrom picks xs s → IsDecodedFrom picks ys t → FindsTableDifference s t h g d }
+    ensures { (p : ProjectionModel) (xs ys : List ℕ) (s t : Decoded) (h g : TableTree) (d : Option Difference) → IsDecodedFrom p xs s → IsDecodedFrom p ys t → FindsTableDifference s t h g d }
 {}
 
 /// Three rows in other batches; another second row, also before an error; one more row; another schema, also before an error.
@@ -89,5 +89,5 @@ pub fn missing_rows_are_errors()
 
 /// If there is a column, the text of the rows taken is what the request prints.
 pub fn text_of_taken_rows()
-    ensures { (wanted : List ℕ) (h t : TableTree) (text : List ℕ) → 0 < length h.schema.fields → IsSelectedFrom (indices wanted) h t → HasText (rows all) t text → HasText (rows (indices wanted)) h text }
+    ensures { (wanted : List ℕ) (h t : TableTree) (s : List ℕ) → 0 < length h.schema.fields → IsSelectedFrom (indices wanted) h t → HasText (rows all) t s → HasText (rows (indices wanted)) h s }
 {}

@@ -1,27 +1,24 @@
 //! Schemas and rows printed one record batch at a time: each batch is read, printed and dropped before the next one is read.
-ghost use Rattle.std.specs.Prelude.{◌≡◌, ◌∷◌, [], IfErr, Ok, OnOk, Some, map};
-ghost use Rattle.nest_memory.specs.TypeOf.{type_of};
+ghost use Rattle.std.specs.Prelude.{◌≡◌, IfErr, Ok, OnOk, Some};
 ghost use Rattle.ipc.specs.Streams.{record_batch_of};
 ghost use Rattle.ipc_schema.specs.Projections.{projection_of};
 ghost use Rattle.ipc_schema.specs.Schemas.{SchemaModel, schema_of};
 ghost use Rattle.cli_args.specs.RequestTrees.{request_tree};
-ghost use Rattle.cli_rows.specs.Records.{record_type};
+ghost use Rattle.cli_rows.specs.Tables.{table_of_parts};
 ghost use Rattle.cli_read.specs.Inputs.{decoded_input};
 ghost use Rattle.cli_read.specs.Printed.{FailsToPrint, Prints, WritesText};
-ghost use Rattle.cli_read.specs.Readers.{decoded_reader, reader_schema};
+ghost use Rattle.cli_read.specs.Readers.{decoded_reader};
 ghost use Rattle.cli_read.specs.RemainingRequests.{IsRequestInRowOrder, batch_table, is_complete_request, remaining_request, table_row_count};
-ghost use Rattle.cli_read.specs.RowBuffers.{table_of_batches};
 
 use crate::input::Input;
 use crate::reader::{BatchReader, open};
 use cli_args::Request;
 use cli_rows::{
-    BatchError, CliError, is_complete, request_text, row_type, skip_rows, write_output,
+    BatchError, CliError, is_complete, request_text, resolve_request, skip_rows, write_output,
 };
 use ipc::Batch;
 use ipc_io::SeekRead;
 use ipc_schema::{Projection, Schema};
-use nest_memory::datatypes::DataType;
 use std::alloc::Global;
 use std::io::Write;
 
@@ -48,16 +45,14 @@ fn skip_request_rows(request: &mut Request, rows: usize)
 fn write_text<W: Write>(
     alloc: Global,
     schema: &Schema,
-    row_type: &DataType,
     request: &Request,
     batches: Vec<Batch>,
     out: &mut W,
 ) -> Result<(), CliError>
-    requires { type_of row_type.now ≡ record_type (schema_of schema.now).fields }
-    ensures ok { OnOk result (WritesText (request_tree request.now) (Ok (table_of_batches (schema_of schema.now) (map record_batch_of batches.items))) (W.contents out.old) (W.contents out.new)) }
-    ensures error { IfErr result (λ e. FailsToPrint e (request_tree request.now) (Ok (table_of_batches (schema_of schema.now) (map record_batch_of batches.items))) (W.contents out.old) (W.contents out.new)) }
+    ensures ok { OnOk result (WritesText (request_tree request.now) (Ok (table_of_parts schema.now batches.items)) (W.contents out.old) (W.contents out.new)) }
+    ensures error { IfErr result (λ e. FailsToPrint e (request_tree request.now) (Ok (table_of_parts schema.now batches.items)) (W.contents out.old) (W.contents out.new)) }
 {
-    match request_text(alloc, schema, row_type, request, batches) {
+    match request_text(alloc, schema, request, batches) {
         Err(error) => Err(error),
         Ok(text) => write_output(out, text.as_bytes()),
     }
@@ -77,12 +72,10 @@ fn row_count(batch: &Batch) -> usize
 fn write_batch<W: Write>(
     alloc: Global,
     schema: &Schema,
-    row_type: &DataType,
     left: &mut Request,
     batch: Batch,
     out: &mut W,
 ) -> Result<(), CliError>
-    requires { type_of row_type.now ≡ record_type (schema_of schema.now).fields }
     ensures left { OnOk result (request_tree left.new ≡ remaining_request (request_tree left.old) (table_row_count (batch_table (schema_of schema.now) (Some (record_batch_of batch))))) }
     ensures ok { OnOk result (WritesText (request_tree left.old) (Ok (batch_table (schema_of schema.now) (Some (record_batch_of batch)))) (W.contents out.old) (W.contents out.new)) }
     ensures error { IfErr result (λ e. FailsToPrint e (request_tree left.old) (Ok (batch_table (schema_of schema.now) (Some (record_batch_of batch)))) (W.contents out.old) (W.contents out.new)) }
@@ -90,7 +83,7 @@ fn write_batch<W: Write>(
     let rows = row_count(&batch);
     let mut batches = Vec::new(alloc);
     batches.push(batch)?;
-    match write_text(alloc, schema, row_type, left, batches, out) {
+    match write_text(alloc, schema, left, batches, out) {
         Err(error) => Err(error),
         Ok(()) => {
             skip_request_rows(left, rows);
@@ -100,27 +93,18 @@ fn write_batch<W: Write>(
 }
 
 /// Prints the remaining record batches of a reader.
-fn print_batches<R: SeekRead + Drop, W: Write>(
+fn print_resolved<R: SeekRead + Drop, W: Write>(
     alloc: Global,
     reader: BatchReader<R>,
-    row_type: &DataType,
     request: Request,
     out: &mut W,
 ) -> Result<(), BatchError>
-    requires order { IsRequestInRowOrder (request_tree request) }
-    requires row { type_of row_type.now ≡ record_type (reader_schema reader).fields }
+    requires { IsRequestInRowOrder (request_tree request) }
     ensures { Prints (request_tree request) (decoded_reader R.remaining R.stream_position R.stream_bytes reader) result (W.contents out.old) (W.contents out.new) }
 {
     let mut reader = reader;
     let mut left = request;
-    match write_text(
-        alloc,
-        reader.schema(),
-        row_type,
-        &left,
-        Vec::new(alloc),
-        out,
-    ) {
+    match write_text(alloc, reader.schema(), &left, Vec::new(alloc), out) {
         Ok(()) => {}
         Err(error) => return Err(BatchError { batch: None, error }),
     }
@@ -138,7 +122,7 @@ fn print_batches<R: SeekRead + Drop, W: Write>(
                 });
             }
         };
-        match write_batch(alloc, reader.schema(), row_type, &mut left, batch, out) {
+        match write_batch(alloc, reader.schema(), &mut left, batch, out) {
             Ok(()) => {}
             Err(error) => {
                 return Err(BatchError {
@@ -158,7 +142,7 @@ fn print_batches<R: SeekRead + Drop, W: Write>(
     })
 }
 
-/// Prints an input that was opened.
+/// Prints an input that was opened. The column of the request is resolved once.
 fn print_reader<R: SeekRead + Drop, W: Write>(
     alloc: Global,
     reader: BatchReader<R>,
@@ -168,18 +152,8 @@ fn print_reader<R: SeekRead + Drop, W: Write>(
     requires { IsRequestInRowOrder (request_tree request) }
     ensures { Prints (request_tree request) (decoded_reader R.remaining R.stream_position R.stream_bytes reader) result (W.contents out.old) (W.contents out.new) }
 {
-    match row_type(alloc, &reader.schema().fields) {
-        Err(error) => {
-            drop(reader);
-            drop(request);
-            Err(BatchError { batch: None, error })
-        }
-        Ok(row_type) => {
-            let done = print_batches(alloc, reader, &row_type, request, out);
-            drop(row_type);
-            done
-        }
-    }
+    let request = resolve_request(request, &reader.schema().fields);
+    print_resolved(alloc, reader, request, out)
 }
 
 /// Writes the text that a request prints of an Arrow stream or file: a line for each column, or for each selected row. The lines of a record

@@ -8,6 +8,7 @@ mod RecordArrays
 mod ByName
 pub mod BatchArrays
 pub mod SelectedBatches
+pub mod Resolved
 mod Collected
 mod ConcatenatedRows
 mod OneDifference

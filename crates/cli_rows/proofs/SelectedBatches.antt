@@ -24,7 +24,7 @@ use Rattle.nest_array.specs.declared.any.AnyArray.{AnyArray}
 use Rattle.nest_array.specs.WindowParts.{WindowParts, window_parts}
 use Rattle.nest_take.specs.Taken.{IsTaken}
 use Rattle.ipc.specs.Streams.{RecordBatchTree}
-use Rattle.cli_args.specs.Requests.{SelectionTree, all, indices, slice, where_true}
+use Rattle.cli_args.specs.Requests.{ColumnTree, SelectionTree, all, indexed, indices, named, slice, where_true}
 use Rattle.cli_rows.specs.Selection.{selected_rows}
 use Rattle.cli_rows.specs.Rows.{Row, rows_at_indices, rows_in, rows_of}
 use Rattle.cli_rows.specs.RowLaws.{rows-length}
@@ -113,7 +113,7 @@ selected-each fs (indices places) rows picked e h = by_places (list_all (λ p. n
     by_places : (b : Bool) → (if b then Some (rows_at_indices rows places) else None) ≡ Some picked → AreRowsOf fs picked
     by_places true e = let same : rows_at_indices rows places ≡ picked = cc in subst (AreRowsOf fs) same (at-each (IsRowOf fs) rows places h)
     by_places false e = absurd cc
-selected-each fs (where_true name) rows picked e h = let same : filter (is_true_in name) rows ≡ picked = cc in subst (AreRowsOf fs) same (filter-each (IsRowOf fs) (is_true_in name) rows h)
+selected-each fs (where_true column) rows picked e h = let same : filter (is_true_in column) rows ≡ picked = cc in subst (AreRowsOf fs) same (filter-each (IsRowOf fs) (is_true_in column) rows h)
 
 no-items : {A : Type 0} (f : Slot → A) (o n : ℕ) (s : ℕ → Slot) → n ≡ 0 → map f (run s o n) ≡ []
 no-items f o zero s e = refl
@@ -220,15 +220,15 @@ there-at f fs t s o zero i h k = absurd (omega (arith, h))
 there-at f fs t s o (suc n) zero h k = let e : o ≡ o + 0 = omega arith in subst (λ j. is_valid (s j) ≡ true) e k.0.1
 there-at f fs t s o (suc n) (suc i) h k = let e : suc o + i ≡ o + suc i = omega arith in subst (λ j. is_valid (s j) ≡ true) e (there-at f fs t s (suc o) n i (omega (arith, h)) k.1)
 
-module _ (name : List ℕ) (t : TypeTree) (whole : List Slot) (s m : ℕ → Slot) where
+module _ (column : ColumnTree) (t : TypeTree) (whole : List Slot) (s m : ℕ → Slot) where
   abbrev Masks : ℕ → ℕ → Type 0
-  Masks o n = rowed t (selected whole (indices_from o (run m o n))) ≡ filter (is_true_in name) (rowed t (run s o n))
+  Masks o n = rowed t (selected whole (indices_from o (run m o n))) ≡ filter (is_true_in column) (rowed t (run s o n))
 
-  masked-run : (o n : ℕ) → ((i : ℕ) → i < n → get_or whole (o + i) slots.null ≡ s (o + i)) → ((i : ℕ) → i < n → is_true_in name (t, s (o + i)) ≡ spec_is_true (m (o + i))) → Masks o n
+  masked-run : (o n : ℕ) → ((i : ℕ) → i < n → get_or whole (o + i) slots.null ≡ s (o + i)) → ((i : ℕ) → i < n → is_true_in column (t, s (o + i)) ≡ spec_is_true (m (o + i))) → Masks o n
   masked-run o zero here truth = refl
   masked-run o (suc n) here truth =
-      by_slot (m o) (subst (λ k. is_true_in name (t, s k) ≡ spec_is_true (m k)) first (truth 0 (omega arith)))
-      (masked-run (suc o) n (λ i h. subst (λ k. get_or whole k slots.null ≡ s k) (next i) (here (suc i) (omega (arith, h)))) (λ i h. subst (λ k. is_true_in name (t, s k) ≡ spec_is_true (m k)) (next i) (truth (suc i) (omega (arith, h)))))
+      by_slot (m o) (subst (λ k. is_true_in column (t, s k) ≡ spec_is_true (m k)) first (truth 0 (omega arith)))
+      (masked-run (suc o) n (λ i h. subst (λ k. get_or whole k slots.null ≡ s k) (next i) (here (suc i) (omega (arith, h)))) (λ i h. subst (λ k. is_true_in column (t, s k) ≡ spec_is_true (m k)) (next i) (truth (suc i) (omega (arith, h)))))
     where
       first : o + 0 ≡ o
       first = omega arith
@@ -236,11 +236,11 @@ module _ (name : List ℕ) (t : TypeTree) (whole : List Slot) (s m : ℕ → Slo
       next : (i : ℕ) → o + suc i ≡ suc o + i
       next i = omega arith
 
-      left_out : is_true_in name (t, s o) ≡ false → Masks (suc o) n → rowed t (selected whole (indices_from (suc o) (run m (suc o) n))) ≡ filter (is_true_in name) ((t, s o) ∷ rowed t (run s (suc o) n))
+      left_out : is_true_in column (t, s o) ≡ false → Masks (suc o) n → rowed t (selected whole (indices_from (suc o) (run m (suc o) n))) ≡ filter (is_true_in column) ((t, s o) ∷ rowed t (run s (suc o) n))
       left_out e rest = rw e rest
 
-      by_slot : (x : Slot) → is_true_in name (t, s o) ≡ spec_is_true x → Masks (suc o) n
-          → rowed t (selected whole (indices_from o (x ∷ run m (suc o) n))) ≡ filter (is_true_in name) ((t, s o) ∷ rowed t (run s (suc o) n))
+      by_slot : (x : Slot) → is_true_in column (t, s o) ≡ spec_is_true x → Masks (suc o) n
+          → rowed t (selected whole (indices_from o (x ∷ run m (suc o) n))) ≡ filter (is_true_in column) ((t, s o) ∷ rowed t (run s (suc o) n))
       by_slot (slots.boolean true) e rest =
           let indices : get_or whole o slots.null ≡ s o = subst (λ k. get_or whole k slots.null ≡ s k) first (here 0 (omega arith)) in
           rw (e, indices) (ap (λ rs. (t, s o) ∷ rs) rest)
@@ -257,30 +257,31 @@ and-true : (a b : Bool) → a ≡ true → (a && b) ≡ b
 and-true true b e = refl
 and-true false b e = absurd cc
 
-pub true-rows : (fs : List FieldTree) (name : List ℕ) (a r m b : Layout) → 0 < length fs → AreRowsOf fs (rows_of a) → IsBooleanColumn name a (Some (r, m)) → IsTaken a (mask_indices (slots_of m)) b
-    → rows_of b ≡ filter (is_true_in name) (rows_of a)
-true-rows [] name a r m b some h c taken = absurd (omega (arith, some))
-true-rows (f ∷ fs) name a r m b some h c taken =
+pub true-rows : (fs : List FieldTree) (column : ColumnTree) (a r m b : Layout) → 0 < length fs → AreRowsOf fs (rows_of a) → IsBooleanColumn column a (Some (r, m)) → IsTaken a (mask_indices (slots_of m)) b
+    → rows_of b ≡ filter (is_true_in column) (rows_of a)
+true-rows [] column a r m b some h c taken = absurd (omega (arith, some))
+true-rows (f ∷ fs) column a r m b some h c taken =
     ap (λ t. rowed t (slots_of b)) taken.same_type
     ∙ ap (map (λ s. (layout_type a, s))) (taken.slots ∙ ap (λ n. selected (slots_of a) (indices_from 0 (run (slot m) 0 n))) c.1)
-    ∙ masked-run name (layout_type a) (slots_of a) (slot a) (slot m) 0 (len a)
+    ∙ masked-run column (layout_type a) (slots_of a) (slot a) (slot m) 0 (len a)
     (λ i lt. let e : 0 + i ≡ i = omega arith in subst (λ k. get_or (slots_of a) k slots.null ≡ slot a k) (sym e) (slot-place a i slots.null lt))
     (λ i lt. c.2 (0 + i) ∙ and-true _ _ (there-at f fs (layout_type a) (slot a) 0 (len a) i lt h))
 
-pub no-true-rows : (name : List ℕ) (a : Layout) → IsBooleanColumn name a None → filter (is_true_in name) (rows_of a) ≡ []
-no-true-rows name a h = none 0 (len a)
+pub no-true-rows : (column : ColumnTree) (a : Layout) → IsBooleanColumn column a None → filter (is_true_in column) (rows_of a) ≡ []
+no-true-rows column a h = none 0 (len a)
   where
-    none : (o n : ℕ) → filter (is_true_in name) (map (λ s. (layout_type a, s)) (run (slot a) o n)) ≡ []
+    none : (o n : ℕ) → filter (is_true_in column) (map (λ s. (layout_type a, s)) (run (slot a) o n)) ≡ []
     none o zero = refl
     none o (suc n) = rw (h o) (none (suc o) n)
 
-pub filtered-each : (fs : List FieldTree) (name : List ℕ) (rows : List Row) → AreRowsOf fs rows → AreRowsOf fs (filter (is_true_in name) rows)
-filtered-each fs name rows h = filter-each (IsRowOf fs) (is_true_in name) rows h
+pub filtered-each : (fs : List FieldTree) (column : ColumnTree) (rows : List Row) → AreRowsOf fs rows → AreRowsOf fs (filter (is_true_in column) rows)
+filtered-each fs column rows h = filter-each (IsRowOf fs) (is_true_in column) rows h
 
 pub rows-result : {E : Type 0} (old new rows same : List Row) (r : Result ⊤ E) → rows ≡ same → OnOk r (new ≡ old ++ rows) → OnOk r (new ≡ old ++ same)
 rows-result old new rows same (Ok x) e h = h ∙ ap (λ rs. old ++ rs) e
 rows-result old new rows same (Err x) e h = h
 
-pub some-column : (name : List ℕ) (fs : List FieldTree) → spec_selection_error (where_true name) fs ≡ None → 0 < length fs
-some-column name [] e = absurd cc
-some-column name (f ∷ fs) e = omega arith
+pub some-column : (column : ColumnTree) (fs : List FieldTree) → spec_selection_error (where_true column) fs ≡ None → 0 < length fs
+some-column (named name) [] e = absurd cc
+some-column (indexed i) [] e = absurd cc
+some-column column (f ∷ fs) e = omega arith

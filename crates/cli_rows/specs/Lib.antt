@@ -23,3 +23,4 @@ pub mod SelectedTables
 pub mod TableExamples
 pub mod Errors
 pub mod RowOrder
+pub mod OtherFormats

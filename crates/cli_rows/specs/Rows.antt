@@ -6,6 +6,8 @@ use Rattle.nest_memory.specs.Sublist.{sublist}
 use Rattle.nest_model.specs.Layout.{Layout, layout_type}
 use Rattle.nest_model.specs.Meaning.{slots_of}
 use Rattle.nest_model.specs.Slot.{Slot}
+use Rattle.nest_array.specs.Seen.{layout_of}
+use Rattle.nest_array.specs.declared.any.AnyArray.{AnyArray}
 use Rattle.nest_array.specs.WindowParts.{WindowParts, window_slots}
 
 -- a row: a slot, and the data type of its array
@@ -14,6 +16,10 @@ Row = TypeTree × Slot
 
 abbrev pub rows_of : Layout → List Row
 rows_of a = map (λ s. (layout_type a, s)) (slots_of a)
+
+-- the rows of arrays, one array after another
+abbrev pub rows_of_arrays : List AnyArray → List Row
+rows_of_arrays arrays = flat_map rows_of (map layout_of arrays)
 
 abbrev pub rows_in : WindowParts → List Row
 rows_in w = map (λ s. (layout_type w.array, s)) (window_slots w)

@@ -11,4 +11,4 @@ abbrev pub selected_rows : SelectionTree → List Row → Option (List Row)
 selected_rows all rows = Some rows
 selected_rows (slice o n) rows = Some (sublist rows o n)
 selected_rows (indices places) rows = if list_all (λ p. nat_lt p (length rows)) places then Some (rows_at_indices rows places) else None
-selected_rows (where_true name) rows = Some (filter (is_true_in name) rows)
+selected_rows (where_true column) rows = Some (filter (is_true_in column) rows)

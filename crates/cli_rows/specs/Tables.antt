@@ -6,7 +6,9 @@ use Rattle.nest_model.specs.Layout.{Layout}
 use Rattle.ipc_flatbuf.specs.ReadResults.{◌>>=◌}
 use Rattle.ipc_flatbuf.specs.declared.error.IpcReadError.{IpcReadError}
 use Rattle.ipc_schema.specs.Schemas.{SchemaModel, schema_of}
+use Rattle.ipc_schema.specs.declared.schema.Schema.{Schema}
 use Rattle.ipc_schema.specs.Projections.{ProjectionModel}
+use Rattle.ipc.specs.declared.batch.Batch.{Batch}
 use Rattle.ipc.specs.Streams.{RecordBatchTree, StreamTree, record_batch_of, projected_stream_in}
 use Rattle.ipc.specs.Files.{FileTree, projected_file_in}
 use Rattle.cli_rows.specs.Records.{record_type, records}
@@ -43,6 +45,10 @@ record_rows t = flat_map rows_of (table_records t)
 -- there is a column, the columns have the types of the schema, and in each batch they are of one length
 abbrev pub MatchesSchema : TableTree → Type 0
 MatchesSchema t = AllByRecursion Fits (table_records t)
+
+-- a schema and record batches of the code
+abbrev pub table_of_parts : Schema → List Batch → TableTree
+table_of_parts schema batches = record { schema = schema_of schema; batches = map record_batch_of batches }
 
 -- a table of the code
 abbrev pub table_of : Table → TableTree

@@ -1,5 +1,5 @@
 //! Arrays of rows as record batches.
-ghost use Rattle.std.specs.Prelude.{◌≡◌, ◌++◌, ◌<◌, IfErr, IfOk, IsOkUnless, OnOk, None, Some, length, map, string_bytes};
+ghost use Rattle.std.specs.Prelude.{◌≡◌, ◌<◌, IfErr, IfOk, IsOkUnless, OnOk, None, Some, length, map};
 ghost use Rattle.std.specs.List.{filter, flat_map};
 ghost use Rattle.nest_memory.specs.Physical.{physical_type};
 ghost use Rattle.nest_memory.specs.TypeOf.{field_of};
@@ -10,12 +10,12 @@ ghost use Rattle.nest_model.specs.Layout.{layout_type};
 ghost use Rattle.nest_model.specs.Meaning.{len};
 ghost use Rattle.nest_array.specs.Seen.{layout_of, layouts_of};
 ghost use Rattle.ipc.specs.Streams.{record_batch_of};
-ghost use Rattle.cli_args.specs.RequestTrees.{selection_tree};
+ghost use Rattle.cli_args.specs.RequestTrees.{column_tree, selection_tree};
 ghost use Rattle.cli_rows.specs.Booleans.{is_true_in};
 ghost use Rattle.cli_rows.specs.ColumnNames.{spec_selection_error};
 ghost use Rattle.cli_rows.specs.Compared.{batch_array};
 ghost use Rattle.cli_rows.specs.RequestErrors.{IsIndexError};
-ghost use Rattle.cli_rows.specs.Rows.{rows_in, rows_of};
+ghost use Rattle.cli_rows.specs.Rows.{rows_in, rows_of, rows_of_arrays};
 ghost use Rattle.cli_rows.specs.SelectedTables.{AppendsRows, AreRowsOf, batch_rows};
 ghost use Rattle.cli_rows.specs.Selection.{selected_rows};
 ghost use Rattle.cli_rows.specs.declared.error.CliError.TheVariants.{Memory};
@@ -23,7 +23,7 @@ ghost use Rattle.cli_rows.specs.declared.error.CliError.TheVariants.{Memory};
 use crate::error::CliError;
 use crate::select::{boolean_column, select_rows};
 use crate::take::copied_batches;
-use cli_args::Selection;
+use cli_args::{Column, Selection};
 use ipc::Batch;
 use nest_array::{AnyArray, Window};
 use nest_memory::datatypes::Field;
@@ -79,7 +79,7 @@ pub fn push_batch(
     array: AnyArray,
 ) -> Result<(), CliError>
     requires { AreRowsOf (map field_of fields.now) (rows_of (layout_of array)) }
-    ensures rows { OnOk result (batch_rows (map field_of fields.now) (map record_batch_of batches.new.items) ≡ batch_rows (map field_of fields.now) (map record_batch_of batches.old.items) ++ rows_of (layout_of array)) }
+    ensures rows { OnOk result (AppendsRows (map field_of fields.now) batches.old.items batches.new.items (rows_of (layout_of array))) }
     ensures error { IsOkUnless result Memory }
 {
     if array.len() == 0 {
@@ -119,7 +119,7 @@ fn push_window(
     window: &Window<'_>,
 ) -> Result<(), CliError>
     requires { AreRowsOf (map field_of fields.now) (rows_in window.now) }
-    ensures rows { OnOk result (batch_rows (map field_of fields.now) (map record_batch_of batches.new.items) ≡ batch_rows (map field_of fields.now) (map record_batch_of batches.old.items) ++ rows_in window.now) }
+    ensures rows { OnOk result (AppendsRows (map field_of fields.now) batches.old.items batches.new.items (rows_in window.now)) }
     ensures error { IsOkUnless result Memory }
 {
     if window.is_empty() {
@@ -158,17 +158,17 @@ fn push_where(
     fields: &[Field],
     batches: &mut Vec<Batch>,
     array: &AnyArray,
-    name: &String,
+    column: &Column,
 ) -> Result<(), CliError>
     requires some { 0 < length (map field_of fields.now) }
     requires rows { AreRowsOf (map field_of fields.now) (rows_of (layout_of array.now)) }
-    ensures rows { OnOk result (AppendsRows (map field_of fields.now) batches.old.items batches.new.items (filter (is_true_in (string_bytes name.now)) (rows_of (layout_of array.now)))) }
+    ensures rows { OnOk result (AppendsRows (map field_of fields.now) batches.old.items batches.new.items (filter (is_true_in (column_tree column.now)) (rows_of (layout_of array.now)))) }
     ensures error { IsOkUnless result Memory }
 {
-    let Some((_, column)) = boolean_column(array, name) else {
+    let Some((_, booleans)) = boolean_column(array, column) else {
         return Ok(());
     };
-    match filter(alloc, array, column) {
+    match filter(alloc, array, booleans) {
         Err(_) => Err(CliError::Memory),
         Ok(rows) => push_batch(alloc, fields, batches, rows),
     }
@@ -179,16 +179,16 @@ fn batches_where(
     alloc: Global,
     fields: &[Field],
     arrays: &[AnyArray],
-    name: &String,
+    column: &Column,
 ) -> Result<Vec<Batch>, CliError>
     requires some { 0 < length (map field_of fields.now) }
     requires rows { AreRowsOf (map field_of fields.now) (flat_map rows_of (map layout_of arrays.now)) }
-    ensures rows { IfOk result (λ v. batch_rows (map field_of fields.now) (map record_batch_of v.items) ≡ filter (is_true_in (string_bytes name.now)) (flat_map rows_of (map layout_of arrays.now))) }
+    ensures rows { IfOk result (λ v. batch_rows (map field_of fields.now) (map record_batch_of v.items) ≡ filter (is_true_in (column_tree column.now)) (flat_map rows_of (map layout_of arrays.now))) }
     ensures error { IsOkUnless result Memory }
 {
     let mut batches = Vec::new(alloc);
     for array in arrays {
-        push_where(alloc, fields, &mut batches, array, name)?;
+        push_where(alloc, fields, &mut batches, array, column)?;
     }
     Ok(batches)
 }
@@ -206,11 +206,11 @@ pub fn selected_batches(
 ) -> Result<Vec<Batch>, CliError>
     requires columns { spec_selection_error (selection_tree selection.now) (map field_of fields.now) ≡ None }
     requires rows { AreRowsOf (map field_of fields.now) (flat_map rows_of (map layout_of arrays.now)) }
-    ensures rows { IfOk result (λ v. selected_rows (selection_tree selection.now) (flat_map rows_of (map layout_of arrays.now)) ≡ Some (batch_rows (map field_of fields.now) (map record_batch_of v.items))) }
+    ensures rows { IfOk result (λ v. selected_rows (selection_tree selection.now) (rows_of_arrays arrays.now) ≡ Some (batch_rows (map field_of fields.now) (map record_batch_of v.items))) }
     ensures error { IfErr result (λ e. IsIndexError e (selected_rows (selection_tree selection.now) (flat_map rows_of (map layout_of arrays.now)))) }
 {
-    if let Selection::Where(name) = selection {
-        return batches_where(alloc, fields, arrays, name);
+    if let Selection::Where(column) = selection {
+        return batches_where(alloc, fields, arrays, column);
     }
     match select_rows(alloc, selection, arrays)? {
         None => Err(CliError::IndexOutOfRange),

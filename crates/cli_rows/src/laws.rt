@@ -1,15 +1,16 @@
 //! Examples and laws of selected rows, text and tables. Each function's contract is an example or a law, and its body is empty.
 ghost use Rattle.std.specs.Prelude.{◌≡◌, ◌++◌, ℕ, List, [], ◌∷◌, true, false, Ok, Option, Some, None, codes};
-ghost use Rattle.cli_args.specs.Requests.{all, columns, indices, rows, slice, where_true};
+ghost use Rattle.nest_memory.specs.TypeTree.{FieldTree};
+ghost use Rattle.cli_args.specs.Requests.{SelectionTree, all, columns, indexed, indices, named, rows, slice, where_true};
 ghost use Rattle.cli_rows.specs.ColumnExamples.{ok_and_id};
-ghost use Rattle.cli_rows.specs.ColumnNames.{request_error};
+ghost use Rattle.cli_rows.specs.ColumnNames.{request_error, resolved_selection, spec_selection_error};
 ghost use Rattle.cli_rows.specs.Compared.{IsTableDifference};
 ghost use Rattle.cli_rows.specs.Concatenated.{IsConcatenation};
 ghost use Rattle.cli_rows.specs.Difference.{AreEqualUpTo, IsDifference};
 ghost use Rattle.cli_rows.specs.ListExamples.{other_numbers, three_numbers, two_numbers};
 ghost use Rattle.cli_rows.specs.Rows.{Row};
 ghost use Rattle.cli_rows.specs.SelectExamples.{first, null_record, second, third, three};
-ghost use Rattle.cli_rows.specs.SelectedTables.{IsSelectedFrom};
+ghost use Rattle.cli_rows.specs.SelectedTables.{AreRowsOf, IsSelectedFrom};
 ghost use Rattle.cli_rows.specs.Selection.{selected_rows};
 ghost use Rattle.cli_rows.specs.TableExamples.{boolean_table, columnless_table, three_booleans};
 ghost use Rattle.cli_rows.specs.Tables.{TableTree};
@@ -21,9 +22,9 @@ ghost use Rattle.cli_rows.specs.declared.error.CliError.TheVariants.{UnknownColu
 
 /// Of a boolean column and an integer column: the first, the second, an unknown name, and no name.
 pub fn columns_are_found_by_name()
-    ensures found { request_error (rows (where_true (codes "ok"))) ok_and_id ≡ None }
-    ensures numbers { request_error (rows (where_true (codes "id"))) ok_and_id ≡ Some NotBoolean }
-    ensures absent { request_error (rows (where_true (codes "o"))) ok_and_id ≡ Some UnknownColumn }
+    ensures found { request_error (rows (where_true (named (codes "ok")))) ok_and_id ≡ None }
+    ensures numbers { request_error (rows (where_true (named (codes "id")))) ok_and_id ≡ Some NotBoolean }
+    ensures absent { request_error (rows (where_true (named (codes "o")))) ok_and_id ≡ Some UnknownColumn }
     ensures unnamed { request_error columns ok_and_id ≡ None }
 {}
 
@@ -46,9 +47,23 @@ pub fn rows_are_selected()
 /// The rows where the first column of a name is true: neither null nor false, in a valid record. None if the column is not boolean, or
 /// there is no column of the name.
 pub fn rows_where_true_are_selected()
-    ensures column { selected_rows (where_true (codes "ok")) (third ∷ first ∷ second ∷ null_record ∷ first ∷ []) ≡ Some (first ∷ first ∷ []) }
-    ensures numbers { selected_rows (where_true (codes "id")) three ≡ Some [] }
-    ensures absent { selected_rows (where_true (codes "o")) three ≡ Some [] }
+    ensures column { selected_rows (where_true (named (codes "ok"))) (third ∷ first ∷ second ∷ null_record ∷ first ∷ []) ≡ Some (first ∷ first ∷ []) }
+    ensures numbers { selected_rows (where_true (named (codes "id"))) three ≡ Some [] }
+    ensures absent { selected_rows (where_true (named (codes "o"))) three ≡ Some [] }
+{}
+
+/// Columns of names `id` and `ok`, by their indices; an unknown name stays.
+pub fn names_are_resolved()
+    ensures first { resolved_selection ok_and_id (where_true (named (codes "ok"))) ≡ where_true (indexed 0) }
+    ensures second { resolved_selection ok_and_id (where_true (named (codes "id"))) ≡ where_true (indexed 1) }
+    ensures absent { resolved_selection ok_and_id (where_true (named (codes "o"))) ≡ where_true (named (codes "o")) }
+    ensures rows { selected_rows (where_true (indexed 1)) (third ∷ first ∷ second ∷ null_record ∷ []) ≡ Some (first ∷ []) }
+{}
+
+/// A resolved selection has the same error, and selects the same rows of record batches of the fields.
+pub fn resolved_selections_select_the_same()
+    ensures error { (fs : List FieldTree) (c : SelectionTree) → spec_selection_error (resolved_selection fs c) fs ≡ spec_selection_error c fs }
+    ensures rows { (fs : List FieldTree) (c : SelectionTree) (rows : List Row) → AreRowsOf fs rows → selected_rows (resolved_selection fs c) rows ≡ selected_rows c rows }
 {}
 
 /// Three numbers compared with the same three; with another second number; with two of them.
@@ -106,7 +121,7 @@ pub fn selected_rows_are_a_table()
     ensures batch { IsSelectedFrom (slice 1 9) three_booleans (boolean_table ((false ∷ true ∷ []) ∷ [])) }
     ensures none { IsSelectedFrom (slice 3 1) three_booleans (boolean_table []) }
     ensures indices { IsSelectedFrom (indices (1 ∷ 0 ∷ 1 ∷ [])) three_booleans (boolean_table ((false ∷ true ∷ false ∷ []) ∷ [])) }
-    ensures column { IsSelectedFrom (where_true (codes "ok")) three_booleans (boolean_table ((true ∷ []) ∷ (true ∷ []) ∷ [])) }
+    ensures column { IsSelectedFrom (where_true (named (codes "ok"))) three_booleans (boolean_table ((true ∷ []) ∷ (true ∷ []) ∷ [])) }
 {}
 
 /// Neither another row, fewer or more rows, another order, nor another schema. No rows by an index out of range, or of an unknown column.
@@ -117,7 +132,7 @@ pub fn other_rows_are_not_selected()
     ensures order { IsSelectedFrom (indices (1 ∷ 0 ∷ [])) three_booleans (boolean_table ((true ∷ false ∷ []) ∷ [])) → ⊥ }
     ensures schema { IsSelectedFrom (slice 3 1) three_booleans (columnless_table []) → ⊥ }
     ensures index { IsSelectedFrom (indices (3 ∷ [])) three_booleans (boolean_table []) → ⊥ }
-    ensures column { IsSelectedFrom (where_true (codes "o")) three_booleans (boolean_table []) → ⊥ }
+    ensures column { IsSelectedFrom (where_true (named (codes "o"))) three_booleans (boolean_table []) → ⊥ }
 {}
 
 /// Selected rows of tables without columns are counted: a slice of two rows in two batches, and two rows by index; not one of two rows.

@@ -1,24 +1,19 @@
 //! The text that a request prints.
 ghost use Rattle.std.specs.Prelude.{◌≡◌, IfErr, IfOk, Some, map, option_map, string_bytes};
 ghost use Rattle.std.specs.List.{flat_map};
-ghost use Rattle.nest_memory.specs.TypeOf.{type_of};
 ghost use Rattle.nest_array.specs.Seen.{layout_of};
-ghost use Rattle.ipc.specs.Streams.{record_batch_of};
-ghost use Rattle.ipc_schema.specs.Schemas.{schema_of};
 ghost use Rattle.cli_args.specs.Requests.{columns, rows};
 ghost use Rattle.cli_args.specs.RequestTrees.{request_tree, selection_tree};
-ghost use Rattle.cli_rows.specs.Records.{record_type};
 ghost use Rattle.cli_rows.specs.RequestErrors.{IsIndexError, IsRequestError};
 ghost use Rattle.cli_rows.specs.RequestText.{spec_request_text};
 ghost use Rattle.cli_rows.specs.Rows.{rows_of};
 ghost use Rattle.cli_rows.specs.Selection.{selected_rows};
-ghost use Rattle.cli_rows.specs.Tables.{table_of};
+ghost use Rattle.cli_rows.specs.Tables.{table_of, table_of_parts};
 ghost use Rattle.cli_rows.specs.Text.{text_of_rows};
 
 use crate::columns::selection_error;
 use crate::error::CliError;
 use crate::records::record_arrays;
-use crate::schema::row_type;
 use crate::select::select_rows;
 use crate::table::Table;
 use crate::text::{row_lines, schema_lines};
@@ -26,7 +21,6 @@ use cli_args::{Request, Selection};
 use ipc::Batch;
 use ipc_schema::Schema;
 use nest_array::AnyArray;
-use nest_memory::datatypes::DataType;
 use std::alloc::Global;
 
 /// Returns the selected rows as lines.
@@ -48,19 +42,17 @@ fn selected_lines(
 fn rows_text(
     alloc: Global,
     schema: &Schema,
-    row_type: &DataType,
     selection: &Selection,
     batches: Vec<Batch>,
 ) -> Result<String, CliError>
-    requires { type_of row_type.now ≡ record_type (schema_of schema.now).fields }
-    ensures text { IfOk result (λ text. spec_request_text (rows (selection_tree selection.now)) (record { schema = schema_of schema.now; batches = map record_batch_of batches.items }) ≡ Some (string_bytes text)) }
-    ensures error { IfErr result (λ e. IsRequestError e (rows (selection_tree selection.now)) (record { schema = schema_of schema.now; batches = map record_batch_of batches.items })) }
+    ensures text { IfOk result (λ text. spec_request_text (rows (selection_tree selection.now)) (table_of_parts schema.now batches.items) ≡ Some (string_bytes text)) }
+    ensures error { IfErr result (λ e. IsRequestError e (rows (selection_tree selection.now)) (table_of_parts schema.now batches.items)) }
 {
     if let Some(error) = selection_error(selection, &schema.fields) {
         drop(batches);
         return Err(error);
     }
-    match record_arrays(alloc, schema, row_type, batches) {
+    match record_arrays(alloc, schema, batches) {
         Err(error) => Err(error),
         Ok(arrays) => {
             let text = selected_lines(alloc, selection, &arrays);
@@ -72,15 +64,14 @@ fn rows_text(
 
 /// Returns the schema as lines.
 fn schema_text(alloc: Global, schema: &Schema, batches: Vec<Batch>) -> Result<String, CliError>
-    ensures text { IfOk result (λ text. spec_request_text columns (record { schema = schema_of schema.now; batches = map record_batch_of batches.items }) ≡ Some (string_bytes text)) }
-    ensures error { IfErr result (λ e. IsRequestError e columns (record { schema = schema_of schema.now; batches = map record_batch_of batches.items })) }
+    ensures text { IfOk result (λ text. spec_request_text columns (table_of_parts schema.now batches.items) ≡ Some (string_bytes text)) }
+    ensures error { IfErr result (λ e. IsRequestError e columns (table_of_parts schema.now batches.items)) }
 {
     drop(batches);
     Ok(schema_lines(alloc, &schema.fields)?)
 }
 
-/// Returns the text that a request prints of record batches: a line for each column, or for each selected row. `row_type` is the data type
-/// of a row.
+/// Returns the text that a request prints of record batches: a line for each column, or for each selected row.
 ///
 /// # Errors
 /// First `UnknownColumn` if there is no column of the name of `Where`, and `NotBoolean` if the first one is not boolean. Then
@@ -89,17 +80,15 @@ fn schema_text(alloc: Global, schema: &Schema, batches: Vec<Batch>) -> Result<St
 pub fn request_text(
     alloc: Global,
     schema: &Schema,
-    row_type: &DataType,
     request: &Request,
     batches: Vec<Batch>,
 ) -> Result<String, CliError>
-    requires { type_of row_type.now ≡ record_type (schema_of schema.now).fields }
-    ensures text { IfOk result (λ text. spec_request_text (request_tree request.now) (record { schema = schema_of schema.now; batches = map record_batch_of batches.items }) ≡ Some (string_bytes text)) }
-    ensures error { IfErr result (λ e. IsRequestError e (request_tree request.now) (record { schema = schema_of schema.now; batches = map record_batch_of batches.items })) }
+    ensures text { IfOk result (λ text. spec_request_text (request_tree request.now) (table_of_parts schema.now batches.items) ≡ Some (string_bytes text)) }
+    ensures error { IfErr result (λ e. IsRequestError e (request_tree request.now) (table_of_parts schema.now batches.items)) }
 {
     match request {
         Request::Columns => schema_text(alloc, schema, batches),
-        Request::Rows(selection) => rows_text(alloc, schema, row_type, selection, batches),
+        Request::Rows(selection) => rows_text(alloc, schema, selection, batches),
     }
 }
 
@@ -112,17 +101,7 @@ pub fn table_text(alloc: Global, request: &Request, table: Table) -> Result<Stri
     ensures error { IfErr result (λ e. IsRequestError e (request_tree request.now) (table_of table)) }
 {
     let Table { schema, batches } = table;
-    match row_type(alloc, &schema.fields) {
-        Err(error) => {
-            drop(schema);
-            drop(batches);
-            Err(error)
-        }
-        Ok(row_type) => {
-            let text = request_text(alloc, &schema, &row_type, request, batches);
-            drop(schema);
-            drop(row_type);
-            text
-        }
-    }
+    let text = request_text(alloc, &schema, request, batches);
+    drop(schema);
+    text
 }

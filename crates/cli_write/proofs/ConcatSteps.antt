@@ -1,5 +1,5 @@
 -- Steps of concatenating inputs.
-use Rattle.std.proofs.Common.{◌≡◌, ◌∙◌, ◌⊎◌, inl, inr, ℕ, ◌+◌, List, [], ◌++◌, Option, Some, None, Result, Ok, Err, refl, sym, ap, subst}
+use Rattle.std.proofs.Common.{◌≡◌, ◌∙◌, ◌⊎◌, inl, inr, ℕ, ◌+◌, List, [], ◌++◌, Option, Some, None, Ok, refl, sym, subst}
 use Rattle.std.specs.Option.{option_map}
 use Rattle.ipc.specs.Streams.{RecordBatchTree}
 use Rattle.ipc_schema.specs.Schemas.{SchemaModel}
@@ -9,10 +9,9 @@ use Rattle.cli_read.specs.Remaining.{FailsToOpen, StartsEmpty, IsOpened, Remaini
 use Rattle.cli_read.specs.RowBuffers.{table_of_batches}
 use Rattle.cli_read.proofs.BufferSteps.{held-at}
 use Rattle.cli_rows.specs.declared.error.CliError.{CliError}
-use Rattle.cli_rows.specs.declared.error.CliError.TheVariants.{Memory}
 use Rattle.cli_args.specs.Requests.{all}
 use Rattle.cli_args.specs.declared.format.Format as forms
-use Rattle.cli_write.specs.Copies.{Copies, HasAllRows, FailsAt}
+use Rattle.cli_write.specs.Copies.{HasAllRows, FailsAt}
 use Rattle.cli_write.specs.Concat.{HasSchema, IsAppendError, WritesRemaining, WritesFirst, AppendsInput}
 use Rattle.cli_write.specs.Writers.{HasWritten, writer_schema}
 use Rattle.cli_write.specs.CopyStates.{CopyEnd, CopyState, FailsAfter, IsCopyStateError}
@@ -20,7 +19,7 @@ use Rattle.cli_write.specs.declared.concat.AppendError.{AppendError}
 use Rattle.cli_write.specs.declared.concat.AppendError.TheVariants as whys
 use Rattle.cli_write.specs.declared.writer.BatchWriter.{BatchWriter}
 use Rattle.cli_write.specs.declared.writer.BatchWriter.TheVariants.{File, Stream}
-use Rattle.cli_write.proofs.CopySteps.{begun, held-why, opened}
+use Rattle.cli_write.proofs.CopySteps.{begun, held-why}
 
 module _ {W : Type 0} (contents : W → Option (List ℕ)) where
   pub put-schema : (form : forms.Format) (start : W) (s : SchemaModel) (went : List RecordBatchTree) (writer : BatchWriter W) → HasWritten contents form start s went writer → writer_schema writer ≡ s
@@ -74,7 +73,3 @@ pub unappended-opened : (e : AppendError) (form : forms.Format) (s : SchemaModel
 unappended-opened e form s went None r t o h = tt
 unappended-opened e form s went (Some x) r None o h = absurd o
 unappended-opened e form s went (Some x) r (Some t) o h = subst (λ (y : Decoded). IsAppendError e form s went (Some y)) (sym o) h
-
-pub out-of-memory : (form : forms.Format) (s : SchemaModel) (went : List RecordBatchTree) (x : Option Decoded) → IsAppendError (whys.Batch (record { batch = None; error = Memory })) form s went x
-out-of-memory form s went None = tt
-out-of-memory form s went (Some x) = (tt, tt)

@@ -1,11 +1,9 @@
 -- Steps of copying record batches.
-use Rattle.std.proofs.Common.{◌≡◌, ◌⊎◌, inl, inr, ℕ, ◌+◌, true, false, List, [], ◌∷◌, ◌++◌, length, map, Option, Some, None, Ok, Err, refl, sym, ap, ◌∙◌, subst, arith, append_assoc, append-nil, length-append}
-use Rattle.std.specs.Prelude.{Result, OnOk}
-use Rattle.std.specs.List.{AllByRecursion}
+use Rattle.std.proofs.Common.{◌≡◌, ◌⊎◌, inl, inr, ℕ, ◌+◌, true, false, List, [], ◌∷◌, ◌++◌, length, Option, Some, None, Ok, Err, sym, ap, ◌∙◌, subst, append_assoc, append-nil, length-append}
+use Rattle.std.specs.Prelude.{Result}
 use Rattle.std.specs.Option.{option_map}
 use Rattle.std.specs.Io.KnownBytes.{Appends}
 use Rattle.nest_memory.specs.TypeTree.{FieldTree}
-use Rattle.nest_model.specs.Fits.{Fits}
 use Rattle.ipc_flatbuf.specs.declared.error.IpcReadError as formats
 use Rattle.ipc_flatbuf.specs.declared.error.IpcWriteError as reasons
 use Rattle.ipc_schema.specs.Schemas.{SchemaModel}
@@ -19,9 +17,7 @@ use Rattle.cli_read.specs.Decoded.{Decoded, table_with}
 use Rattle.cli_rows.specs.declared.error.BatchError.{BatchError}
 use Rattle.cli_read.specs.Remaining.{FailsNext, FailsToOpen, ReturnsNext, StartsEmpty, IsOpened, IsReadFailure, Remaining, with_schema}
 use Rattle.cli_read.specs.RowBuffers.{IsAfter, table_of_batches}
-use Rattle.cli_read.specs.Comparisons.{IsBatchReadError}
 use Rattle.cli_read.proofs.BufferSteps.{behind-error, behind-first, behind-more, behind-none as none-behind, behind-whole, fits-last, held-at}
-use Rattle.cli_rows.specs.Compared.{batch_array}
 use Rattle.cli_rows.specs.Encodings.{IsEncodingOf, write_refusal}
 use Rattle.cli_rows.specs.Tables.{TableTree}
 use Rattle.cli_rows.specs.Output.{HasTable}
@@ -31,9 +27,9 @@ use Rattle.cli_args.specs.Requests.{SelectionTree}
 use Rattle.cli_args.specs.declared.format.Format as forms
 use Rattle.cli_write.specs.RemainingSelections.{AreSelectedBatches, IsBatchSelectionError}
 use Rattle.cli_rows.specs.RowOrder.{IsInRowOrder, is_complete_selection, remaining_selection}
-use Rattle.cli_write.specs.Copies.{IsSufficient, Copies, IsCopy, HasAllRows, IsWriteRefusal, FailsAt, IsCopyError, WritesCopy}
-use Rattle.cli_write.specs.Writers.{FailsFinish, FailsBatch, FailsBatches, FailsSchema, FailsWrite, HasWritten, WritesTableBatches}
-use Rattle.cli_write.specs.CopyStates.{CopyEnd, CopyState, FailsNextBatch, FailsToWriteSelection, IsCopyEnd, IsCopyState, FailsAfter, IsCopyStateError, IsCopyStep, WritesSelection}
+use Rattle.cli_write.specs.Copies.{IsSufficient, Copies, IsCopy, HasAllRows, IsWriteRefusal, FailsAt, IsCopyError}
+use Rattle.cli_write.specs.Writers.{FailsFinish, FailsBatch, FailsBatches, FailsSchema, HasWritten, WritesTableBatches}
+use Rattle.cli_write.specs.CopyStates.{CopyEnd, CopyState, FailsNextBatch, FailsToWriteSelection, FailsAfter, IsCopyStateError, WritesSelection}
 use Rattle.cli_write.specs.declared.writer.BatchWriter.{BatchWriter}
 use Rattle.cli_write.proofs.Lists.{IsOfColumn, rows-both, behind-none, behind-twice, column-behind, copied-more, copied-none, enough, is-copy, no-place, not-enough, of-column}
 
@@ -282,7 +278,3 @@ module _ {W : Type 0} (contents : W → Option (List ℕ)) where
   pub unopened : (form : forms.Format) (c : SelectionTree) (x : Option Decoded) (start : W) (error : CliError) → FailsToOpen error x → Copies contents form c x start (Err (record { batch = None; error = error }))
   unopened form c None start error h = tt
   unopened form c (Some x) start error h = held-why error c form [] (x.first 0) h
-
-  pub out-of-memory : (form : forms.Format) (c : SelectionTree) (x : Option Decoded) (start : W) → Copies contents form c x start (Err (record { batch = None; error = causes.Memory }))
-  out-of-memory form c None start = tt
-  out-of-memory form c (Some x) start = tt

@@ -12,7 +12,7 @@ use Rattle.nest_array.specs.declared.any.AnyArray.{AnyArray}
 use Rattle.ipc_schema.specs.Schemas.{SchemaModel}
 use Rattle.ipc.specs.Streams.{RecordBatchTree}
 use Rattle.cli_rows.specs.RequestText.{unless_error}
-use Rattle.cli_rows.specs.ColumnNames.{spec_boolean_error, spec_selection_error, spec_field_named}
+use Rattle.cli_rows.specs.ColumnNames.{field_of_column, spec_boolean_error, spec_selection_error}
 use Rattle.cli_rows.specs.Records.{side_by_side}
 use Rattle.cli_rows.specs.declared.error.CliError.{CliError}
 use Rattle.cli_rows.specs.Selection.{selected_rows}
@@ -53,7 +53,7 @@ behind-none (slice o n) =
     let e : o - 0 ≡ o = omega arith in
     let f : n - (0 - o) ≡ n = omega arith in
     ap (λ x. slice x (n - (0 - o))) e ∙ ap (slice o) f
-behind-none (where_true name) = refl
+behind-none (where_true column) = refl
 behind-none (indices places) = refl
 
 pub behind-twice : (c : SelectionTree) (a b : ℕ) → remaining_selection (remaining_selection c a) b ≡ remaining_selection c (a + b)
@@ -62,19 +62,19 @@ behind-twice (slice o n) a b =
     let e : (o - a) - b ≡ o - (a + b) = omega arith in
     let f : (n - (a - o)) - (b - (o - a)) ≡ n - (a + b - o) = omega arith in
     ap (λ x. slice x ((n - (a - o)) - (b - (o - a)))) e ∙ ap (slice (o - (a + b))) f
-behind-twice (where_true name) a b = refl
+behind-twice (where_true column) a b = refl
 behind-twice (indices places) a b = refl
 
 pub column-behind : (c : SelectionTree) (k : ℕ) (fs : List FieldTree) → spec_selection_error (remaining_selection c k) fs ≡ spec_selection_error c fs
 column-behind all k fs = refl
 column-behind (slice o n) k fs = refl
-column-behind (where_true name) k fs = refl
+column-behind (where_true column) k fs = refl
 column-behind (indices places) k fs = refl
 
 pub enough : (c : SelectionTree) (s : SchemaModel) (bs : List RecordBatchTree) → is_complete_selection (remaining_selection c (length (batch_rows s.fields bs))) ≡ true → HasAllRows c (table_of_batches s bs)
 enough all s bs h = absurd cc
 enough (slice o n) s bs h = let e = eqb-true (n - (length (batch_rows s.fields bs) - o)) 0 h in omega (arith, e)
-enough (where_true name) s bs h = absurd cc
+enough (where_true column) s bs h = absurd cc
 enough (indices places) s bs h = absurd cc
 
 pub not-enough : (c : SelectionTree) (s : SchemaModel) (bs : List RecordBatchTree) → is_complete_selection (remaining_selection c (length (batch_rows s.fields bs))) ≡ false → HasAllRows c (table_of_batches s bs) → ⊥
@@ -83,7 +83,7 @@ not-enough (slice o n) s bs h e =
     let none : n - (length (batch_rows s.fields bs) - o) ≡ 0 = omega (arith, e) in
     let untrue : (0 == 0) ≡ false = subst (λ (m : ℕ). (m == 0) ≡ false) none h in
     cc
-not-enough (where_true name) s bs h e = absurd e
+not-enough (where_true column) s bs h e = absurd e
 not-enough (indices places) s bs h e = absurd e
 
 some-is : {A : Type 0} (x y : A) → Some x ≡ Some y → x ≡ y
@@ -92,7 +92,7 @@ some-is x y e = cc
 pub copied-none : (c : SelectionTree) (fs : List FieldTree) → IsInRowOrder c → AreSelectedBatches c fs [] []
 copied-none all fs h = refl
 copied-none (slice o n) fs h = ap Some (cut-none o n)
-copied-none (where_true name) fs h = refl
+copied-none (where_true column) fs h = refl
 copied-none (indices places) fs h = absurd h
 
 pub copied-more : (c : SelectionTree) (fs : List FieldTree) (bs vs more ws : List RecordBatchTree) → IsInRowOrder c → AreSelectedBatches c fs bs vs → AreSelectedBatches (remaining_selection c (length (batch_rows fs bs))) fs more ws → AreSelectedBatches c fs (bs ++ more) (vs ++ ws)
@@ -103,29 +103,29 @@ copied-more (slice o n) fs bs vs more ws h e f =
     let y : sublist (batch_rows fs more) (o - k) (n - (k - o)) ≡ batch_rows fs ws = some-is (sublist (batch_rows fs more) (o - k) (n - (k - o))) (batch_rows fs ws) f in
     ap (λ rs. Some (sublist rs o n)) (rows-both fs bs more)
     ∙ ap Some (cut-two (batch_rows fs bs) (batch_rows fs more) o n ∙ (λ i. x i ++ y i) ∙ sym (rows-both fs vs ws))
-copied-more (where_true name) fs bs vs more ws h e f =
-    let x : filter (is_true_in name) (batch_rows fs bs) ≡ batch_rows fs vs = some-is (filter (is_true_in name) (batch_rows fs bs)) (batch_rows fs vs) e in
-    let y : filter (is_true_in name) (batch_rows fs more) ≡ batch_rows fs ws = some-is (filter (is_true_in name) (batch_rows fs more)) (batch_rows fs ws) f in
-    ap (λ rs. Some (filter (is_true_in name) rs)) (rows-both fs bs more)
-    ∙ ap Some (filter-append (is_true_in name) (batch_rows fs bs) (batch_rows fs more) ∙ (λ i. x i ++ y i) ∙ sym (rows-both fs vs ws))
+copied-more (where_true column) fs bs vs more ws h e f =
+    let x : filter (is_true_in column) (batch_rows fs bs) ≡ batch_rows fs vs = some-is (filter (is_true_in column) (batch_rows fs bs)) (batch_rows fs vs) e in
+    let y : filter (is_true_in column) (batch_rows fs more) ≡ batch_rows fs ws = some-is (filter (is_true_in column) (batch_rows fs more)) (batch_rows fs ws) f in
+    ap (λ rs. Some (filter (is_true_in column) rs)) (rows-both fs bs more)
+    ∙ ap Some (filter-append (is_true_in column) (batch_rows fs bs) (batch_rows fs more) ∙ (λ i. x i ++ y i) ∙ sym (rows-both fs vs ws))
 copied-more (indices places) fs bs vs more ws h e f = absurd h
 
 pub is-copy : (c : SelectionTree) (s : SchemaModel) (bs vs : List RecordBatchTree) → spec_selection_error c s.fields ≡ None → AreSelectedBatches c s.fields bs vs → IsCopy c (table_of_batches s bs) (table_of_batches s vs)
 is-copy all s bs vs none e = ap (table_of_batches s) e
 is-copy (slice o n) s bs vs none e = (refl, e)
-is-copy (where_true name) s bs vs none e = (refl, ap (λ f. unless_error f (selected_rows (where_true name) (batch_rows s.fields bs))) none ∙ e)
+is-copy (where_true column) s bs vs none e = (refl, ap (λ f. unless_error f (selected_rows (where_true column) (batch_rows s.fields bs))) none ∙ e)
 is-copy (indices places) s bs vs none e = (refl, e)
 
 pub no-place : (c : SelectionTree) (k : ℕ) (rows : List Row) → IsInRowOrder c → selected_rows (remaining_selection c k) rows ≡ None → ⊥
 no-place all k rows h e = cc
 no-place (slice o n) k rows h e = cc
-no-place (where_true name) k rows h e = cc
+no-place (where_true column) k rows h e = cc
 no-place (indices places) k rows h e = h
 
 pub picked-copied : (c : SelectionTree) (fs : List FieldTree) (bs vs : List RecordBatchTree) → (c ≡ all → ⊥) → AreSelectedRows c fs bs vs → AreSelectedBatches c fs bs vs
 picked-copied all fs bs vs other e = absurd (other refl)
 picked-copied (slice o n) fs bs vs other e = e
-picked-copied (where_true name) fs bs vs other e = e
+picked-copied (where_true column) fs bs vs other e = e
 picked-copied (indices places) fs bs vs other e = e
 
 abbrev pub IsOfColumn : CliError → Type 0
@@ -143,7 +143,7 @@ pub of-column : (c : SelectionTree) (fs : List FieldTree) (r : CliError) → spe
 of-column all fs r e = absurd cc
 of-column (slice o n) fs r e = absurd cc
 of-column (indices places) fs r e = absurd cc
-of-column (where_true name) fs r e = by (spec_field_named name fs) e
+of-column (where_true column) fs r e = by (field_of_column column fs) e
   where
     if-boolean : (b : Bool) → (if b then None else Some causes.NotBoolean) ≡ Some r → IsOfColumn r
     if-boolean true e = absurd cc

@@ -28,14 +28,14 @@ use Rattle.cli_args.specs.declared.format.Format.TheVariants.{File, Stream}
 abbrev pub HasAllRows : SelectionTree → TableTree → Type 0
 HasAllRows (slice o n) h = n ≤ length (table_rows h) - o
 HasAllRows all h = ⊥
-HasAllRows (where_true name) h = ⊥
+HasAllRows (where_true column) h = ⊥
 HasAllRows (indices places) h = ⊥
 
 -- the selected rows with the same schema; of all rows the same record batches
 abbrev pub IsCopy : SelectionTree → TableTree → TableTree → Type 0
 IsCopy all h t = t ≡ h
 IsCopy (slice o n) h t = IsSelectedFrom (slice o n) h t
-IsCopy (where_true name) h t = IsSelectedFrom (where_true name) h t
+IsCopy (where_true column) h t = IsSelectedFrom (where_true column) h t
 IsCopy (indices places) h t = IsSelectedFrom (indices places) h t
 
 -- bytes were written that decode to a copy

@@ -1,6 +1,7 @@
 pub mod RemainingSelections
 pub mod Copies
 pub mod Concat
+pub mod ConcatExamples
 pub mod Writers
 pub mod CopyStates
 pub mod LineExamples

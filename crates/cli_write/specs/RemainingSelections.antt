@@ -21,7 +21,7 @@ AreSelectedRows c fs bs vs = selected_rows c (batch_rows fs bs) ≡ Some (batch_
 abbrev pub AreSelectedBatches : SelectionTree → List FieldTree → List RecordBatchTree → List RecordBatchTree → Type 0
 AreSelectedBatches all fs bs vs = vs ≡ bs
 AreSelectedBatches (slice o n) fs bs vs = AreSelectedRows (slice o n) fs bs vs
-AreSelectedBatches (where_true name) fs bs vs = AreSelectedRows (where_true name) fs bs vs
+AreSelectedBatches (where_true column) fs bs vs = AreSelectedRows (where_true column) fs bs vs
 AreSelectedBatches (indices places) fs bs vs = AreSelectedRows (indices places) fs bs vs
 
 -- why no rows of record batches are selected

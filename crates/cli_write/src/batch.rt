@@ -1,10 +1,8 @@
 //! Selected rows of one record batch.
 ghost use Rattle.std.specs.Prelude.{◌≡◌, [], ◌∷◌, IfErr, IfOk, length, map};
-ghost use Rattle.nest_memory.specs.TypeOf.{type_of};
 ghost use Rattle.ipc.specs.Streams.{record_batch_of};
 ghost use Rattle.ipc_schema.specs.Schemas.{schema_of};
 ghost use Rattle.cli_args.specs.RequestTrees.{selection_tree};
-ghost use Rattle.cli_rows.specs.Records.{record_type};
 ghost use Rattle.cli_rows.specs.SelectedTables.{batch_rows};
 ghost use Rattle.cli_rows.specs.declared.error.CliError.TheVariants.{Memory};
 ghost use Rattle.cli_write.specs.RemainingSelections.{AreSelectedBatches, AreSelectedRows, IsBatchSelectionError};
@@ -13,7 +11,6 @@ use cli_args::Selection;
 use cli_rows::{CliError, row_array, selected_batches, selection_error};
 use ipc::Batch;
 use ipc_schema::Schema;
-use nest_memory::datatypes::DataType;
 use std::alloc::Global;
 use std::slice;
 
@@ -44,11 +41,9 @@ fn single_batch(alloc: Global, batch: Batch) -> Result<Vec<Batch>, CliError>
 fn selected_rows_of(
     alloc: Global,
     schema: &Schema,
-    row_type: &DataType,
     selection: &Selection,
     batch: Batch,
 ) -> Result<Vec<Batch>, CliError>
-    requires { type_of row_type.now ≡ record_type (schema_of schema.now).fields }
     ensures rows { IfOk result (λ v. AreSelectedRows (selection_tree selection.now) (schema_of schema.now).fields (record_batch_of batch ∷ []) (map record_batch_of v.items)) }
     ensures error { IfErr result (λ e. IsBatchSelectionError e (selection_tree selection.now) (schema_of schema.now).fields (record_batch_of batch ∷ [])) }
 {
@@ -56,7 +51,7 @@ fn selected_rows_of(
         drop(batch);
         return Err(error);
     }
-    match row_array(alloc, schema, row_type, batch) {
+    match row_array(alloc, schema, batch) {
         Err(error) => Err(error),
         Ok(array) => {
             let rows = slice::from_ref(&array);
@@ -67,20 +62,18 @@ fn selected_rows_of(
     }
 }
 
-/// Selects rows of a record batch. `All` returns the batch unchanged. `row_type` is the data type of a row.
+/// Selects rows of a record batch. `All` returns the batch unchanged.
 pub(crate) fn select_from_batch(
     alloc: Global,
     schema: &Schema,
-    row_type: &DataType,
     selection: &Selection,
     batch: Batch,
 ) -> Result<Vec<Batch>, CliError>
-    requires { type_of row_type.now ≡ record_type (schema_of schema.now).fields }
     ensures rows { IfOk result (λ v. AreSelectedBatches (selection_tree selection.now) (schema_of schema.now).fields (record_batch_of batch ∷ []) (map record_batch_of v.items)) }
     ensures error { IfErr result (λ e. IsBatchSelectionError e (selection_tree selection.now) (schema_of schema.now).fields (record_batch_of batch ∷ [])) }
 {
     match selection {
         Selection::All => single_batch(alloc, batch),
-        _ => selected_rows_of(alloc, schema, row_type, selection, batch),
+        _ => selected_rows_of(alloc, schema, selection, batch),
     }
 }

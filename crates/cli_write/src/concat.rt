@@ -1,9 +1,7 @@
 //! Arrow inputs concatenated, one record batch after another.
 ghost use Rattle.std.specs.Prelude.{◌≡◌, [], Err, IfErr, IfOk, IsSome, OnOk};
-ghost use Rattle.nest_memory.specs.TypeOf.{type_of};
 ghost use Rattle.ipc_schema.specs.Projections.{projection_of};
 ghost use Rattle.cli_args.specs.Requests.{all};
-ghost use Rattle.cli_rows.specs.Records.{record_type};
 ghost use Rattle.cli_read.specs.Inputs.{decoded_input};
 ghost use Rattle.cli_read.specs.Readers.{decoded_reader, reader_schema, remaining_batches};
 ghost use Rattle.cli_write.specs.Concat.{FailsToAppend, IsAppended, IsBeforeBatches, WritesFirst, WritesRemaining};
@@ -14,10 +12,9 @@ use crate::copier::{Progress, copy_all};
 use crate::writer::{BatchWriter, begin_writer};
 use cli_args::{Format, Selection};
 use cli_read::{BatchReader, Input, open};
-use cli_rows::{BatchError, row_type};
+use cli_rows::BatchError;
 use ipc_io::SeekRead;
 use ipc_schema::Projection;
-use nest_memory::datatypes::DataType;
 use std::alloc::Global;
 use std::io::Write;
 
@@ -30,55 +27,22 @@ pub enum AppendError {
     Batch(BatchError),
 }
 
-/// Appends the remaining record batches of a reader. `row_type` is the data type of a row.
-fn append_typed<R: SeekRead + Drop, W: Write + Drop, P: Progress>(
+/// Appends the remaining record batches of a reader.
+fn append_batches<R: SeekRead + Drop, W: Write + Drop, P: Progress>(
     alloc: Global,
     reader: BatchReader<R>,
-    row_type: &DataType,
     writer: &mut BatchWriter<W>,
     progress: &mut P,
 ) -> Result<(), BatchError>
-    requires { type_of row_type.now ≡ record_type (reader_schema reader).fields }
     ensures put { OnOk result (AppendsRemaining W.contents R.remaining R.stream_position R.stream_bytes reader writer.old writer.new) }
     ensures batch { IfErr result (λ e. IsSome e.batch) }
     ensures error { IfErr result (FailsToAppendRemaining W.contents R.remaining R.stream_position R.stream_bytes reader writer.old) }
 {
     let mut reader = reader;
     let mut left = Selection::All;
-    match copy_all(alloc, &mut reader, row_type, &mut left, writer, progress) {
+    match copy_all(alloc, &mut reader, &mut left, writer, progress) {
         Ok(_) => Ok(()),
         Err(error) => Err(error),
-    }
-}
-
-/// Begins an output with the schema of a reader, and writes its record batches. `row_type` is the data type of a row.
-fn begin_typed<R: SeekRead + Drop, W: Write + Drop, P: Progress>(
-    alloc: Global,
-    format: Format,
-    reader: BatchReader<R>,
-    row_type: &DataType,
-    out: W,
-    progress: &mut P,
-) -> Result<BatchWriter<W>, BatchError>
-    requires { type_of row_type.now ≡ record_type (reader_schema reader).fields }
-    ensures put { IfOk result (WritesRemaining W.contents format out (reader_schema reader) [] (remaining_batches R.remaining R.stream_position R.stream_bytes reader)) }
-    ensures error { IfErr result (λ e. Copies W.contents format all (decoded_reader R.remaining R.stream_position R.stream_bytes reader) out (Err e)) }
-{
-    match begin_writer(alloc, format, out, reader.schema()) {
-        Err(error) => {
-            drop(reader);
-            Err(BatchError { batch: None, error })
-        }
-        Ok(writer) => {
-            let mut writer = writer;
-            match append_typed(alloc, reader, row_type, &mut writer, progress) {
-                Ok(()) => Ok(writer),
-                Err(error) => {
-                    drop(writer);
-                    Err(error)
-                }
-            }
-        }
     }
 }
 
@@ -93,16 +57,20 @@ fn begin_from_reader<R: SeekRead + Drop, W: Write + Drop, P: Progress>(
     ensures put { IfOk result (WritesRemaining W.contents format out (reader_schema reader) [] (remaining_batches R.remaining R.stream_position R.stream_bytes reader)) }
     ensures error { IfErr result (λ e. Copies W.contents format all (decoded_reader R.remaining R.stream_position R.stream_bytes reader) out (Err e)) }
 {
-    match row_type(alloc, &reader.schema().fields) {
+    match begin_writer(alloc, format, out, reader.schema()) {
         Err(error) => {
             drop(reader);
-            drop(out);
             Err(BatchError { batch: None, error })
         }
-        Ok(row_type) => {
-            let begun = begin_typed(alloc, format, reader, &row_type, out, progress);
-            drop(row_type);
-            begun
+        Ok(writer) => {
+            let mut writer = writer;
+            match append_batches(alloc, reader, &mut writer, progress) {
+                Ok(()) => Ok(writer),
+                Err(error) => {
+                    drop(writer);
+                    Err(error)
+                }
+            }
         }
     }
 }
@@ -147,19 +115,9 @@ fn append_reader<R: SeekRead + Drop, W: Write + Drop, P: Progress>(
         drop(reader);
         return Err(AppendError::Schema);
     }
-    match row_type(alloc, &reader.schema().fields) {
-        Err(error) => {
-            drop(reader);
-            Err(AppendError::Batch(BatchError { batch: None, error }))
-        }
-        Ok(row_type) => {
-            let appended = append_typed(alloc, reader, &row_type, writer, progress);
-            drop(row_type);
-            match appended {
-                Ok(()) => Ok(()),
-                Err(error) => Err(AppendError::Batch(error)),
-            }
-        }
+    match append_batches(alloc, reader, writer, progress) {
+        Ok(()) => Ok(()),
+        Err(error) => Err(AppendError::Batch(error)),
     }
 }
 

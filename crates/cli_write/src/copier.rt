@@ -1,11 +1,9 @@
 //! An Arrow input, or selected rows of it, written as a stream or a file.
 ghost use Rattle.std.specs.Prelude.{◌≡◌, ◌∷◌, [], IfErr, IfOk, IsSome, OnOk, length};
-ghost use Rattle.nest_memory.specs.TypeOf.{type_of};
 ghost use Rattle.ipc.specs.Streams.{record_batch_of};
 ghost use Rattle.ipc_schema.specs.Projections.{projection_of};
 ghost use Rattle.ipc_schema.specs.Schemas.{schema_of};
 ghost use Rattle.cli_args.specs.RequestTrees.{selection_tree};
-ghost use Rattle.cli_rows.specs.Records.{record_type};
 ghost use Rattle.cli_rows.specs.RowOrder.{IsInRowOrder, remaining_selection};
 ghost use Rattle.cli_rows.specs.SelectedTables.{batch_rows};
 ghost use Rattle.cli_read.specs.Inputs.{decoded_input};
@@ -18,11 +16,10 @@ use crate::batch::{row_count, select_from_batch};
 use crate::writer::{BatchWriter, begin_writer, write_batches};
 use cli_args::{Format, Selection};
 use cli_read::{BatchReader, Input, open};
-use cli_rows::{BatchError, CliError, is_complete, row_type, selection_error, skip_rows};
+use cli_rows::{BatchError, CliError, is_complete, resolve_selection, selection_error, skip_rows};
 use ipc::Batch;
 use ipc_io::SeekRead;
 use ipc_schema::{Projection, Schema};
-use nest_memory::datatypes::DataType;
 use std::alloc::Global;
 use std::io::Write;
 
@@ -37,18 +34,16 @@ pub trait Progress {
 fn copy_batch<W: Write + Drop>(
     alloc: Global,
     schema: &Schema,
-    row_type: &DataType,
     left: &mut Selection,
     batch: Batch,
     writer: &mut BatchWriter<W>,
 ) -> Result<usize, CliError>
-    requires { type_of row_type.now ≡ record_type (schema_of schema.now).fields }
     ensures put { OnOk result (WritesSelection W.contents (selection_tree left.old) (schema_of schema.now).fields (record_batch_of batch) writer.old writer.new) }
     ensures left { OnOk result (selection_tree left.new ≡ remaining_selection (selection_tree left.old) (length (batch_rows (schema_of schema.now).fields (record_batch_of batch ∷ [])))) }
     ensures error { IfErr result (λ e. FailsToWriteSelection W.contents e (selection_tree left.old) (schema_of schema.now).fields (record_batch_of batch) writer.old) }
 {
     let rows = row_count(schema, &batch);
-    match select_from_batch(alloc, schema, row_type, left, batch) {
+    match select_from_batch(alloc, schema, left, batch) {
         Err(error) => Err(error),
         Ok(batches) => {
             let written = write_batches(alloc, writer, &batches);
@@ -68,11 +63,9 @@ fn copy_batch<W: Write + Drop>(
 fn copy_next<R: SeekRead + Drop, W: Write + Drop>(
     alloc: Global,
     reader: &mut BatchReader<R>,
-    row_type: &DataType,
     left: &mut Selection,
     writer: &mut BatchWriter<W>,
 ) -> Result<Option<usize>, CliError>
-    requires { type_of row_type.now ≡ record_type (reader_schema reader.old).fields }
     ensures step { IfOk result (CopiesNext W.contents R.remaining R.stream_position R.stream_bytes reader.old left.old writer.old reader.new left.new writer.new) }
     ensures error { IfErr result (FailsToCopyNext W.contents R.remaining R.stream_position R.stream_bytes reader.old left.old writer.old) }
     ensures schema { reader_schema reader.new ≡ reader_schema reader.old }
@@ -84,7 +77,7 @@ fn copy_next<R: SeekRead + Drop, W: Write + Drop>(
         Err(error) => Err(error),
         Ok(None) => Ok(None),
         Ok(Some(batch)) => {
-            match copy_batch(alloc, reader.schema(), row_type, left, batch, writer) {
+            match copy_batch(alloc, reader.schema(), left, batch, writer) {
                 Err(error) => Err(error),
                 Ok(rows) => Ok(Some(rows)),
             }
@@ -92,22 +85,20 @@ fn copy_next<R: SeekRead + Drop, W: Write + Drop>(
     }
 }
 
-/// Copies one record batch after another. Returns their number. `row_type` is the data type of a row.
+/// Copies one record batch after another. Returns their number.
 pub(crate) fn copy_all<R: SeekRead + Drop, W: Write + Drop, P: Progress>(
     alloc: Global,
     reader: &mut BatchReader<R>,
-    row_type: &DataType,
     left: &mut Selection,
     writer: &mut BatchWriter<W>,
     progress: &mut P,
 ) -> Result<usize, BatchError>
-    requires { type_of row_type.now ≡ record_type (reader_schema reader.old).fields }
     ensures copied { IfOk result (CopiesAll W.contents R.remaining R.stream_position R.stream_bytes reader.old left.old writer.old writer.new) }
     ensures batch { IfErr result (λ e. IsSome e.batch) }
     ensures error { IfErr result (FailsToCopyAll W.contents R.remaining R.stream_position R.stream_bytes reader.old left.old writer.old) }
 {
     for k in 0..usize::MAX {
-        match copy_next(alloc, reader, row_type, left, writer) {
+        match copy_next(alloc, reader, left, writer) {
             Err(error) => {
                 return Err(BatchError {
                     batch: Some(k),
@@ -132,25 +123,16 @@ pub(crate) fn copy_all<R: SeekRead + Drop, W: Write + Drop, P: Progress>(
 fn copy_batches<R: SeekRead + Drop, W: Write + Drop, P: Progress>(
     alloc: Global,
     reader: BatchReader<R>,
-    row_type: &DataType,
     left: Selection,
     writer: BatchWriter<W>,
     progress: &mut P,
 ) -> Result<W, BatchError>
-    requires { type_of row_type.now ≡ record_type (reader_schema reader).fields }
     ensures { Ends W.contents R.remaining R.stream_position R.stream_bytes reader left writer result }
 {
     let mut reader = reader;
     let mut left = left;
     let mut writer = writer;
-    match copy_all(
-        alloc,
-        &mut reader,
-        row_type,
-        &mut left,
-        &mut writer,
-        progress,
-    ) {
+    match copy_all(alloc, &mut reader, &mut left, &mut writer, progress) {
         Err(error) => Err(error),
         Ok(k) => match writer.finish(alloc) {
             Err(error) => Err(BatchError {
@@ -162,18 +144,16 @@ fn copy_batches<R: SeekRead + Drop, W: Write + Drop, P: Progress>(
     }
 }
 
-/// Begins the output with the schema of a reader, and copies the selected rows. `row_type` is the data type of a row.
-fn copy_typed<R: SeekRead + Drop, W: Write + Drop, P: Progress>(
+/// Begins the output with the schema of a reader, and copies the selected rows.
+fn copy_resolved<R: SeekRead + Drop, W: Write + Drop, P: Progress>(
     alloc: Global,
     format: Format,
     left: Selection,
     reader: BatchReader<R>,
-    row_type: &DataType,
     out: W,
     progress: &mut P,
 ) -> Result<W, BatchError>
-    requires order { IsInRowOrder (selection_tree left) }
-    requires row { type_of row_type.now ≡ record_type (reader_schema reader).fields }
+    requires { IsInRowOrder (selection_tree left) }
     ensures { Copies W.contents format (selection_tree left) (decoded_reader R.remaining R.stream_position R.stream_bytes reader) out result }
 {
     if let Some(error) = selection_error(&left, &reader.schema().fields) {
@@ -188,35 +168,24 @@ fn copy_typed<R: SeekRead + Drop, W: Write + Drop, P: Progress>(
             drop(reader);
             Err(BatchError { batch: None, error })
         }
-        Ok(writer) => copy_batches(alloc, reader, row_type, left, writer, progress),
+        Ok(writer) => copy_batches(alloc, reader, left, writer, progress),
     }
 }
 
-/// Copies the selected rows of an input that was opened.
+/// Copies the selected rows of an input that was opened. The column of the selection is resolved once.
 fn copy_reader<R: SeekRead + Drop, W: Write + Drop, P: Progress>(
     alloc: Global,
     format: Format,
-    left: Selection,
+    selection: Selection,
     reader: BatchReader<R>,
     out: W,
     progress: &mut P,
 ) -> Result<W, BatchError>
-    requires { IsInRowOrder (selection_tree left) }
-    ensures { Copies W.contents format (selection_tree left) (decoded_reader R.remaining R.stream_position R.stream_bytes reader) out result }
+    requires { IsInRowOrder (selection_tree selection) }
+    ensures { Copies W.contents format (selection_tree selection) (decoded_reader R.remaining R.stream_position R.stream_bytes reader) out result }
 {
-    match row_type(alloc, &reader.schema().fields) {
-        Err(error) => {
-            drop(left);
-            drop(reader);
-            drop(out);
-            Err(BatchError { batch: None, error })
-        }
-        Ok(row_type) => {
-            let copied = copy_typed(alloc, format, left, reader, &row_type, out, progress);
-            drop(row_type);
-            copied
-        }
-    }
+    let left = resolve_selection(selection, &reader.schema().fields);
+    copy_resolved(alloc, format, left, reader, out, progress)
 }
 
 /// Writes the selected rows of an Arrow stream or file in a format, flushes the output and returns it. The bytes decode to the schema and to

@@ -6,7 +6,7 @@ ghost use Rattle.nest_memory.specs.TypeTree.{FieldTree};
 ghost use Rattle.json_read.specs.JsonLines.{json_value};
 ghost use Rattle.json_read.specs.declared.error.LineError.TheVariants.{InvalidJson};
 ghost use Rattle.json_read.specs.declared.error.UnsupportedTypeError.TheVariants.{FloatingPoint};
-ghost use Rattle.cli_args.specs.Requests.{all, slice, where_true};
+ghost use Rattle.cli_args.specs.Requests.{all, named, slice, where_true};
 ghost use Rattle.cli_args.specs.declared.format.Format.TheVariants.{Stream};
 ghost use Rattle.cli_rows.specs.Concatenated.{HaveSchema, all_batches};
 ghost use Rattle.cli_rows.specs.TableExamples.{boolean_table, columnless_table, ok_field, three_booleans};
@@ -14,11 +14,12 @@ ghost use Rattle.cli_rows.specs.Tables.{TableTree};
 ghost use Rattle.cli_rows.specs.declared.error.CliError.TheVariants.{Read, UnknownColumn};
 ghost use Rattle.cli_read.specs.InputExamples.{broken_input, complete_input};
 ghost use Rattle.cli_write.specs.Concat.{IsAppendError, WritesConcatenation};
+ghost use Rattle.cli_write.specs.ConcatExamples.{truncated_batch};
 ghost use Rattle.cli_write.specs.Copies.{FailsAt, IsCopy, IsSufficient};
 ghost use Rattle.cli_write.specs.Imports.{HasRows, IsImportError, WritesLines};
 ghost use Rattle.cli_write.specs.LineExamples.{IsBooleanLine, float_field};
 ghost use Rattle.cli_write.specs.Writers.{WritesTableBatches};
-ghost use Rattle.cli_write.specs.declared.concat.AppendError.TheVariants.{Batch, Schema};
+ghost use Rattle.cli_write.specs.declared.concat.AppendError.TheVariants.{Schema};
 ghost use Rattle.cli_write.specs.declared.import.error.ImportError.TheVariants as import_errors;
 
 use cli_args::Format;
@@ -28,7 +29,7 @@ use cli_args::Format;
 pub fn selected_rows_are_copied()
     ensures whole { IsCopy all three_booleans three_booleans }
     ensures slice { IsCopy (slice 1 1) three_booleans (boolean_table ((false ∷ []) ∷ [])) }
-    ensures column { IsCopy (where_true (codes "ok")) three_booleans (boolean_table ((true ∷ []) ∷ (true ∷ []) ∷ [])) }
+    ensures column { IsCopy (where_true (named (codes "ok"))) three_booleans (boolean_table ((true ∷ []) ∷ (true ∷ []) ∷ [])) }
     ensures other { IsCopy all three_booleans (boolean_table ((true ∷ false ∷ true ∷ []) ∷ [])) → ⊥ }
     ensures fewer { IsCopy (slice 1 2) three_booleans (boolean_table ((false ∷ []) ∷ [])) → ⊥ }
 {}
@@ -49,7 +50,7 @@ pub fn errors_stop_a_copy()
     ensures early { FailsAt all Stream [] (broken_input (boolean_table ((true ∷ []) ∷ [])) Truncated) (Some 0) (Read Truncated) → ⊥ }
     ensures late { FailsAt all Stream [] (broken_input (boolean_table ((true ∷ []) ∷ [])) Truncated) (Some 2) (Read Truncated) → ⊥ }
     ensures enough { FailsAt (slice 0 1) Stream [] (broken_input (boolean_table ((true ∷ []) ∷ [])) Truncated) (Some 1) (Read Truncated) → ⊥ }
-    ensures column { FailsAt (where_true (codes "o")) Stream [] (complete_input three_booleans) None UnknownColumn }
+    ensures column { FailsAt (where_true (named (codes "o"))) Stream [] (complete_input three_booleans) None UnknownColumn }
 {}
 
 /// An input of the same schema is appended, and one of another schema is not. An error is returned in its record batch, and not for an input
@@ -57,14 +58,14 @@ pub fn errors_stop_a_copy()
 pub fn inputs_are_appended()
     ensures other { IsAppendError Schema Stream three_booleans.schema [] (Some (complete_input (columnless_table (1 ∷ [])))) }
     ensures same { IsAppendError Schema Stream three_booleans.schema [] (Some (complete_input (boolean_table ((true ∷ []) ∷ [])))) → ⊥ }
-    ensures error { IsAppendError (Batch (record { batch = Some 1; error = Read Truncated })) Stream three_booleans.schema three_booleans.batches (Some (broken_input (boolean_table ((true ∷ []) ∷ [])) Truncated)) }
-    ensures early { IsAppendError (Batch (record { batch = Some 0; error = Read Truncated })) Stream three_booleans.schema three_booleans.batches (Some (broken_input (boolean_table ((true ∷ []) ∷ [])) Truncated)) → ⊥ }
-    ensures unlike { IsAppendError (Batch (record { batch = Some 1; error = Read Truncated })) Stream three_booleans.schema [] (Some (broken_input (columnless_table (1 ∷ [])) Truncated)) → ⊥ }
+    ensures error { IsAppendError (truncated_batch 1) Stream three_booleans.schema three_booleans.batches (Some (broken_input (boolean_table ((true ∷ []) ∷ [])) Truncated)) }
+    ensures early { IsAppendError (truncated_batch 0) Stream three_booleans.schema three_booleans.batches (Some (broken_input (boolean_table ((true ∷ []) ∷ [])) Truncated)) → ⊥ }
+    ensures unlike { IsAppendError (truncated_batch 1) Stream three_booleans.schema [] (Some (broken_input (columnless_table (1 ∷ [])) Truncated)) → ⊥ }
 {}
 
 /// The record batches of inputs of one schema, written one after another, decode to the concatenation of the inputs.
 pub fn written_batches_are_concatenated(form: Format)
-    ensures { (s : SchemaModel) (parts : List TableTree) (old new : Option (List ℕ)) → HaveSchema s parts → WritesTableBatches form s (all_batches parts) old new → WritesConcatenation form (map Ok parts) old new }
+    ensures { (s : SchemaModel) (hs : List TableTree) (x y : Option (List ℕ)) → HaveSchema s hs → WritesTableBatches form s (all_batches hs) x y → WritesConcatenation form (map Ok hs) x y }
 {}
 
 /// Lines `{"ok":true}` and `{"ok":false}` are these rows in their order, in any record batches. Neither in another order, nor fewer rows,

@@ -11,4 +11,4 @@ mod writer;
 
 pub use concat::{AppendError, append, begin_concat};
 pub use copier::{Progress, copy};
-pub use writer::{BatchWriter, begin_writer, write_batches};
+pub use writer::BatchWriter;

@@ -56,7 +56,7 @@ fn begin_file<W: Write + Drop>(
 ///
 /// # Errors
 /// `Write` with the first reason why the schema cannot be written. `Output` if a write fails.
-pub fn begin_writer<W: Write + Drop>(
+pub(crate) fn begin_writer<W: Write + Drop>(
     alloc: Global,
     format: Format,
     out: W,
@@ -129,7 +129,7 @@ impl<W: Write + Drop> BatchWriter<W> {
 ///
 /// # Errors
 /// Those of [`BatchWriter::write`], of the first record batch that is not written.
-pub fn write_batches<W: Write + Drop>(
+pub(crate) fn write_batches<W: Write + Drop>(
     alloc: Global,
     writer: &mut BatchWriter<W>,
     batches: &[Batch],

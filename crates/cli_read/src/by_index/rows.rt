@@ -1,15 +1,13 @@
 //! Rows by index, one record batch after another.
-ghost use Rattle.std.specs.Prelude.{◌≡◌, ◌≤◌, ◌++◌, List, [], IfErr, IfOk, IsOkUnless, OnOk, Some, false, length, map, true};
+ghost use Rattle.std.specs.Prelude.{◌≡◌, ◌≤◌, List, [], IfErr, IfOk, IsOkUnless, OnOk, Some, false, length, map, true};
 ghost use Rattle.std.specs.List.{flat_map};
 ghost use Rattle.std.specs.List.Sorted.{IsPermutation};
-ghost use Rattle.nest_memory.specs.TypeOf.{type_of};
 ghost use Rattle.nest_memory.specs.TypeTree.{FieldTree};
 ghost use Rattle.nest_array.specs.Seen.{layout_of};
 ghost use Rattle.ipc_schema.specs.Projections.{projection_of};
 ghost use Rattle.ipc_schema.specs.Schemas.{schema_of};
 ghost use Rattle.cli_args.specs.Requests.{indices};
 ghost use Rattle.cli_rows.specs.Compared.{table_rows};
-ghost use Rattle.cli_rows.specs.Records.{record_type};
 ghost use Rattle.cli_rows.specs.Rows.{Row, rows_of};
 ghost use Rattle.cli_rows.specs.SelectedTables.{AreRowsOf};
 ghost use Rattle.cli_rows.specs.Selection.{selected_rows};
@@ -18,7 +16,7 @@ ghost use Rattle.cli_rows.specs.declared.error.CliError.TheVariants.{Memory};
 ghost use Rattle.cli_read.specs.Inputs.{decoded_input};
 ghost use Rattle.cli_read.specs.Readers.{decoded_reader, reader_schema};
 ghost use Rattle.cli_read.specs.Takes.{FailsToTake, Takes};
-ghost use Rattle.cli_read.specs.TakeStates.{AreTakenRows, HasMoreIndices, HasTakenFrom, IsFinishError};
+ghost use Rattle.cli_read.specs.TakeStates.{AreTakenRows, HasMoreIndices, HasTakenFrom, IsFinishError, TakesRows};
 ghost use Rattle.cli_read.specs.TakeSteps.{FailsToTakeAll, FailsToTakeNext, TakesAll, TakesNext};
 
 use crate::by_index::indices::{indices_in_batch, positions, sort_indices};
@@ -26,11 +24,10 @@ use crate::input::Input;
 use crate::reader::{BatchReader, open};
 use crate::rows::next_rows;
 use cli_args::Selection;
-use cli_rows::{BatchError, CliError, Table, batches_of_arrays, copy_schema, row_type, take_rows};
+use cli_rows::{BatchError, CliError, Table, batches_of_arrays, copy_schema, take_rows};
 use ipc_io::SeekRead;
 use ipc_schema::{Projection, Schema};
 use nest_array::AnyArray;
-use nest_memory::datatypes::DataType;
 use std::alloc::{AllocError, Global};
 use std::slice;
 
@@ -81,7 +78,7 @@ fn copy_rows(alloc: Global, found: Vec<usize>, array: &AnyArray) -> Result<Vec<A
 /// Takes the rows of an array at the indices that are in it.
 fn take_from_array(alloc: Global, state: &mut TakeState, array: &AnyArray) -> Result<(), CliError>
     requires { HasMoreIndices state.old }
-    ensures took { let more = rows_of (layout_of array.now) in OnOk result ((fs : List FieldTree) (rows : List Row) → AreRowsOf fs more → HasTakenFrom fs rows state.old → HasTakenFrom fs (rows ++ more) state.new) }
+    ensures took { OnOk result (TakesRows (rows_of (layout_of array.now)) state.old state.new) }
     ensures same { state.new.wanted ≡ state.old.wanted }
     ensures error { IsOkUnless result Memory }
 {
@@ -99,17 +96,15 @@ fn take_from_array(alloc: Global, state: &mut TakeState, array: &AnyArray) -> Re
 fn take_next<R: SeekRead + Drop>(
     alloc: Global,
     reader: &mut BatchReader<R>,
-    row_type: &DataType,
     state: &mut TakeState,
 ) -> Result<bool, CliError>
     requires more { HasMoreIndices state.old }
-    requires row { type_of row_type.now ≡ record_type (reader_schema reader.old).fields }
     ensures step { IfOk result (TakesNext R.remaining R.stream_position R.stream_bytes reader.old state.old reader.new state.new) }
     ensures error { IfErr result (FailsToTakeNext R.remaining R.stream_position R.stream_bytes reader.old state.old) }
     ensures schema { reader_schema reader.new ≡ reader_schema reader.old }
     ensures same { state.new.wanted ≡ state.old.wanted }
 {
-    match next_rows(alloc, reader, row_type) {
+    match next_rows(alloc, reader) {
         Err(error) => Err(error),
         Ok(None) => Ok(false),
         Ok(Some(array)) => {
@@ -127,10 +122,8 @@ fn take_next<R: SeekRead + Drop>(
 fn take_all<R: SeekRead + Drop>(
     alloc: Global,
     reader: &mut BatchReader<R>,
-    row_type: &DataType,
     state: &mut TakeState,
 ) -> Result<(), BatchError>
-    requires { type_of row_type.now ≡ record_type (reader_schema reader.old).fields }
     ensures taken { OnOk result (TakesAll R.remaining R.stream_position R.stream_bytes reader.old state.old state.new) }
     ensures error { IfErr result (FailsToTakeAll R.remaining R.stream_position R.stream_bytes reader.old state.old) }
     ensures schema { reader_schema reader.new ≡ reader_schema reader.old }
@@ -140,7 +133,7 @@ fn take_all<R: SeekRead + Drop>(
         if state.is_found() {
             return Ok(());
         }
-        match take_next(alloc, reader, row_type, state) {
+        match take_next(alloc, reader, state) {
             Err(error) => {
                 return Err(BatchError {
                     batch: Some(k),
@@ -218,14 +211,12 @@ fn finish(
     }
 }
 
-/// Takes rows of the remaining record batches of a reader. `row_type` is the data type of a row.
-fn take_typed<R: SeekRead + Drop>(
+/// Takes rows of the remaining record batches of a reader.
+fn take_from_reader<R: SeekRead + Drop>(
     alloc: Global,
     reader: BatchReader<R>,
-    row_type: &DataType,
     wanted: &[usize],
 ) -> Result<Table, BatchError>
-    requires { type_of row_type.now ≡ record_type (reader_schema reader).fields }
     ensures rows { IfOk result (λ table. Takes wanted.now (decoded_reader R.remaining R.stream_position R.stream_bytes reader) (table_of table)) }
     ensures error { IfErr result (FailsToTake wanted.now (decoded_reader R.remaining R.stream_position R.stream_bytes reader)) }
 {
@@ -240,35 +231,13 @@ fn take_typed<R: SeekRead + Drop>(
         }
         Ok(state) => {
             let mut state = state;
-            match take_all(alloc, &mut reader, row_type, &mut state) {
+            match take_all(alloc, &mut reader, &mut state) {
                 Err(error) => Err(error),
                 Ok(()) => match finish(alloc, reader.schema(), &state, wanted) {
                     Ok(table) => Ok(table),
                     Err(error) => Err(BatchError { batch: None, error }),
                 },
             }
-        }
-    }
-}
-
-/// Takes rows of an input that was opened.
-fn take_from_reader<R: SeekRead + Drop>(
-    alloc: Global,
-    reader: BatchReader<R>,
-    wanted: &[usize],
-) -> Result<Table, BatchError>
-    ensures rows { IfOk result (λ table. Takes wanted.now (decoded_reader R.remaining R.stream_position R.stream_bytes reader) (table_of table)) }
-    ensures error { IfErr result (FailsToTake wanted.now (decoded_reader R.remaining R.stream_position R.stream_bytes reader)) }
-{
-    match row_type(alloc, &reader.schema().fields) {
-        Err(error) => {
-            drop(reader);
-            Err(BatchError { batch: None, error })
-        }
-        Ok(row_type) => {
-            let taken = take_typed(alloc, reader, &row_type, wanted);
-            drop(row_type);
-            taken
         }
     }
 }

@@ -1,9 +1,7 @@
 //! Rows of one side that are read and not yet compared.
 ghost use Rattle.std.specs.Prelude.{◌≡◌, ◌≤◌, [], IfErr, IfOk, Some, false, length, take};
-ghost use Rattle.nest_memory.specs.TypeOf.{type_of};
 ghost use Rattle.nest_model.specs.Meaning.{len};
 ghost use Rattle.nest_array.specs.Seen.{layout_of};
-ghost use Rattle.cli_rows.specs.Records.{record_type};
 ghost use Rattle.cli_rows.specs.Rows.{rows_in};
 ghost use Rattle.cli_read.specs.CompareSteps.{FailsToFill, FillsBuffer};
 ghost use Rattle.cli_read.specs.Readers.{reader_schema};
@@ -93,9 +91,8 @@ impl<R> RowBuffer<R> {
 
 impl<R: SeekRead + Drop> RowBuffer<R> {
     /// Reads the next record batch if every row was compared. Returns whether it tried to read one.
-    pub(crate) fn fill(&mut self, alloc: Global, row_type: &DataType) -> Result<bool, BatchError>
+    pub(crate) fn fill(&mut self, alloc: Global) -> Result<bool, BatchError>
         requires room { IsInBounds self.old }
-        requires row { type_of row_type.now ≡ record_type (reader_schema self.old.reader).fields }
         ensures on { IfOk result (FillsBuffer R.remaining R.stream_position R.stream_bytes self.old self.new) }
         ensures still { IfOk result (λ moved. moved ≡ false → IsFilled self.new) }
         ensures error { IfErr result (FailsToFill R.remaining R.stream_position R.stream_bytes self.old) }
@@ -111,7 +108,7 @@ impl<R: SeekRead + Drop> RowBuffer<R> {
         let Some(read) = self.read.checked_add(1) else {
             return Err(self.error(CliError::Input));
         };
-        match next_rows(alloc, &mut self.reader, row_type) {
+        match next_rows(alloc, &mut self.reader) {
             Err(error) => Err(self.error(error)),
             Ok(None) => {
                 self.is_over = true;

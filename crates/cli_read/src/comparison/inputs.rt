@@ -1,8 +1,6 @@
 //! Two inputs compared, one record batch after another.
 ghost use Rattle.std.specs.Prelude.{◌≡◌};
-ghost use Rattle.nest_memory.specs.TypeOf.{type_of};
 ghost use Rattle.ipc_schema.specs.Projections.{projection_of};
-ghost use Rattle.cli_rows.specs.Records.{record_type};
 ghost use Rattle.cli_read.specs.CompareSteps.{ComparesAll, ComparesNext, ReadsAll};
 ghost use Rattle.cli_read.specs.Comparisons.{ComparesInputs, ComparesProjections};
 ghost use Rattle.cli_read.specs.Readers.{decoded_reader, reader_schema};
@@ -13,10 +11,9 @@ use crate::comparison::buffer::RowBuffer;
 use crate::comparison::bytes::have_equal_bytes;
 use crate::input::Input;
 use crate::reader::{BatchReader, open};
-use cli_rows::{BatchError, CliError, Difference, row_type, window_difference};
+use cli_rows::{BatchError, CliError, Difference, window_difference};
 use ipc_io::SeekRead;
 use ipc_schema::Projection;
-use nest_memory::datatypes::DataType;
 use std::alloc::Global;
 
 /// Error returned where two inputs are not compared.
@@ -81,24 +78,22 @@ fn difference_at(rows: usize, k: Option<usize>) -> Result<Step, CompareError>
 /// Reads a record batch of a side that has no buffered row, or compares the buffered rows and adds the number of equal ones to `rows`.
 fn compare_next<R: SeekRead + Drop, S: SeekRead + Drop>(
     alloc: Global,
-    row_type: &DataType,
     left: &mut RowBuffer<R>,
     right: &mut RowBuffer<S>,
     rows: &mut usize,
 ) -> Result<Step, CompareError>
     requires left { IsInBounds left.old }
     requires right { IsInBounds right.old }
-    requires row { (type_of row_type.now ≡ record_type (reader_schema left.old.reader).fields) × (type_of row_type.now ≡ record_type (reader_schema right.old.reader).fields) }
     ensures step { ComparesNext R.remaining R.stream_position R.stream_bytes S.remaining S.stream_position S.stream_bytes left.old right.old rows.old left.new right.new rows.new result }
     ensures left { IsInBounds left.new × (reader_schema left.new.reader ≡ reader_schema left.old.reader) }
     ensures right { IsInBounds right.new × (reader_schema right.new.reader ≡ reader_schema right.old.reader) }
 {
-    match left.fill(alloc, row_type) {
+    match left.fill(alloc) {
         Err(error) => return Err(CompareError::First(error)),
         Ok(true) => return Ok(Step::Continue),
         Ok(false) => {}
     }
-    match right.fill(alloc, row_type) {
+    match right.fill(alloc) {
         Err(error) => return Err(CompareError::Second(error)),
         Ok(true) => return Ok(Step::Continue),
         Ok(false) => {}
@@ -117,21 +112,19 @@ fn compare_next<R: SeekRead + Drop, S: SeekRead + Drop>(
     }
 }
 
-/// Compares the rows of two sides of one schema. `row_type` is the data type of a row.
+/// Compares the rows of two sides of one schema.
 fn compare_all<R: SeekRead + Drop, S: SeekRead + Drop>(
     alloc: Global,
-    row_type: &DataType,
     left: &mut RowBuffer<R>,
     right: &mut RowBuffer<S>,
 ) -> Result<Option<Difference>, CompareError>
     requires left { IsInBounds left.old }
     requires right { IsInBounds right.old }
-    requires row { (type_of row_type.now ≡ record_type (reader_schema left.old.reader).fields) × (type_of row_type.now ≡ record_type (reader_schema right.old.reader).fields) }
     ensures { ComparesAll R.remaining R.stream_position R.stream_bytes S.remaining S.stream_position S.stream_bytes left.old right.old result }
 {
     let mut rows = 0usize;
     'steps: for _turn in 0..u64::MAX {
-        match compare_next(alloc, row_type, left, right, &mut rows) {
+        match compare_next(alloc, left, right, &mut rows) {
             Err(error) => return Err(error),
             Ok(Step::Done(difference)) => return Ok(difference),
             Ok(Step::Continue) => {}
@@ -153,20 +146,9 @@ fn compare_rows<R: SeekRead + Drop, S: SeekRead + Drop>(
     requires same { reader_schema left ≡ reader_schema right }
     ensures { ComparesInputs (decoded_reader R.remaining R.stream_position R.stream_bytes left) (decoded_reader S.remaining S.stream_position S.stream_bytes right) result }
 {
-    match row_type(alloc, &left.schema().fields) {
-        Err(error) => {
-            drop(left);
-            drop(right);
-            Err(CompareError::First(BatchError { batch: None, error }))
-        }
-        Ok(row_type) => {
-            let mut left = RowBuffer::new(left);
-            let mut right = RowBuffer::new(right);
-            let compared = compare_all(alloc, &row_type, &mut left, &mut right);
-            drop(row_type);
-            compared
-        }
-    }
+    let mut left = RowBuffer::new(left);
+    let mut right = RowBuffer::new(right);
+    compare_all(alloc, &mut left, &mut right)
 }
 
 /// Compares two inputs that were opened.
@@ -212,15 +194,13 @@ fn compare_inputs<R: SeekRead + Drop, S: SeekRead + Drop>(
 /// Reads all record batches of an input that is equal to the other one.
 fn read_all<R: SeekRead + Drop>(
     alloc: Global,
-    row_type: &DataType,
     side: &mut RowBuffer<R>,
 ) -> Result<Option<Difference>, CompareError>
     requires room { IsInBounds side.old }
-    requires row { type_of row_type.now ≡ record_type (reader_schema side.old.reader).fields }
     ensures { ReadsAll R.remaining R.stream_position R.stream_bytes side.old result }
 {
     'batches: for _turn in 0..u64::MAX {
-        let is_on = match side.fill(alloc, row_type) {
+        let is_on = match side.fill(alloc) {
             Err(error) => return Err(CompareError::First(error)),
             Ok(is_on) => is_on,
         };
@@ -244,18 +224,8 @@ fn read_equal<R: SeekRead + Drop>(
 ) -> Result<Option<Difference>, CompareError>
     ensures { ComparesInputs (decoded_reader R.remaining R.stream_position R.stream_bytes reader) (decoded_reader R.remaining R.stream_position R.stream_bytes reader) result }
 {
-    match row_type(alloc, &reader.schema().fields) {
-        Err(error) => {
-            drop(reader);
-            Err(CompareError::First(BatchError { batch: None, error }))
-        }
-        Ok(row_type) => {
-            let mut side = RowBuffer::new(reader);
-            let read = read_all(alloc, &row_type, &mut side);
-            drop(row_type);
-            read
-        }
-    }
+    let mut side = RowBuffer::new(reader);
+    read_all(alloc, &mut side)
 }
 
 /// Compares two inputs of equal bytes: one of them is read.

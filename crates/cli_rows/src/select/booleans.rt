@@ -3,8 +3,10 @@ ghost use Rattle.std.specs.Prelude.{◌≡◌, ◌<◌, ◌&&◌, bytes_eq, opti
 ghost use Rattle.nest_memory.specs.TypeOf.{field_list_of, field_of};
 ghost use Rattle.nest_model.specs.Meaning.{len, slot};
 ghost use Rattle.nest_array.specs.Seen.{layout_of, layouts_of};
-ghost use Rattle.cli_rows.specs.Booleans.{IsBooleanColumn, column_named, field_name, is_valid, spec_is_true};
+ghost use Rattle.cli_args.specs.RequestTrees.{column_tree};
+ghost use Rattle.cli_rows.specs.Booleans.{IsBooleanColumn, column_at, column_layout, column_named, field_name, is_valid, spec_is_true};
 
+use cli_args::Column;
 use nest_array::{AnyArray, StructArray};
 use nest_flat::boolean::BooleanArray;
 use nest_memory::datatypes::Field;
@@ -41,24 +43,47 @@ fn child_named<'a>(
     None
 }
 
-/// Returns an array of records and their first column of a name, if that column is boolean.
+/// Returns the child of the field at an index.
+fn child_at<'a>(index: usize, fields: &[Field], children: &'a [AnyArray]) -> Option<&'a AnyArray>
+    ensures { option_map (λ a. layout_of a.now) result ≡ column_at index (field_list_of fields.now) (layouts_of children.now) }
+{
+    if index >= fields.len() {
+        return None;
+    }
+    if index >= children.len() {
+        return None;
+    }
+    Some(&children[index])
+}
+
+/// Returns the child of a column.
+fn child_of<'a>(column: &Column, fields: &[Field], children: &'a [AnyArray]) -> Option<&'a AnyArray>
+    ensures { option_map (λ a. layout_of a.now) result ≡ column_layout (column_tree column.now) (field_list_of fields.now) (layouts_of children.now) }
+{
+    match column {
+        Column::Named(name) => child_named(name, fields, children),
+        Column::Indexed(index) => child_at(*index, fields, children),
+    }
+}
+
+/// Returns an array of records and their column, if that column is boolean.
 pub fn boolean_column<'a>(
     array: &'a AnyArray,
-    name: &String,
+    column: &Column,
 ) -> Option<(&'a StructArray, &'a BooleanArray)>
-    ensures { IsBooleanColumn (string_bytes name.now) (layout_of array.now) (option_map (λ p. (p.0.now, p.1.now)) result) }
+    ensures { IsBooleanColumn (column_tree column.now) (layout_of array.now) (option_map (λ p. (p.0.now, p.1.now)) result) }
 {
     let Some(records) = array.as_struct() else {
         return None;
     };
     records.known();
-    let Some(child) = child_named(name, records.fields(), records.values()) else {
+    let Some(child) = child_of(column, records.fields(), records.values()) else {
         return None;
     };
-    let Some(column) = child.as_boolean() else {
+    let Some(booleans) = child.as_boolean() else {
         return None;
     };
-    Some((records, column))
+    Some((records, booleans))
 }
 
 /// Returns whether record `i` is valid and its column is true.

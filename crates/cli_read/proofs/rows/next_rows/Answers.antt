@@ -1,4 +1,4 @@
-use Rattle.std.proofs.Common.{[], ◌∷◌, Ok, Option, ap, subst, sym, ◌∙◌}
+use Rattle.std.proofs.Common.{[], ◌∷◌, Ok, Option, subst, sym, ◌∙◌}
 use Rattle.std.specs.Option.{option_map}
 use Rattle.ipc_schema.specs.Schemas.{SchemaModel, schema_of}
 use Rattle.nest_model.specs.Layout.{Layout}
@@ -7,7 +7,6 @@ use Rattle.cli_rows.specs.Rows.{rows_of}
 use Rattle.ipc.specs.declared.batch.Batch.{Batch}
 use Rattle.ipc.specs.Streams.{record_batch_of}
 use Rattle.cli_rows.specs.Compared.{IsRowsError}
-use Rattle.cli_rows.specs.Records.{record_type}
 use Rattle.cli_rows.specs.SelectedTables.{AreRowsOf}
 use Rattle.cli_rows.proofs.SelectedBatches.{batch-each}
 use Rattle.cli_read.specs.Remaining.{ReturnsNext}
@@ -32,6 +31,3 @@ returns-in-Ok-clause-each g c =
     let s = schema_of c.schema.result.now in
     subst (λ (z : SchemaModel). AreRowsOf z.fields (rows_of (layout_of rows))) (c.schema.ensures ∙ c.in-Ok-Some.ensures.schema)
     (subst (λ (a : Layout). AreRowsOf s.fields (rows_of a)) (sym c.in-Ok.ensures.rows) (batch-each s.fields b))
-
-pub row_array-requires : goal.row_array-requires
-row_array-requires g c = c.requires ∙ ap (λ (z : SchemaModel). record_type z.fields) (sym (c.schema.ensures ∙ c.in-Ok-Some.ensures.schema))

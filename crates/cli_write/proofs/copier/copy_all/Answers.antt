@@ -1,15 +1,10 @@
-use Rattle.std.proofs.Common.{ℕ, ◌+◌, ◌≡◌, ◌∙◌, Ok, Option, None, Some, ap, arith, sym, subst}
-use Rattle.ipc_schema.specs.Schemas.{SchemaModel}
-use Rattle.cli_rows.specs.Records.{record_type}
-use Rattle.cli_read.specs.Readers.{remaining_batches, reader_schema}
+use Rattle.std.proofs.Common.{ℕ, ◌+◌, ◌≡◌, ◌∙◌, Option, arith, sym, subst}
+use Rattle.cli_read.specs.Readers.{remaining_batches}
 use Rattle.cli_args.specs.RequestTrees.{selection_tree}
 use Rattle.cli_write.specs.CopyStates.{CopyEnd, CopyState, FailsNextBatch, IsCopyStep}
 use Rattle.cli_write.proofs.CopySteps.{over, uncounted}
 use Rattle.cli_rows.specs.declared.error.CliError.TheVariants.{Input}
 use Rattle.cli_write.proofs.copier.copy_all.Goals as goal
-
-pub copy_next-requires : goal.copy_next-requires
-copy_next-requires g c = c.requires ∙ ap (λ (z : SchemaModel). record_type z.fields) (sym c.loop-k.invariant.schema)
 
 pub returns-in-Err-clause-error : goal.returns-in-Err-clause-error
 returns-in-Err-clause-error g c = λ form d s t start front h p.

@@ -1,18 +1,13 @@
-use Rattle.std.proofs.Common.{ℕ, ◌≡◌, ◌∙◌, Option, None, Some, Ok, ap, sym, subst}
+use Rattle.std.proofs.Common.{◌∙◌, Option, ap, sym, subst}
 use Rattle.std.specs.Option.{option_map}
-use Rattle.nest_memory.specs.TypeTree.{FieldTree}
-use Rattle.ipc_schema.specs.Schemas.{SchemaModel, schema_of}
+use Rattle.ipc_schema.specs.Schemas.{SchemaModel}
 use Rattle.ipc.specs.declared.batch.Batch.{Batch}
 use Rattle.ipc.specs.Streams.{record_batch_of}
 use Rattle.cli_read.specs.Remaining.{ReturnsNext}
-use Rattle.cli_read.specs.Readers.{remaining_batches, reader_schema}
+use Rattle.cli_read.specs.Readers.{remaining_batches}
 use Rattle.cli_args.specs.RequestTrees.{selection_tree}
-use Rattle.cli_rows.specs.Records.{record_type}
 use Rattle.cli_write.proofs.CopySteps.{ended, failed, more, over, unread}
 use Rattle.cli_write.proofs.copier.copy_next.Goals as goal
-
-pub copy_batch-requires : goal.copy_batch-requires
-copy_batch-requires g c = c.requires ∙ ap (λ (z : SchemaModel). record_type z.fields) (sym (c.schema.ensures ∙ c.in-Ok-Some.ensures.schema))
 
 pub returns-then-is_complete-clause-step : goal.returns-then-is_complete-clause-step
 returns-then-is_complete-clause-step g c = λ form d s t start front k h p.

@@ -1,14 +1,9 @@
-use Rattle.std.proofs.Common.{◌≡◌, ◌∙◌, ◌+◌, inl, inr, ℕ, Bool, List, Some, ap, arith, false, refl, subst, sym, true}
-use Rattle.ipc_schema.specs.Schemas.{SchemaModel}
-use Rattle.cli_rows.specs.Records.{record_type}
+use Rattle.std.proofs.Common.{◌≡◌, ◌∙◌, ◌+◌, inl, inr, ℕ, Bool, List, Some, ap, arith, false, refl, subst, true}
 use Rattle.cli_read.specs.Readers.{remaining_batches}
 use Rattle.cli_rows.specs.declared.error.CliError.TheVariants.{Input}
 use Rattle.cli_read.specs.TakeStates.{IsTakeState, IsTakeStateError, IsTakeStep}
 use Rattle.cli_read.proofs.TakeSteps.{no-input, turn-fails}
 use Rattle.cli_read.proofs.by_index.rows.take_all.Goals as goal
-
-pub take_next-requires-clause-row : goal.take_next-requires-clause-row
-take_next-requires-clause-row g c = c.requires ∙ ap (λ (z : SchemaModel). record_type z.fields) (sym c.loop-k.invariant.schema)
 
 pub returns-then-is_found-clause-taken : goal.returns-then-is_found-clause-taken
 returns-then-is_found-clause-taken g c = λ t s h p.

@@ -1,20 +1,48 @@
-use Rattle.std.proofs.Common.{None, ap, subst, sym, ◌∙◌, map}
-use Rattle.nest_memory.specs.TypeOf.{field_of}
-use Rattle.std.specs.Option.{option_map}
+use Rattle.std.proofs.Common.{◌∙◌, List, ℕ, ap, refl, subst, sym}
+use Rattle.std.specs.List.Sorted.{IsPermutation}
 use Rattle.ipc_schema.specs.Schemas.{SchemaModel}
-use Rattle.cli_rows.specs.Records.{record_type}
-use Rattle.cli_rows.specs.declared.error.CliError.{CliError}
-use Rattle.cli_read.specs.Readers.{reader_schema, remaining_batches}
-use Rattle.cli_read.specs.Remaining.{with_schema}
-use Rattle.cli_read.specs.Takes.{FailsToTake}
-use Rattle.cli_read.proofs.TakeSteps.{out-of-memory}
+use Rattle.cli_read.specs.Readers.{remaining_batches, reader_schema}
+use Rattle.cli_read.proofs.Readers.{fresh}
+use Rattle.cli_rows.specs.Tables.{table_of}
+use Rattle.cli_read.specs.TakeStates.{HasTakenFrom}
+use Rattle.cli_read.proofs.TakeSteps.{started, stops, takes, unplaced}
 use Rattle.cli_read.proofs.by_index.rows.take_from_reader.Goals as goal
 
-pub returns-in-Err-clause-error : goal.returns-in-Err-clause-error
-returns-in-Err-clause-error g c =
-    let x = option_map (with_schema (reader_schema c.args.reader)) (remaining_batches g.R.Read.remaining g.R.Seek.stream_position g.R.Seek.stream_bytes c.args.reader) in
-    let wanted = c.args.wanted.now in
-    subst (λ (e : CliError). FailsToTake wanted x (record { batch = None; error = e })) (sym c.in-Err.ensures.error) (out-of-memory wanted x)
+pub returns-in-Err-take_all-clause-error : goal.returns-in-Err-take_all-clause-error
+returns-in-Err-take_all-clause-error g c =
+    let t = remaining_batches g.R.Read.remaining g.R.Seek.stream_position g.R.Seek.stream_bytes c.args.reader in
+    let s = reader_schema c.args.reader in
+    let state = c.in-Ok.state in
+    let start = started t s state (fresh g.R.Read.remaining g.R.Seek.stream_position g.R.Seek.stream_bytes c.args.reader) c.in-Ok.ensures.none in
+    stops c.args.wanted.now state.wanted.items t s c.in-Err-take_all.error c.in-Ok.ensures.same (c.in-Err-take_all.ensures.error t s refl start)
 
-pub take_typed-taken-requires : goal.take_typed-taken-requires
-take_typed-taken-requires g c = c.in-Ok.ensures.row ∙ ap (λ fs. record_type (map field_of fs)) c.deref.ensures.value ∙ ap (λ (z : SchemaModel). record_type z.fields) c.schema.ensures
+pub finish-requires-clause-taken : goal.finish-requires-clause-taken
+finish-requires-clause-taken g c =
+    let t = remaining_batches g.R.Read.remaining g.R.Seek.stream_position g.R.Seek.stream_bytes c.args.reader in
+    let s = reader_schema c.args.reader in
+    let state = c.in-Ok.state in
+    let start = started t s state (fresh g.R.Read.remaining g.R.Seek.stream_position g.R.Seek.stream_bytes c.args.reader) c.in-Ok.ensures.none in
+    let has = c.in-Ok-take_all.ensures.taken t s refl start in
+    (has.3.0, subst (λ (z : SchemaModel). HasTakenFrom z.fields has.3.0 c.take_all.new.state) (sym (c.schema.ensures ∙ c.in-Ok-take_all.ensures.schema)) has.3.2)
+
+pub returns-in-Ok-finish-clause-rows : goal.returns-in-Ok-finish-clause-rows
+returns-in-Ok-finish-clause-rows g c =
+    let t = remaining_batches g.R.Read.remaining g.R.Seek.stream_position g.R.Seek.stream_bytes c.args.reader in
+    let s = reader_schema c.args.reader in
+    let state = c.in-Ok.state in
+    let start = started t s state (fresh g.R.Read.remaining g.R.Seek.stream_position g.R.Seek.stream_bytes c.args.reader) c.in-Ok.ensures.none in
+    let has = c.in-Ok-take_all.ensures.taken t s refl start in
+    let held = table_of c.in-Ok-finish.table in
+    let same = c.schema.ensures ∙ c.in-Ok-take_all.ensures.schema in
+    takes c.args.wanted.now t s c.take_all.new.state held has (c.in-Ok-finish.ensures.schema ∙ same)
+    (λ rows took. c.in-Ok-finish.ensures.rows rows (subst (λ (z : SchemaModel). HasTakenFrom z.fields rows c.take_all.new.state) (sym same) took))
+
+pub returns-clause-error : goal.returns-clause-error
+returns-clause-error g c =
+    let t = remaining_batches g.R.Read.remaining g.R.Seek.stream_position g.R.Seek.stream_bytes c.args.reader in
+    let s = reader_schema c.args.reader in
+    let state = c.in-Ok.state in
+    let start = started t s state (fresh g.R.Read.remaining g.R.Seek.stream_position g.R.Seek.stream_bytes c.args.reader) c.in-Ok.ensures.none in
+    let has = c.in-Ok-take_all.ensures.taken t s refl start in
+    let same = subst (λ (ps : List ℕ). IsPermutation c.args.wanted.now ps) (ap (λ v. v.items) (sym c.in-Ok-take_all.ensures.same)) c.in-Ok.ensures.same in
+    unplaced c.args.wanted.now t s c.take_all.new.state c.in-Err-finish.error same has c.in-Err-finish.ensures.error

@@ -1,17 +1,8 @@
-use Rattle.std.proofs.Common.{Ok, ◌∙◌, ap, subst, sym}
-use Rattle.ipc_schema.specs.Schemas.{SchemaModel}
-use Rattle.cli_rows.specs.Records.{record_type}
+use Rattle.std.proofs.Common.{Ok, ◌∙◌, subst}
 use Rattle.cli_read.specs.RowBuffers.{BothBuffered, IsStep}
 use Rattle.cli_read.specs.Readers.{remaining_batches}
 use Rattle.cli_read.specs.declared.comparison.inputs.Step.{Step}
 use Rattle.cli_read.proofs.comparison.inputs.compare_all.Goals as goal
-
-pub compare_next-requires-clause-row : goal.compare_next-requires-clause-row
-compare_next-requires-clause-row g c =
-    let i = c.steps.invariant in (
-      c.requires.row.0 ∙ ap (λ (z : SchemaModel). record_type z.fields) (sym i.left_schema),
-      c.requires.row.1 ∙ ap (λ (z : SchemaModel). record_type z.fields) (sym i.right_schema),
-    )
 
 pub returns-in-Ok-Done : goal.returns-in-Ok-Done
 returns-in-Ok-Done g c = λ t u s hl hr p q.

@@ -1,7 +1,5 @@
 use Rattle.std.proofs.Common.{rules, option_map, ◌++◌, ◌+◌, take, ap, refl, subst, sym, ◌∙◌, arith}
 use Rattle.nest_array.specs.Seen.{layout_of}
-use Rattle.ipc_schema.specs.Schemas.{SchemaModel}
-use Rattle.cli_rows.specs.Records.{record_type}
 use Rattle.cli_read.specs.Remaining.{with_schema}
 use Rattle.cli_read.specs.RowBuffers.{IsInBounds, buffered_rows}
 use Rattle.cli_read.specs.Readers.{remaining_batches, reader_schema}
@@ -9,9 +7,6 @@ use Rattle.cli_read.proofs.Buffers.{passed-room}
 use Rattle.cli_read.proofs.EqualFiles.{device-failed, none-left}
 use Rattle.cli_read.proofs.BufferSteps.{tell-none, passed-so, stop-first, stops-it, under-it}
 use Rattle.cli_read.proofs.comparison.inputs.read_all.Goals as goal
-
-pub fill-requires-clause-row : goal.fill-requires-clause-row
-fill-requires-clause-row g c = c.requires.row ∙ ap (λ (z : SchemaModel). record_type z.fields) (sym c.batches.invariant.schema)
 
 pub returns-in-Err : goal.returns-in-Err
 returns-in-Err g c = λ t s h begun.

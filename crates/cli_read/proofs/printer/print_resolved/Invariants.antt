@@ -2,7 +2,7 @@ use Rattle.std.proofs.Common.{◌≡◌}
 use Rattle.cli_args.specs.RequestTrees.{request_tree}
 use Rattle.cli_read.specs.Readers.{reader_schema, remaining_batches}
 use Rattle.cli_read.proofs.PrintSteps.{PrintState}
-use Rattle.cli_read.proofs.printer.print_batches.Given as goal
+use Rattle.cli_read.proofs.printer.print_resolved.Given as goal
 
 abbrev pub invariant-loop-k : goal.invariant-loop-k
 invariant-loop-k g l =

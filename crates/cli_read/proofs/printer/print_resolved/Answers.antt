@@ -1,12 +1,10 @@
-use Rattle.std.proofs.Common.{◌≡◌, ◌∙◌, [], ℕ, List, Option, Some, None, Ok, Err, arith, ap, map, refl, subst, sym}
+use Rattle.std.proofs.Common.{◌≡◌, ◌∙◌, [], ℕ, List, Option, Some, Ok, Err, arith, ap, map, refl, subst, sym}
 use Rattle.std.specs.Io.KnownBytes.{Keeps}
 use Rattle.std.specs.Option.{option_map}
 use Rattle.ipc_schema.specs.Schemas.{SchemaModel}
 use Rattle.ipc.specs.Streams.{record_batch_of}
 use Rattle.ipc.specs.declared.batch.Batch.{Batch}
 use Rattle.cli_args.specs.RequestTrees.{request_tree}
-use Rattle.cli_rows.specs.Records.{record_type}
-use Rattle.cli_rows.specs.declared.error.CliError.{CliError}
 use Rattle.cli_rows.specs.declared.error.CliError.TheVariants.{Input}
 use Rattle.cli_read.specs.Printed.{FailsWith, Prints, WritesText}
 use Rattle.cli_read.specs.Readers.{reader_schema, remaining_batches}
@@ -15,13 +13,7 @@ use Rattle.cli_read.specs.RemainingRequests.{batch_table, remaining_request, tab
 use Rattle.cli_read.specs.RowBuffers.{table_of_batches}
 use Rattle.cli_read.proofs.PrintSteps.{at-end, batch-fails, batch-printed, batch-unread, complete, not-begun, state-begun, uncounted}
 use Rattle.cli_read.proofs.Readers.{fresh}
-use Rattle.cli_read.proofs.printer.print_batches.Goals as goal
-
-pub write_text-requires : goal.write_text-requires
-write_text-requires g c = c.requires.row ∙ ap (λ (z : SchemaModel). record_type z.fields) (sym c.schema.ensures)
-
-pub write_batch-requires : goal.write_batch-requires
-write_batch-requires g c = c.requires.row ∙ ap (λ (z : SchemaModel). record_type z.fields) (sym (c.schema-in-loop-k.ensures ∙ c.in-Ok-Some.ensures.schema ∙ c.loop-k.invariant.schema))
+use Rattle.cli_read.proofs.printer.print_resolved.Goals as goal
 
 pub returns-in-Err : goal.returns-in-Err
 returns-in-Err g c =
@@ -43,7 +35,7 @@ loop-k-init g c =
     let bs = c.new.result.items in
     record {
       schema = refl;
-      on = state-begun q s (remaining_batches g.R.Read.remaining g.R.Seek.stream_position g.R.Seek.stream_bytes c.args.reader) old new c.requires.order (fresh g.R.Read.remaining g.R.Seek.stream_position g.R.Seek.stream_bytes c.args.reader)
+      on = state-begun q s (remaining_batches g.R.Read.remaining g.R.Seek.stream_position g.R.Seek.stream_bytes c.args.reader) old new c.requires (fresh g.R.Read.remaining g.R.Seek.stream_position g.R.Seek.stream_bytes c.args.reader)
           (subst (λ (l : List Batch). WritesText q (Ok (table_of_batches s (map record_batch_of l))) old new) c.new.ensures.items
           (subst (λ (z : SchemaModel). WritesText q (Ok (table_of_batches z (map record_batch_of bs))) old new) c.schema.ensures c.in-Ok.ensures.ok));
     }

@@ -3,7 +3,7 @@ use Rattle.cli_read.specs.Readers.{remaining_batches, reader_schema}
 use Rattle.cli_read.proofs.Readers.{fresh}
 use Rattle.cli_args.specs.Requests.{all}
 use Rattle.cli_write.proofs.ConcatSteps.{begun-all, put-all}
-use Rattle.cli_write.proofs.concat.append_typed.Goals as goal
+use Rattle.cli_write.proofs.concat.append_batches.Goals as goal
 
 pub returns-in-Ok-clause-put : goal.returns-in-Ok-clause-put
 returns-in-Ok-clause-put g c = λ form start front p.
