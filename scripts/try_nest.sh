@@ -26,7 +26,8 @@ printf 'a,b\n1,2\n' >"$room/csv"
 { head -c 840 "$room/stream"; printf '\4'; tail -c +842 "$room/stream"; } >"$room/unlike"
 
 # The messages of the crates of the IPC formats.
-continuation='message does not begin with the continuation indicator FF FF FF FF'
+text='not an Arrow IPC file or stream: it looks like CSV or text'
+negative='metadata length of a message is negative'
 compressed='compressed bodies are not supported'
 magic='file does not begin and end with ARROW1'
 
@@ -73,21 +74,30 @@ expect 0 "$all" '' rows "$room/as"
 expect 1 '' "nest: $room/none/as: output cannot be written" convert "$room/file" "$room/none/as"
 expect 1 '' "nest: $room/packed: record batch 0: $compressed; write it without compression" rows "$room/packed"
 expect 0 '' '' rows "$room/packed" 0 0
-expect 1 '' "nest: $room/csv: $continuation" rows "$room/csv"
+expect 1 '' "nest: $room/csv: $text" rows "$room/csv"
 expect 1 '' "nest: $room/cut: $magic" schema "$room/cut"
+# Files of other formats: by their first bytes.
+: >"$room/empty"
+printf 'PAR1\25\4\25\20' >"$room/parquet"
+printf 'FEA1\0\0\0\0' >"$room/feather"
+printf '\37\213\10\10' >"$room/gzip"
+expect 1 '' "nest: $room/empty: not an Arrow IPC file or stream: the file is empty" schema "$room/empty"
+expect 1 '' "nest: $room/parquet: not an Arrow IPC file or stream: it looks like Parquet" schema "$room/parquet"
+expect 1 '' "nest: $room/feather: not an Arrow IPC file or stream: it looks like Feather version 1" rows "$room/feather"
+expect 1 '' "nest: $room/gzip: not an Arrow IPC file or stream" rows "$room/gzip"
 expect 1 '' "nest: $room/bare: record batch 0: the record batch has no columns of the schema" rows "$room/bare"
 expect 0 '' '' schema "$room/bare"
-expect 1 '' "nest: $room/none: input cannot be read" rows "$room/none"
-# The second record batch is truncated, or the third has no continuation indicator: earlier rows are printed. Inputs that cannot seek.
+expect 1 '' "nest: $room/none: no such file" rows "$room/none"
+# The second record batch is truncated, or the metadata length of the third is negative: earlier rows are printed. Inputs that cannot seek.
 two='{"a":1,"b":"a"}\n{"a":null,"b":"b"}\n'
 head -c 500 "$room/stream" >"$room/early"
-{ head -c 632 "$room/stream"; printf '\0'; tail -c +634 "$room/stream"; } >"$room/unmarked"
+{ head -c 632 "$room/stream"; printf '\0'; tail -c +634 "$room/stream"; } >"$room/negative"
 expect 0 "$two" '' rows "$room/early" 0 2
 expect 0 '' '' cut "$room/early" 0 0
-expect 1 "$two" "nest: $room/unmarked: record batch 2: $continuation" rows "$room/unmarked"
-expect 0 "$two" '' rows "$room/unmarked" 0 2
-expect 0 '{"a":1,"b":"a"}\n' '' take "$room/unmarked" 0
-expect 1 '' "nest: $room/unmarked: record batch 2: $continuation" take "$room/unmarked" 0 2
+expect 1 "$two" "nest: $room/negative: record batch 2: $negative" rows "$room/negative"
+expect 0 "$two" '' rows "$room/negative" 0 2
+expect 0 '{"a":1,"b":"a"}\n' '' take "$room/negative" 0
+expect 1 '' "nest: $room/negative: record batch 2: $negative" take "$room/negative" 0 2
 [ "$("$program" rows - <"$room/file")" = "$("$program" rows "$room/file")" ] || { echo 'nest rows: a file as standard input'; failed=1; }
 for input in stream file; do
     [ "$(cat "$room/$input" | "$program" cut /dev/stdin 1 1)" = '{"a":null,"b":"b"}' ] || { echo 'nest cut: a pipe'; failed=1; }
@@ -111,11 +121,11 @@ expect 1 'row 2\n' '' equal "$room/parts" "$room/unlike"
 # An error is reported with its record batch if no row before it differs, else the difference is printed.
 expect 1 '' "nest: $room/packed: record batch 0: $compressed; write it without compression" equal "$room/packed" "$room/file"
 expect 1 '' "nest: $room/packed: record batch 0: $compressed; write it without compression" equal "$room/file" "$room/packed"
-expect 1 '' "nest: $room/csv: $continuation" equal "$room/packed" "$room/csv"
-expect 1 '' "nest: $room/unmarked: record batch 2: $continuation" equal "$room/file" "$room/unmarked"
+expect 1 '' "nest: $room/csv: $text" equal "$room/packed" "$room/csv"
+expect 1 '' "nest: $room/negative: record batch 2: $negative" equal "$room/file" "$room/negative"
 [ "$(cat "$room/stream" | "$program" equal /dev/stdin "$room/unlike")" = 'row 2' ] || { echo 'nest equal: a pipe'; failed=1; }
-expect 1 '' "nest: $room/csv: $continuation" equal "$room/file" "$room/csv"
-expect 1 '' "nest: $room/none: input cannot be read" equal "$room/file" "$room/none"
+expect 1 '' "nest: $room/csv: $text" equal "$room/file" "$room/csv"
+expect 1 '' "nest: $room/none: no such file" equal "$room/file" "$room/none"
 # Projected columns, in the order of the schema, of streams and files, with the option anywhere; an unknown name.
 for file in "$room/stream" "$room/file" -; do
     expect 0 'b: string\n' '' schema "$file" --columns b
@@ -144,9 +154,9 @@ expect 0 'b: string\n' '' schema "$room/b"
 expect 0 '' '' concat "$room/one" "$room/one" -o "$room/one"
 expect 1 '' "nest: $room/truths: the schema differs from that of $room/file" concat "$room/file" "$room/parts" "$room/truths" -o "$room/none"
 expect 1 '' "nest: $room/packed: record batch 0: $compressed; write it without compression" concat "$room/file" "$room/packed" -o "$room/none"
-expect 1 '' "nest: $room/unmarked: record batch 2: $continuation" concat "$room/file" "$room/unmarked" -o "$room/none"
-expect 1 '' "nest: $room/csv: $continuation" concat "$room/csv" "$room/file" -o "$room/none"
-expect 1 '' "nest: $room/absent: input cannot be read" concat "$room/file" "$room/absent" -o "$room/none"
+expect 1 '' "nest: $room/negative: record batch 2: $negative" concat "$room/file" "$room/negative" -o "$room/none"
+expect 1 '' "nest: $room/csv: $text" concat "$room/csv" "$room/file" -o "$room/none"
+expect 1 '' "nest: $room/absent: no such file" concat "$room/file" "$room/absent" -o "$room/none"
 [ ! -e "$room/none" ] || { echo 'nest concat: an output after an error'; failed=1; }
 # To standard output, to a full one, and to an existing file, which is unchanged after an error.
 [ "$("$program" concat "$room/file" "$room/parts" -o - | "$program" rows -)" = "$(printf "$all$all")" ] || { echo 'nest concat: a pipe'; failed=1; }
@@ -202,8 +212,8 @@ expect 1 'row 2\n' '' equal "$room/two" "$room/bare"
 expect 1 '' "nest: $room/bare: a row index is out of range" take "$room/bare" 3 -o "$room/none"
 expect 1 '' "nest: $room/bare: there is no column of that name" where "$room/bare" a -o "$room/none"
 expect 1 '' "nest: $room/packed: record batch 0: $compressed; write it without compression" cut "$room/packed" 0 1 -o "$room/none"
-expect 1 '' "nest: $room/csv: $continuation" take "$room/csv" 0 -o "$room/none"
-expect 1 '' "nest: $room/absent: input cannot be read" where "$room/absent" a -o "$room/none"
+expect 1 '' "nest: $room/csv: $text" take "$room/csv" 0 -o "$room/none"
+expect 1 '' "nest: $room/absent: no such file" where "$room/absent" a -o "$room/none"
 expect 1 '' "nest: $room/no/out: output cannot be written" cut "$room/file" 0 1 -o "$room/no/out"
 [ ! -e "$room/none" ] || { echo 'nest: an output after an error'; failed=1; }
 # New files: an error leaves none; a slice before an invalid record batch is written. An existing output is unchanged after an error, may be the
@@ -229,15 +239,15 @@ for out in "$room/new.arrows" "$room/new"; do
         cmp -s "$out" "$room/first" || { echo "nest cut $words -o $out: other bytes"; failed=1; }
     done
     rm -f "$out"
-    expect 1 '' "nest: $room/unmarked: record batch 2: $continuation" convert "$room/unmarked" "$out"
-    expect 1 '' "nest: $room/unmarked: record batch 2: $continuation" cut "$room/unmarked" 1 2 -o "$out"
-    expect 1 '' "nest: $room/csv: $continuation" convert "$room/csv" "$out"
-    expect 1 '' "nest: $room/absent: input cannot be read" convert "$room/absent" "$out"
+    expect 1 '' "nest: $room/negative: record batch 2: $negative" convert "$room/negative" "$out"
+    expect 1 '' "nest: $room/negative: record batch 2: $negative" cut "$room/negative" 1 2 -o "$out"
+    expect 1 '' "nest: $room/csv: $text" convert "$room/csv" "$out"
+    expect 1 '' "nest: $room/absent: no such file" convert "$room/absent" "$out"
     expect 1 '' "nest: $room/truths: there is no column of that name" where "$room/truths" c -o "$out"
     [ ! -e "$out" ] || { echo 'nest: a new output after an error'; failed=1; }
-    expect 0 '' '' cut "$room/unmarked" 1 1 -o "$out"
+    expect 0 '' '' cut "$room/negative" 1 1 -o "$out"
     expect 0 '{"a":null,"b":"b"}\n' '' rows "$out"
-    expect 1 '' "nest: $room/unmarked: record batch 2: $continuation" convert "$room/unmarked" "$out"
+    expect 1 '' "nest: $room/negative: record batch 2: $negative" convert "$room/negative" "$out"
     expect 0 '{"a":null,"b":"b"}\n' '' rows "$out"
     rm -f "$out"
     expect 0 '' '' convert "$room/file" "$out"
@@ -327,7 +337,7 @@ expect 1 '' "nest: $room/past: line 2: invalid JSON" from-json "$rows" "$room/pa
 printf '{"d":1}' >"$room/past"
 expect 1 '' "nest: $room/past: line 1: unknown field" from-json "$rows" "$room/past" "$room/as"
 expect 1 '' "nest: struct<a: double>: cannot be read from JSON: floating-point type" from-json 'struct<a: double>' "$room/lines" "$room/as"
-expect 1 '' "nest: $room/none: input cannot be read" from-json "$rows" "$room/none" "$room/as"
+expect 1 '' "nest: $room/none: no such file" from-json "$rows" "$room/none" "$room/as"
 expect 1 '' "nest: $room/none/as: output cannot be written" from-json "$rows" "$room/lines" "$room/none/as"
 expect 2 '' 'nest: int8: the type of a row is a struct' from-json int8 "$room/lines" "$room/as"
 expect 2 '' "nest: struct: invalid data type at byte 0" from-json struct "$room/lines" "$room/as"
@@ -347,7 +357,7 @@ mkdir "$pages"
 cp "$room/file" "$pages/table.arrow"
 cp "$room/parts" "$pages/parts.arrows"
 cp "$room/shorter" "$pages/shorter.arrows"
-cp "$room/unmarked" "$pages/invalid.arrows"
+cp "$room/negative" "$pages/invalid.arrows"
 cp "$room/packed" "$pages/packed.arrows"
 cp "$room/lines" "$pages/rows.json"
 printf '{"a":1}\n{"a":2147483648}\n' >"$pages/invalid.json"

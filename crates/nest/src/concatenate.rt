@@ -1,7 +1,7 @@
 //! The command `concat`.
-use crate::input::{Source, open_input};
+use crate::input::{OpenError, Source, open_input};
 use crate::is;
-use crate::messages::{report, report_batch, report_usage};
+use crate::messages::{report, report_batch, report_open, report_usage};
 use crate::output::{Output, ProgressLine, open_output, settle};
 use cli_args::format_of;
 use cli_read::Input;
@@ -15,6 +15,8 @@ use std::process::ExitCode;
 /// Error returned where files are not concatenated, and the file.
 #[derive(Drop)]
 enum ConcatError<'a> {
+    /// The file is not opened.
+    Open(&'a String, OpenError),
     /// The file is not read, or not written.
     Batch(&'a String, BatchError),
     /// The schema of the file differs from that of the first.
@@ -46,14 +48,13 @@ fn append_file<'a, W: Write + Drop>(
     writer: &mut BatchWriter<W>,
     line: &mut ProgressLine<'_>,
 ) -> Result<(), ConcatError<'a>> {
-    let appended = match open_input(rt, file) {
-        Err(error) => Err(AppendError::Batch(BatchError { batch: None, error })),
-        Ok(input) => append(rt.alloc(), columns, input, writer, line),
-    };
-    match appended {
-        Ok(()) => Ok(()),
-        Err(AppendError::Schema) => Err(ConcatError::Schema(file)),
-        Err(AppendError::Batch(error)) => Err(ConcatError::Batch(file, error)),
+    match open_input(rt, file) {
+        Err(error) => Err(ConcatError::Open(file, error)),
+        Ok(input) => match append(rt.alloc(), columns, input, writer, line) {
+            Ok(()) => Ok(()),
+            Err(AppendError::Schema) => Err(ConcatError::Schema(file)),
+            Err(AppendError::Batch(error)) => Err(ConcatError::Batch(file, error)),
+        },
     }
 }
 
@@ -114,6 +115,7 @@ fn report_concat(
             ExitCode::FAILURE
         }
         Err(ConcatError::End(error)) => report(rt, out, error),
+        Err(ConcatError::Open(file, error)) => report_open(rt, file, error),
         Err(ConcatError::Batch(file, error)) => {
             if error.error == CliError::Output {
                 return report(rt, out, CliError::Output);
@@ -166,7 +168,7 @@ pub fn concat(
         return report_usage(rt);
     };
     match open_input(rt, first) {
-        Err(error) => report(rt, first, error),
+        Err(error) => report_open(rt, first, error),
         Ok(input) => {
             if !is(out, "-") {
                 return concat_to_file(rt, columns, (first, input), others, out);

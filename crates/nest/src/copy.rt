@@ -4,7 +4,7 @@ ghost use Rattle.cli_rows.specs.RowOrder.{IsInRowOrder};
 
 use crate::input::{Source, open_input};
 use crate::is;
-use crate::messages::{report, report_batch};
+use crate::messages::{report, report_batch, report_open};
 use crate::output::{Output, ProgressLine, open_output, settle};
 use crate::take::write_taken;
 use cli_args::{Selection, format_of};
@@ -104,7 +104,7 @@ pub fn copy_file(
     match open_input(rt, file) {
         Err(error) => {
             drop(selection);
-            report(rt, file, error)
+            report_open(rt, file, error)
         }
         Ok(input) => {
             if !is(out, "-") {

@@ -1,12 +1,53 @@
 //! Files and standard input as inputs.
 use crate::is;
 use cli_read::{Input, is_file, read_first_bytes};
-use cli_rows::{CliError, read_input};
+use cli_rows::{CliError, OtherFormat, other_format, read_input};
 use ipc_io::SeekRead;
 use std::fs::File;
 use std::io::{Chain, Cursor, ErrorKind, Read, Seek, SeekFrom, StdinLock};
 use std::rt::Files;
 use std::{fs, io};
+use thiserror::Error;
+
+/// Error returned where an input is not opened.
+#[derive(Clone, Copy, Debug, PartialEq, Eq, Error)]
+pub enum OpenError {
+    /// There is no file of the name.
+    #[error("no such file")]
+    NotFound,
+    /// The file may not be read.
+    #[error("permission denied")]
+    PermissionDenied,
+    /// The file cannot be opened, or reading failed.
+    #[error("input cannot be read")]
+    Input,
+    /// The input is neither an Arrow IPC file nor a stream.
+    #[error("{0}")]
+    NotArrow(OtherFormat),
+    /// An allocation failed.
+    #[error("out of memory")]
+    Memory,
+}
+
+impl From<CliError> for OpenError {
+    fn from(error: CliError) -> OpenError {
+        match error {
+            CliError::Memory => OpenError::Memory,
+            _ => OpenError::Input,
+        }
+    }
+}
+
+impl From<io::Error> for OpenError {
+    fn from(error: io::Error) -> OpenError {
+        match error.kind() {
+            ErrorKind::NotFound => OpenError::NotFound,
+            ErrorKind::PermissionDenied => OpenError::PermissionDenied,
+            ErrorKind::OutOfMemory => OpenError::Memory,
+            _ => OpenError::Input,
+        }
+    }
+}
 
 /// A source of bytes. One that cannot seek is chained after its first bytes.
 #[derive(Drop)]
@@ -50,16 +91,27 @@ impl SeekRead for Source {
 }
 
 /// Reads an Arrow file that cannot seek into memory: it is read from its end.
-fn read_file<R: Read>(rt: &impl AllocGlobal, source: &mut R) -> Result<Input<Source>, CliError> {
+fn read_file<R: Read>(rt: &impl AllocGlobal, source: &mut R) -> Result<Input<Source>, OpenError> {
     let bytes = read_input(rt.alloc(), source)?;
     Ok(Input::File(Source::Bytes(Cursor::new(bytes))))
 }
 
+/// Returns whether an input with these first bytes is a file, and not a stream.
+fn is_arrow_file(head: &[u8]) -> Result<bool, OpenError> {
+    if is_file(head) {
+        return Ok(true);
+    }
+    match other_format(head) {
+        Some(format) => Err(OpenError::NotArrow(format)),
+        None => Ok(false),
+    }
+}
+
 /// Opens standard input.
-fn open_stdin(rt: &HostRuntime) -> Result<Input<Source>, CliError> {
+fn open_stdin(rt: &HostRuntime) -> Result<Input<Source>, OpenError> {
     let mut reader = rt.reader();
     let head = read_first_bytes(rt.alloc(), &mut reader)?;
-    let is_arrow_file = is_file(&head);
+    let is_arrow_file = is_arrow_file(&head)?;
     let mut source = Cursor::new(head).chain(reader);
     if is_arrow_file {
         return read_file(rt, &mut source);
@@ -68,9 +120,9 @@ fn open_stdin(rt: &HostRuntime) -> Result<Input<Source>, CliError> {
 }
 
 /// Returns an open file as an input, from its first byte.
-fn open_file(rt: &impl AllocGlobal, mut opened: File) -> Result<Input<Source>, CliError> {
+fn open_file(rt: &impl AllocGlobal, mut opened: File) -> Result<Input<Source>, OpenError> {
     let head = read_first_bytes(rt.alloc(), &mut opened)?;
-    let is_arrow_file = is_file(&head);
+    let is_arrow_file = is_arrow_file(&head)?;
     if opened.seek(SeekFrom::Start(0)).is_ok() {
         let source = Source::File(opened);
         return Ok(if is_arrow_file {
@@ -87,12 +139,10 @@ fn open_file(rt: &impl AllocGlobal, mut opened: File) -> Result<Input<Source>, C
 }
 
 /// Opens a file or standard input, as an Arrow file or stream by its first bytes.
-pub fn open_input(rt: &HostRuntime, file: &String) -> Result<Input<Source>, CliError> {
+pub fn open_input(rt: &HostRuntime, file: &String) -> Result<Input<Source>, OpenError> {
     if is(file, "-") {
         return open_stdin(rt);
     }
-    match fs::open(rt, file.as_str()) {
-        Ok(opened) => open_file(rt, opened),
-        Err(_) => Err(CliError::Input),
-    }
+    let opened = fs::open(rt, file.as_str())?;
+    open_file(rt, opened)
 }

@@ -1,6 +1,7 @@
 //! The command `from-json`.
+use crate::input::OpenError;
 use crate::is;
-use crate::messages::report;
+use crate::messages::{report, report_open};
 use crate::output::{Output, ProgressLine, open_output, settle};
 use cli_args::{ImportRequest, format_of};
 use cli_rows::CliError;
@@ -123,9 +124,9 @@ fn open_lines(rt: &HostRuntime, request: &ImportRequest<'_>, fields: Vec<Field>)
     }
     match fs::open(rt, file.as_str()) {
         Ok(opened) => import_lines(rt, request, fields, opened),
-        Err(_) => {
+        Err(error) => {
             drop(fields);
-            report(rt, file, CliError::Input)
+            report_open(rt, file, OpenError::from(error))
         }
     }
 }

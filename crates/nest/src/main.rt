@@ -14,13 +14,15 @@ use cli_args::{
     parse_selection,
 };
 use cli_read::compare;
-use cli_rows::{BatchError, CliError, in_row_order};
+use cli_rows::{CliError, in_row_order};
 use concatenate::concat;
 use copy::{copy_file, copy_selection};
 use input::open_input;
 use ipc_schema::Projection;
 use json_import::from_json;
-use messages::{print_comparison, report, report_batch, report_options, report_usage};
+use messages::{
+    InputError, print_comparison, report, report_input, report_open, report_options, report_usage,
+};
 use std::io::ErrorKind;
 use std::process::ExitCode;
 use std::rt::Env;
@@ -71,17 +73,18 @@ fn print_in_order(
     columns: Projection<'_>,
     file: &String,
     selection: Selection,
-) -> Result<(), BatchError> {
+) -> Result<(), InputError> {
     match in_row_order(selection) {
         Err(indices) => print_taken(rt, columns, file, &indices),
         Ok(selection) => match open_input(rt, file) {
             Err(error) => {
                 drop(selection);
-                Err(BatchError { batch: None, error })
+                Err(InputError::Open(error))
             }
             Ok(input) => {
                 let request = Request::Rows(selection);
-                cli_read::print(rt.alloc(), columns, request, input, &mut io::writer(rt))
+                cli_read::print(rt.alloc(), columns, request, input, &mut io::writer(rt))?;
+                Ok(())
             }
         },
     }
@@ -92,17 +95,11 @@ fn print_schema(
     rt: &HostRuntime,
     columns: Projection<'_>,
     file: &String,
-) -> Result<(), BatchError> {
-    match open_input(rt, file) {
-        Err(error) => Err(BatchError { batch: None, error }),
-        Ok(input) => cli_read::print(
-            rt.alloc(),
-            columns,
-            Request::Columns,
-            input,
-            &mut io::writer(rt),
-        ),
-    }
+) -> Result<(), InputError> {
+    let input = open_input(rt, file)?;
+    let out = &mut io::writer(rt);
+    cli_read::print(rt.alloc(), columns, Request::Columns, input, out)?;
+    Ok(())
 }
 
 /// Prints what is requested of a file.
@@ -113,18 +110,18 @@ fn print(rt: &HostRuntime, columns: Projection<'_>, file: &String, request: Requ
     };
     match printed {
         Ok(()) => ExitCode::SUCCESS,
-        Err(error) => report_batch(rt, file, error),
+        Err(error) => report_input(rt, file, error),
     }
 }
 
 /// Compares two files.
 fn equal(rt: &HostRuntime, columns: Projection<'_>, file: &String, other: &String) -> ExitCode {
     match open_input(rt, file) {
-        Err(error) => report(rt, file, error),
+        Err(error) => report_open(rt, file, error),
         Ok(left) => match open_input(rt, other) {
             Err(error) => {
                 drop(left);
-                report(rt, other, error)
+                report_open(rt, other, error)
             }
             Ok(right) => {
                 let compared = compare(rt.alloc(), columns, left, right);

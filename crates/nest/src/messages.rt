@@ -1,4 +1,5 @@
 //! Messages on standard error, and exit codes.
+use crate::input::OpenError;
 use cli_read::CompareError;
 use cli_rows::{BatchError, CliError, Difference, difference_text, write_output};
 use ipc_flatbuf::IpcReadError;
@@ -17,10 +18,51 @@ pub fn report_options(rt: &HostRuntime) -> ExitCode {
     ExitCode::from(2)
 }
 
+/// Error returned where a command fails with an input.
+#[derive(Clone, Copy)]
+pub enum InputError {
+    /// The input is not opened.
+    Open(OpenError),
+    /// An error in a record batch, or before the record batches.
+    Batch(BatchError),
+}
+
+impl From<OpenError> for InputError {
+    fn from(error: OpenError) -> InputError {
+        InputError::Open(error)
+    }
+}
+
+impl From<BatchError> for InputError {
+    fn from(error: BatchError) -> InputError {
+        InputError::Batch(error)
+    }
+}
+
+impl From<CliError> for InputError {
+    fn from(error: CliError) -> InputError {
+        InputError::Batch(BatchError { batch: None, error })
+    }
+}
+
 /// Reports an error of a file.
 pub fn report(rt: &HostRuntime, file: &String, error: CliError) -> ExitCode {
     let _ = eprintln!(rt; "nest: {file}: {error}");
     ExitCode::FAILURE
+}
+
+/// Reports an input that is not opened.
+pub fn report_open(rt: &HostRuntime, file: &String, error: OpenError) -> ExitCode {
+    let _ = eprintln!(rt; "nest: {file}: {error}");
+    ExitCode::FAILURE
+}
+
+/// Reports an error of an input.
+pub fn report_input(rt: &HostRuntime, file: &String, error: InputError) -> ExitCode {
+    match error {
+        InputError::Open(error) => report_open(rt, file, error),
+        InputError::Batch(error) => report_batch(rt, file, error),
+    }
 }
 
 /// Returns what the user can do about an error, where that is known.

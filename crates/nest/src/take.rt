@@ -1,11 +1,11 @@
 //! The command `take`. All rows are in memory before the output is opened.
 use crate::input::open_input;
 use crate::is;
-use crate::messages::{report, report_batch};
+use crate::messages::{InputError, report, report_input};
 use crate::output::{open_output, settle};
 use cli_args::format_of;
 use cli_read::{take_encoded, take_lines};
-use cli_rows::{BatchError, write_output};
+use cli_rows::write_output;
 use ipc_schema::Projection;
 use std::io;
 use std::process::ExitCode;
@@ -15,11 +15,10 @@ fn taken_lines(
     columns: Projection<'_>,
     file: &String,
     indices: &[usize],
-) -> Result<String, BatchError> {
-    match open_input(rt, file) {
-        Err(error) => Err(BatchError { batch: None, error }),
-        Ok(input) => take_lines(rt.alloc(), columns, indices, input),
-    }
+) -> Result<String, InputError> {
+    let input = open_input(rt, file)?;
+    let text = take_lines(rt.alloc(), columns, indices, input)?;
+    Ok(text)
 }
 
 /// Prints the row at each index.
@@ -28,14 +27,10 @@ pub fn print_taken(
     columns: Projection<'_>,
     file: &String,
     indices: &[usize],
-) -> Result<(), BatchError> {
-    match taken_lines(rt, columns, file, indices) {
-        Err(error) => Err(error),
-        Ok(text) => match write_output(&mut io::writer(rt), text.as_bytes()) {
-            Ok(()) => Ok(()),
-            Err(error) => Err(BatchError { batch: None, error }),
-        },
-    }
+) -> Result<(), InputError> {
+    let text = taken_lines(rt, columns, file, indices)?;
+    write_output(&mut io::writer(rt), text.as_bytes())?;
+    Ok(())
 }
 
 fn taken_bytes(
@@ -44,12 +39,11 @@ fn taken_bytes(
     file: &String,
     indices: &[usize],
     out: &String,
-) -> Result<Vec<u8>, BatchError> {
+) -> Result<Vec<u8>, InputError> {
     let format = format_of(out);
-    match open_input(rt, file) {
-        Err(error) => Err(BatchError { batch: None, error }),
-        Ok(input) => take_encoded(rt.alloc(), columns, format, indices, input),
-    }
+    let input = open_input(rt, file)?;
+    let bytes = take_encoded(rt.alloc(), columns, format, indices, input)?;
+    Ok(bytes)
 }
 
 fn write_file(rt: &HostRuntime, out: &String, bytes: &[u8]) -> ExitCode {
@@ -85,7 +79,7 @@ pub fn write_taken(
     out: &String,
 ) -> ExitCode {
     match taken_bytes(rt, columns, file, indices, out) {
-        Err(error) => report_batch(rt, file, error),
+        Err(error) => report_input(rt, file, error),
         Ok(bytes) if is(out, "-") => write_stdout(rt, out, &bytes),
         Ok(bytes) => write_file(rt, out, &bytes),
     }
