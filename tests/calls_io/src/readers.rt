@@ -9,7 +9,7 @@
 //! The same of streams with dictionaries: a batch comes over those before it, and none of a dictionary alone.
 use crate::examples::{batches, same, schema};
 use crate::fake_io::Source;
-use crate::samples::{DICTIONARIES_INSIDE, REPLACEMENT, bytes_of};
+use crate::samples::{DICTIONARIES_INSIDE, LEGACY_FRAMING, REPLACEMENT, bytes_of};
 use ipc::{Batch, SliceStreamReader, write_stream};
 use ipc_io::{ReadError, StreamReader};
 use ipc_schema::Projection;
@@ -191,6 +191,21 @@ fn dictionaries_in_pieces(rt: HostRuntime) {
         for end in 0..bytes.len() {
             assert!(rt; alike(alloc, &bytes[..end], 11), "{end}");
         }
+    }
+}
+
+#[test]
+fn messages_without_continuation_indicator(rt: HostRuntime) {
+    let alloc = rt.alloc();
+    let mut bytes = bytes_of(alloc, LEGACY_FRAMING).expect(&rt, "bytes");
+    for end in 0..bytes.len() {
+        assert!(rt; alike(alloc, &bytes[..end], 3), "{end}");
+    }
+    assert!(rt; bytes.extend_from_slice(&[1, 2, 3]).is_ok());
+    for most in [1usize, 3, 8, 1000000] {
+        let copied = bytes_of(alloc, &bytes).expect(&rt, "bytes");
+        let rows = rows_of(alloc, Source::new(copied, most, usize::MAX)).expect(&rt, "rows");
+        assert!(rt; rows.as_slice() == [3usize, 1].as_slice(), "{most}");
     }
 }
 

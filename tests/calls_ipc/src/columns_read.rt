@@ -2,7 +2,7 @@
 //!
 //! Streams by columns: by name, by position, all, none; columns of types that are not read are skipped, each prefix of their
 //! streams is decoded, and each byte changed.
-use crate::projections::{LAST_COLUMN_FILE, PROJECTIONS, ProjectedSample, STREAMS};
+use crate::projections::{COMPLETE_TEXTS, LAST_COLUMN_FILE, PROJECTIONS, ProjectedSample, STREAMS};
 use crate::samples::{READ, READ_FILES, READ_NESTED, Sample};
 use crate::samples_read::{bytes_of, copied};
 use crate::stream_text::{put_parts, text_of_stream};
@@ -48,8 +48,16 @@ fn by_name_and_by_position(rt: HostRuntime) {
             &rt, "no text",
         );
         assert!(rt; text.as_str() == projection.text, "{text}");
+    }
+}
+
+#[test]
+fn complete_streams(rt: HostRuntime) {
+    let alloc = rt.alloc();
+    for i in 0..STREAMS.len() {
+        let bytes = copied(alloc, STREAMS[i].bytes).expect(&rt, "no bytes");
         let text = text_of_stream(alloc, &bytes).expect(&rt, "no text");
-        assert!(rt; text.as_str() == "error UnsupportedType\n", "{text}");
+        assert!(rt; text.as_str() == COMPLETE_TEXTS[i], "{text}");
     }
 }
 

@@ -10,7 +10,7 @@ use std::collections::BTreeMap;
 #[test]
 fn one_byte_or_two_changed(rt: HostRuntime) {
     for (first, a, second, b, want) in [
-        (0, 0, 0, 0, IpcReadError::Continuation),
+        (0, 0, 0, 0, IpcReadError::MetadataLength),
         (7, 128, 7, 128, IpcReadError::MetadataLength),
         (9, 255, 9, 255, IpcReadError::Flatbuffer),
         (32, 2, 32, 2, IpcReadError::Version),
@@ -20,7 +20,8 @@ fn one_byte_or_two_changed(rt: HostRuntime) {
         (40, 4, 40, 4, IpcReadError::Endianness),
         (93, 0, 93, 0, IpcReadError::MissingType),
         (93, 27, 93, 27, IpcReadError::UnknownType),
-        (93, 3, 93, 3, IpcReadError::UnsupportedType),
+        (93, 22, 93, 22, IpcReadError::UnsupportedType),
+        (93, 3, 93, 3, IpcReadError::TypeRange),
         (116, 24, 116, 24, IpcReadError::TypeRange),
         (88, 8, 88, 8, IpcReadError::ChildCount),
         (100, 255, 100, 255, IpcReadError::MetadataUtf8),
@@ -61,6 +62,7 @@ fn ends(rt: HostRuntime) {
         count_batches(rt.alloc(), &[255, 255, 255, 255, 0, 0, 0, 0])
             == Err(IpcReadError::MissingSchema)
     );
+    assert!(rt; count_batches(rt.alloc(), &[0, 0, 0, 0]) == Err(IpcReadError::MissingSchema));
     assert!(rt; count_batches(rt.alloc(), &[255, 255, 255, 255]) == Err(IpcReadError::Truncated));
     assert!(rt; count_batches(rt.alloc(), &WORKED[..128]) == Ok(0));
     assert!(rt; count_batches(rt.alloc(), &WORKED[..288]) == Ok(1));

@@ -64,6 +64,11 @@ fn bytes_changed(rt: HostRuntime) {
     let end = file(alloc).expect(&rt, "a file").len();
     assert!(rt; changed(alloc, &[]) == Ok(1));
     assert!(rt; changed(alloc, &[(6, 1), (7, 1)]) == Ok(1));
+    // A footer without a version, and those of each version.
+    assert!(rt; changed(alloc, &[(FOOTER + 8, 0)]) == Ok(1));
+    for version in 0..5 {
+        assert!(rt; changed(alloc, &[(FOOTER + 32, version)]) == Ok(1));
+    }
     for index in [0usize, 5, end - 6, end - 1] {
         assert!(rt; changed(alloc, &[(index, 0)]) == Err(IpcReadError::Magic));
     }
@@ -72,8 +77,8 @@ fn bytes_changed(rt: HostRuntime) {
     }
     for (index, byte, want) in [
         (FOOTER, 255u8, IpcReadError::Flatbuffer),
-        (FOOTER + 32, 2, IpcReadError::Version),
         (FOOTER + 32, 5, IpcReadError::Version),
+        (FOOTER + 33, 128, IpcReadError::Version),
         (FOOTER + 10, 0, IpcReadError::MissingSchema),
         (FOOTER + 10, 2, IpcReadError::Flatbuffer),
         (FOOTER + 36, 255, IpcReadError::Flatbuffer),
@@ -90,7 +95,7 @@ fn bytes_changed(rt: HostRuntime) {
         (FOOTER + 64, 24, IpcReadError::Block),
         (FOOTER + 64, 25, IpcReadError::Block),
         // The batch's message.
-        (136, 0, IpcReadError::Continuation),
+        (136, 0, IpcReadError::MetadataLength),
         (143, 128, IpcReadError::MetadataLength),
         (141, 1, IpcReadError::Truncated),
         (145, 255, IpcReadError::Flatbuffer),
@@ -143,7 +148,7 @@ fn other_blocks(rt: HostRuntime) {
         offset: 128,
         ..BATCH
     };
-    assert!(rt; blocks(alloc, &[], &[other]) == Err(IpcReadError::Continuation));
+    assert!(rt; blocks(alloc, &[], &[other]) == Err(IpcReadError::Flatbuffer));
 }
 
 #[test]

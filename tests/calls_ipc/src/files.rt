@@ -52,9 +52,13 @@ pub fn blocks_of_kind(
             None => return Ok(blocks),
             Some(message) => {
                 if message.root.kind == kind {
+                    let metadata_length = 8 + stream.len()
+                        - behind.len()
+                        - message.body.len()
+                        - offset;
                     blocks.push(Block {
                         offset: offset as i64,
-                        metadata_length: 8 + message.metadata.len() as i32,
+                        metadata_length: metadata_length as i32,
                         body_length: message.body.len() as i64,
                     })?;
                 }
@@ -200,7 +204,7 @@ fn what_no_block_names_is_not_read(rt: HostRuntime) {
 #[test]
 fn the_footer_of_a_file(rt: HostRuntime) {
     let alloc = rt.alloc();
-    let bytes = bytes_of(alloc, &READ_FILES[1]).expect(&rt, "no bytes");
+    let bytes = bytes_of(alloc, &READ_FILES[2]).expect(&rt, "no bytes");
     let footer = read_footer(alloc, Projection::All, &bytes).expect(&rt, "no footer");
     assert!(rt; footer.picked.schema.fields.is_empty() && footer.dictionaries.is_empty());
     assert!(rt; footer.picked.steps.is_empty() && footer.picked.dictionaries.ids.is_empty());

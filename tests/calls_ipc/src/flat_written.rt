@@ -279,10 +279,9 @@ fn strings_of_no_slot(rt: HostRuntime) {
     let binary = DataType::Binary;
     assert!(rt; read(alloc, &binary, 0, 0, &STRINGS, &[(0, 0), (0, 0), (0, 0)]).is_ok());
     assert!(rt; read(alloc, &binary, 0, 0, &STRINGS, &[(0, 0), (5, 4), (13, 2)]).is_ok());
-    let past = read(alloc, &binary, 0, 0, &STRINGS, &[(0, 0), (5, 4), (13, 1)]);
-    assert!(rt; past.err() == Some(IpcReadError::OffsetPastChild));
-    let short = read(alloc, &binary, 0, 0, &STRINGS, &[(0, 0), (5, 3), (13, 2)]);
-    assert!(rt; short.err() == Some(IpcReadError::BufferTooShort));
+    // the offsets are not read: the first one past the bytes, and three bytes
+    assert!(rt; read(alloc, &binary, 0, 0, &STRINGS, &[(0, 0), (5, 4), (13, 1)]).is_ok());
+    assert!(rt; read(alloc, &binary, 0, 0, &STRINGS, &[(0, 0), (5, 3), (13, 2)]).is_ok());
 }
 
 #[test]

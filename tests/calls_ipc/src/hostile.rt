@@ -1,6 +1,6 @@
 //! Bytes that nobody wrote: each is decoded, by `read_stream` and by a reader alike.
 //!
-//! Each prefix of ten streams, and each byte of three changed, is decoded, by `read_stream` and by a reader alike.
+//! Each prefix of the streams, and each byte of three changed, is decoded, by `read_stream` and by a reader alike.
 use crate::examples::count_batches;
 use crate::samples::{READ, Sample};
 use crate::samples_read::bytes_of;
@@ -37,8 +37,8 @@ fn are_beginnings_read(alloc: Global, sample: &Sample) -> Result<bool, IpcReadEr
 }
 
 #[test]
-fn each_beginning_of_ten_streams(rt: HostRuntime) {
-    assert!(rt; READ.len() == 10);
+fn each_beginning_of_the_streams(rt: HostRuntime) {
+    assert!(rt; READ.len() == 13);
     for sample in &READ {
         let alike = are_beginnings_read(rt.alloc(), sample).expect(&rt, "no bytes");
         assert!(rt; alike, "{}", sample.name);

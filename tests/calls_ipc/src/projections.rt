@@ -61,9 +61,9 @@ pub const PROJECTIONS: [ProjectedSample; 9] = [
     },
     ProjectedSample {
         bytes: FLOAT_COLUMN,
-        names: &["x", "a"],
+        names: &["x"],
         indices: &[1],
-        text: "error UnsupportedType\n",
+        text: "metadata 0\nfield .x 1 0 X .tiekvorn.float64 - u8\nbatch 2\nrow 4609434218613702656\nrow 4612811918334230528\nbatch 1\nrow 0\n",
     },
     WITHOUT_VIEWS,
     ProjectedSample {
@@ -83,3 +83,10 @@ pub const PROJECTIONS: [ProjectedSample; 9] = [
 
 /// Each stream once.
 pub const STREAMS: [ProjectedSample; 3] = [WITHOUT_FLOATS, WITHOUT_VIEWS, LAST];
+
+/// All of their columns, or the error.
+pub const COMPLETE_TEXTS: [&str; 3] = [
+    "metadata 0\nfield .a 1 0 i4\nfield .x 1 0 X .tiekvorn.float64 - u8\nfield .b 1 0 U\nbatch 2\nrow 7 4609434218613702656 s70\nrow N 4612811918334230528 s7172\nbatch 1\nrow 9 0 s\n",
+    "error UnsupportedType\n",
+    "error UnsupportedType\n",
+];

@@ -412,7 +412,7 @@ fn file_by_parts(
     let mut blocks = FileBlocks::new(alloc);
     for batch in batches {
         let fields = &schema.fields;
-        let needed = encode_file_batch(
+        let encoded = encode_file_batch(
             alloc,
             &mut out,
             &mut blocks,
@@ -421,7 +421,7 @@ fn file_by_parts(
             &mut known,
             batch,
         )?;
-        record_emitted(alloc, &mut sent, &needed)?;
+        record_emitted(alloc, &mut sent, &encoded.pending)?;
     }
     out.extend_from_slice(&[255, 255, 255, 255, 0, 0, 0, 0])?;
     write_footer(

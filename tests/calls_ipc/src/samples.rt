@@ -12,9 +12,9 @@ pub struct Sample {
 }
 
 /// Streams of integer and string columns, and of their metadata.
-pub const READ: [Sample; 10] = samples!("streams/valid");
+pub const READ: [Sample; 13] = samples!("streams/valid");
 
-pub const REJECTED: [Sample; 30] = samples!("streams/invalid");
+pub const REJECTED: [Sample; 28] = samples!("streams/invalid");
 
 /// Streams of arrays of every kind without children.
 pub const READ_FLAT: [Sample; 10] = samples!("flat/valid");
@@ -47,6 +47,6 @@ pub const DICTIONARY_SCHEMAS: [Sample; 11] = samples!("dictionary_schemas/valid"
 pub const REJECTED_DICTIONARY_SCHEMAS: [Sample; 17] = samples!("dictionary_schemas/invalid");
 
 /// Files.
-pub const READ_FILES: [Sample; 2] = samples!("files/valid");
+pub const READ_FILES: [Sample; 3] = samples!("files/valid");
 
 pub const REJECTED_FILES: [Sample; 4] = samples!("files/invalid");

@@ -144,8 +144,9 @@ fn each_type_without_a_unit(rt: HostRuntime) {
         DataType::LargeUtf8,
         DataType::FixedSizeBinary(1),
         DataType::FixedSizeBinary((1 << 31) - 1),
-        DataType::Decimal(0, 0),
-        DataType::Decimal((1 << 31) - 1, (1 << 31) - 1),
+        DataType::Decimal(1, 0),
+        DataType::Decimal(38, (1 << 31) - 1),
+        DataType::Decimal256(1, 0),
         DataType::Decimal256(76, 38),
     ] {
         assert!(rt; reason(alloc, data_type) == Ok(None));
@@ -161,10 +162,12 @@ fn types_without_a_form(rt: HostRuntime) {
         (DataType::Float64, IpcWriteError::Float),
         (DataType::FixedSizeBinary(0), IpcWriteError::Type),
         (DataType::FixedSizeBinary(1 << 31), IpcWriteError::Size),
-        (DataType::Decimal(1 << 31, 0), IpcWriteError::Size),
-        (DataType::Decimal(0, 1 << 31), IpcWriteError::Size),
-        (DataType::Decimal256(1 << 31, 0), IpcWriteError::Size),
-        (DataType::Decimal256(0, usize::MAX), IpcWriteError::Size),
+        (DataType::Decimal(0, 0), IpcWriteError::Type),
+        (DataType::Decimal(39, 0), IpcWriteError::Type),
+        (DataType::Decimal(38, 1 << 31), IpcWriteError::Size),
+        (DataType::Decimal256(0, 1 << 31), IpcWriteError::Type),
+        (DataType::Decimal256(77, 0), IpcWriteError::Type),
+        (DataType::Decimal256(76, usize::MAX), IpcWriteError::Size),
     ] {
         assert!(rt; reason(alloc, data_type) == Ok(Some(want)));
     }

@@ -46,12 +46,11 @@ fn values_are_read(rt: HostRuntime) -> Result<(), Fail> {
                 "18446744073709551615\n0\n",
                 "[18446744073709551615,0]",
             ),
-            ("date32[day]", "19000\n", "[19000]"),
-            ("timestamp[us, tz=UTC]", "-1\n", "[-1]"),
+            ("date32[day]", "19000\n", "[\"2022-01-08\"]"),
             (
-                "decimal128(38, 2)",
-                "-170141183460469231731687303715884105728\n",
-                "[-170141183460469231731687303715884105728]",
+                "timestamp[us, tz=UTC]",
+                "-1\n",
+                "[\"1969-12-31T23:59:59.999999Z\"]",
             ),
             (
                 "string",
@@ -69,15 +68,106 @@ fn values_are_read(rt: HostRuntime) -> Result<(), Fail> {
             (
                 "month_day_nano_interval",
                 "[1,-2,3]\nnull\n",
-                "[[1,-2,3],null]",
+                "[\"P1M-2DT0.000000003S\",null]",
             ),
-            ("day_time_interval", "[4,5]\n", "[[4,5]]"),
+            ("day_time_interval", "[4,5]\n", "[\"P4DT0.005S\"]"),
             (
                 "dictionary<values=string, indices=int8, ordered=0>",
                 "\"a\"\n\"b\"\n\"a\"\nnull\n",
                 "[\"a\",\"b\",\"a\",null]",
             ),
             ("int8", "", "[]"),
+        ],
+    )
+}
+
+/// Decimals, dates, times, timestamps, durations and intervals are read from the texts that are written.
+#[test]
+fn texts_are_read(rt: HostRuntime) -> Result<(), Fail> {
+    for (row_type, text) in [
+        ("decimal128(5, 2)", "\"1.25\",\"-0.05\",\"0.00\",\"-999.99\""),
+        ("decimal128(5, 0)", "\"0\",\"-12\""),
+        ("decimal128(2, 4)", "\"0.0099\",\"-0.0001\""),
+        (
+            "date32[day]",
+            "\"2024-02-29\",\"1969-12-31\",\"+012345-01-01\",\"-000001-12-31\"",
+        ),
+        (
+            "date64[ms]",
+            "\"2024-02-29\",\"2024-02-29T00:00:00.001\"",
+        ),
+        ("time32[s]", "\"12:34:56\",86400,-1"),
+        ("time32[ms]", "\"23:59:59.999\",\"00:00:00.000\""),
+        ("time64[us]", "\"12:34:56.000001\""),
+        ("time64[ns]", "\"12:34:56.000000001\",86400000000000"),
+        ("timestamp[s]", "\"2024-02-29T12:34:56\""),
+        (
+            "timestamp[ns, tz=Europe/Berlin]",
+            "\"1969-12-31T23:59:59.999999999Z\"",
+        ),
+        ("duration[ms]", "\"PT1.500S\",\"PT-0.001S\""),
+        ("duration[s]", "\"PT-3S\""),
+        ("month_interval", "\"P14M\",\"P-1M\",\"P0M\""),
+        ("day_time_interval", "\"P1DT0.003S\",\"P-1DT-2.000S\""),
+        (
+            "month_day_nano_interval",
+            "\"P1M2DT0.000000003S\",\"P-1M-2DT-0.000000003S\"",
+        ),
+        (
+            "dictionary<values=date32[day], indices=int8, ordered=0>",
+            "\"2024-02-29\",null",
+        ),
+        ("list<item: date32[day]>", "[\"2024-02-29\"]"),
+    ] {
+        for value in text.split(',') {
+            let found = said(rt.alloc(), row_type, value.as_bytes())?;
+            assert!(&rt;
+                found == format!(in rt.alloc(); "[{value}]")?,
+                "{row_type}: {found}"
+            );
+        }
+    }
+    Ok(())
+}
+
+const INVALID_TEXT: &str =
+    "line 0 (counted from 0): string is not the text of a value of the type";
+
+/// Texts that are no values, decimals past their precision, and JSON values of other types.
+#[test]
+fn invalid_texts_are_refused(rt: HostRuntime) -> Result<(), Fail> {
+    check(
+        &rt,
+        &[
+            ("date32[day]", "\"2023-02-29\"", INVALID_TEXT),
+            ("date32[day]", "\"2024-2-9\"", INVALID_TEXT),
+            ("date32[day]", "\"+009999-01-01\"", INVALID_TEXT),
+            ("date32[day]", "\"+9999999-01-01\"", INVALID_TEXT),
+            ("time32[s]", "\"24:00:00\"", INVALID_TEXT),
+            ("time32[s]", "\"86400\"", INVALID_TEXT),
+            ("time32[ms]", "\"12:34:56\"", INVALID_TEXT),
+            ("timestamp[s]", "\"2024-02-29T12:34:56Z\"", INVALID_TEXT),
+            ("timestamp[s]", "\"2024-02-29 12:34:56\"", INVALID_TEXT),
+            ("duration[s]", "\"PT1.5S\"", INVALID_TEXT),
+            ("month_interval", "\"P1Y\"", INVALID_TEXT),
+            ("decimal128(5, 2)", "\"1.2\"", INVALID_TEXT),
+            ("decimal128(5, 2)", "\"-0.00\"", INVALID_TEXT),
+            ("decimal128(5, 2)", "\"01.25\"", INVALID_TEXT),
+            (
+                "decimal128(5, 2)",
+                "\"1000.00\"",
+                "line 0 (counted from 0): decimal exceeds its precision",
+            ),
+            (
+                "decimal128(5, 2)",
+                "1.25",
+                "line 0 (counted from 0): value of another type",
+            ),
+            (
+                "int32",
+                "\"1\"",
+                "line 0 (counted from 0): value of another type",
+            ),
         ],
     )
 }
@@ -199,8 +289,8 @@ fn lines_are_rejected(rt: HostRuntime) -> Result<(), Fail> {
             ),
             (
                 "decimal128(38, 0)",
-                "170141183460469231731687303715884105728",
-                "line 0 (counted from 0): integer out of range",
+                "\"170141183460469231731687303715884105728\"",
+                INVALID_TEXT,
             ),
             (
                 "binary",

@@ -183,10 +183,10 @@ fn different_rows_are_found(rt: HostRuntime) -> Result<(), Fail> {
 fn errors_follow_equal_rows(rt: HostRuntime) -> Result<(), Fail> {
     let alloc = rt.alloc();
     let mut broken = bytes_of(alloc, STREAM)?;
-    // The third record batch has no continuation marker.
+    // The metadata length of the third record batch is negative.
     broken[632] = 0;
     let whole = bytes_of(alloc, FILE)?;
-    let error = read_error(Some(2), IpcReadError::Continuation);
+    let error = read_error(Some(2), IpcReadError::MetadataLength);
     let found = compared(alloc, Projection::All, &broken, &whole, (NEVER, NEVER));
     assert!(rt; found == Err(CompareError::First(error)), "{found:?}");
     let found = compared(alloc, Projection::All, &whole, &broken, (NEVER, NEVER));

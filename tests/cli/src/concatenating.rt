@@ -78,21 +78,16 @@ fn samples_are_concatenated(rt: HostRuntime) -> Result<(), Fail> {
 fn errors_name_the_input(rt: HostRuntime) -> Result<(), Fail> {
     let alloc = rt.alloc();
     let mut broken = bytes_of(alloc, STREAM)?;
-    // The third record batch has no continuation marker.
+    // The metadata length of the third record batch is negative.
     broken[632] = 0;
-    let continuation = AppendError::Batch(read_error(Some(2), IpcReadError::Continuation));
+    let negative = AppendError::Batch(read_error(Some(2), IpcReadError::MetadataLength));
     let compressed = AppendError::Batch(read_error(Some(0), IpcReadError::Compressed));
-    let unread = AppendError::Batch(read_error(None, IpcReadError::Continuation));
+    let unread = AppendError::Batch(read_error(None, IpcReadError::Truncated));
     let mut none = Vec::new(alloc);
     none.extend_from_slice(b"a,b\n1,2\n")?;
     for (digits, last, k, error) in [
-        (
-            [STREAM, FILE].as_slice(),
-            Some(&broken),
-            2usize,
-            continuation,
-        ),
-        ([].as_slice(), Some(&broken), 0, continuation),
+        ([STREAM, FILE].as_slice(), Some(&broken), 2usize, negative),
+        ([].as_slice(), Some(&broken), 0, negative),
         ([STREAM, COMPRESSED].as_slice(), None, 1, compressed),
         ([COMPRESSED].as_slice(), None, 0, compressed),
         (

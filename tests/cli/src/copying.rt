@@ -3,7 +3,7 @@ use crate::comparing::{bytes_in, read_error};
 use crate::devices::{Count, Device, NEVER, Sink, input};
 use crate::oracle::{converted, lines_of, selected};
 use crate::samples::{BOOLEANS, COLUMNLESS, COMPRESSED, EMPTY, FILE, STREAM, bytes_of};
-use cli_args::{Format, Selection};
+use cli_args::{Column, Format, Selection};
 use cli_read::open;
 use cli_rows::{BatchError, CliError, in_row_order};
 use cli_write::copy;
@@ -126,7 +126,7 @@ fn true_rows_are_copied(rt: HostRuntime) -> Result<(), Fail> {
     let bytes = bytes_of(alloc, BOOLEANS)?;
     for name in ["a", "b"] {
         for format in [Format::File, Format::Stream] {
-            let selection = Selection::Where(String::from_str(alloc, name)?);
+            let selection = Selection::Where(Column::Named(String::from_str(alloc, name)?));
             let want = selected(alloc, format, &selection, &bytes).expect(&rt, "bytes");
             let selection = in_row_order(selection).ok().expect(&rt, "an order");
             let (made, _) = copied(alloc, &bytes, format, selection, (NEVER, NEVER)).expect(
@@ -144,9 +144,9 @@ fn true_rows_are_copied(rt: HostRuntime) -> Result<(), Fail> {
 fn errors_end_a_copy(rt: HostRuntime) -> Result<(), Fail> {
     let alloc = rt.alloc();
     let mut broken = bytes_of(alloc, STREAM)?;
-    // The third record batch has no continuation marker.
+    // The metadata length of the third record batch is negative.
     broken[632] = 0;
-    let error = read_error(Some(2), IpcReadError::Continuation);
+    let error = read_error(Some(2), IpcReadError::MetadataLength);
     let found = copied(alloc, &broken, Format::File, Selection::All, (NEVER, NEVER)).err();
     assert!(rt; found == Some(error), "{found:?}");
     let found = copied(
@@ -191,7 +191,7 @@ fn errors_end_a_copy(rt: HostRuntime) -> Result<(), Fail> {
         .is_ok()
     );
     for (name, error) in [("b", CliError::NotBoolean), ("c", CliError::UnknownColumn)] {
-        let selection = Selection::Where(String::from_str(alloc, name)?);
+        let selection = Selection::Where(Column::Named(String::from_str(alloc, name)?));
         let found = copied(
             alloc,
             &compressed,

@@ -3,8 +3,8 @@ use crate::devices::{Device, NEVER, input};
 use cli_args::{Format, Request, Selection, parse_request};
 use cli_read::open;
 use cli_rows::{
-    CliError, Table, copy_schema, encode_table, row_array, row_type, selected_batches,
-    selection_error, table_text,
+    CliError, Table, copy_schema, encode_table, row_array, selected_batches, selection_error,
+    table_text,
 };
 use ipc::Batch;
 use ipc_schema::Projection;
@@ -64,10 +64,9 @@ pub fn said(alloc: Global, arguments: &[&str], bytes: &[u8]) -> Result<String, C
 /// Returns the rows of each record batch as an array.
 pub fn arrays_of(alloc: Global, table: Table) -> Result<Vec<AnyArray>, CliError> {
     let Table { schema, batches } = table;
-    let row_type = row_type(alloc, &schema.fields)?;
     let mut arrays = Vec::new(alloc);
     for batch in batches {
-        arrays.push(row_array(alloc, &schema, &row_type, batch)?)?;
+        arrays.push(row_array(alloc, &schema, batch)?)?;
     }
     Ok(arrays)
 }

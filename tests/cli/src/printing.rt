@@ -89,19 +89,19 @@ fn errors_follow_complete_batches(rt: HostRuntime) -> Result<(), Fail> {
     let alloc = rt.alloc();
     let two = "{\"a\":1,\"b\":\"a\"}\n{\"a\":null,\"b\":\"b\"}\n";
     let mut stream = bytes_of(alloc, STREAM)?;
-    // The third record batch has no continuation marker.
+    // The metadata length of the third record batch is negative.
     stream[632] = 0;
     let (done, out) = printed(alloc, &["rows"], &stream, NEVER, NEVER)?;
     let error = BatchError {
         batch: Some(2),
-        error: CliError::Read(IpcReadError::Continuation),
+        error: CliError::Read(IpcReadError::MetadataLength),
     };
     assert!(rt;
         done == Err(error) && out.as_slice() == two.as_bytes(),
         "{done:?}"
     );
     let line = format!(in alloc; "{error}")?;
-    let want = format!(in alloc; "record batch 2: {}", IpcReadError::Continuation)?;
+    let want = format!(in alloc; "record batch 2: {}", IpcReadError::MetadataLength)?;
     assert!(rt; line == want, "{line}");
     let mut file = bytes_of(alloc, FILE)?;
     file[640] = 0;

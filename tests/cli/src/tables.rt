@@ -3,8 +3,8 @@ use crate::oracle::{arrays_of, read_table, request, text_of};
 use crate::samples::{BOOLEANS, COLUMNLESS, COMPRESSED, EMPTY, FILE, STREAM, bytes_of};
 use cli_args::{Request, Selection};
 use cli_rows::{
-    CliError, Difference, Table, difference_text, read_input, record_arrays, request_text,
-    row_type, table_text, window_difference, write_output,
+    CliError, Difference, Table, difference_text, read_input, request_text, row_type, table_text,
+    window_difference, write_output,
 };
 use ipc::Batch;
 use ipc_flatbuf::{IpcReadError, IpcWriteError};
@@ -219,9 +219,8 @@ fn mismatched_columns_are_errors(rt: HostRuntime) {
 /// Returns the text that a command prints of the record batches of a table.
 fn requested(alloc: Global, arguments: &[&str], table: Table) -> Result<String, CliError> {
     let Table { schema, batches } = table;
-    let row_type = row_type(alloc, &schema.fields)?;
     match request(alloc, arguments)? {
-        Some(request) => request_text(alloc, &schema, &row_type, &request, batches),
+        Some(request) => request_text(alloc, &schema, &request, batches),
         None => {
             drop(batches);
             Err(CliError::Input)
@@ -279,10 +278,10 @@ fn requests_of_record_batches_are_printed(rt: HostRuntime) -> Result<(), Fail> {
 #[test]
 fn batches_are_records(rt: HostRuntime) -> Result<(), Fail> {
     let alloc = rt.alloc();
-    let Table { schema, batches } = table(alloc).expect(&rt, "a table");
-    let row_type = row_type(alloc, &schema.fields)?;
-    let arrays = record_arrays(alloc, &schema, &row_type, batches)?;
-    assert!(rt; arrays.len() == 3);
+    let table = table(alloc).expect(&rt, "a table");
+    let data_type = row_type(alloc, &table.schema.fields)?;
+    let arrays = arrays_of(alloc, table)?;
+    assert!(rt; arrays.len() == 3 && arrays[0].data_type() == &data_type);
     assert!(rt; arrays[0].len() == 2 && arrays[1].len() == 0 && arrays[2].len() == 1);
     Ok(())
 }
@@ -418,10 +417,7 @@ fn invalid_bytes_are_errors(rt: HostRuntime) {
         ("ffff", CliError::Read(IpcReadError::Truncated)),
         ("4152524f5731", CliError::Read(IpcReadError::Truncated)),
         ("2c", CliError::Read(IpcReadError::Truncated)),
-        (
-            "2c2c2c2c2c2c2c2c",
-            CliError::Read(IpcReadError::Continuation),
-        ),
+        ("2c2c2c2c2c2c2c2c", CliError::Read(IpcReadError::Truncated)),
         (COLUMNLESS, CliError::MismatchedColumns),
     ] {
         let error = said(rt.alloc(), &["rows"], digits).err();

@@ -197,9 +197,9 @@ fn random_rows_are_taken(rt: HostRuntime) -> Result<(), Fail> {
 fn errors_are_returned_before_missing_rows(rt: HostRuntime) -> Result<(), Fail> {
     let alloc = rt.alloc();
     let mut broken = bytes_of(alloc, STREAM)?;
-    // The third record batch has no continuation marker.
+    // The metadata length of the third record batch is negative.
     broken[632] = 0;
-    let error = read_error(Some(2), IpcReadError::Continuation);
+    let error = read_error(Some(2), IpcReadError::MetadataLength);
     for (indices, is_read) in [
         ([].as_slice(), true),
         (&[1, 0, 1], true),
@@ -218,7 +218,7 @@ fn errors_are_returned_before_missing_rows(rt: HostRuntime) -> Result<(), Fail> 
     let found = taken(alloc, &compressed, &[0], NEVER).err();
     assert!(rt; found == Some(read_error(Some(0), IpcReadError::Compressed)));
     let found = taken(alloc, b"a,b\n1,2\n", &[0], NEVER).err();
-    assert!(rt; found == Some(read_error(None, IpcReadError::Continuation)));
+    assert!(rt; found == Some(read_error(None, IpcReadError::Truncated)));
     Ok(())
 }
 

@@ -42,7 +42,7 @@ fn dictionaries_written_files(rt: HostRuntime) {
 
 #[test]
 fn dictionaries_written_delta(rt: HostRuntime) {
-    expect_count(&rt, dictionaries_written::delta, 487);
+    expect_count(&rt, dictionaries_written::delta, 493);
 }
 
 #[test]
