@@ -271,7 +271,7 @@ fn values_of_several_numbers(rt: HostRuntime) -> Result<(), Error> {
         }],
     )?;
     let days = PrimitiveArray::try_new(DataType::Interval(IntervalUnit::DayTime), days, None)?;
-    assert_eq!(rt; text(alloc, days)?.as_str(), "[[-3,4]]");
+    assert_eq!(rt; text(alloc, days)?.as_str(), "[\"P-3DT0.004S\"]");
     let months = buffer(
         alloc,
         &[months_days_ns {
@@ -285,7 +285,10 @@ fn values_of_several_numbers(rt: HostRuntime) -> Result<(), Error> {
         months,
         None,
     )?;
-    assert_eq!(rt; text(alloc, months)?.as_str(), "[[1,-2,3]]");
+    assert_eq!(rt;
+        text(alloc, months)?.as_str(),
+        "[\"P1M-2DT0.000000003S\"]"
+    );
     let least = buffer(alloc, &[i64::MIN])?;
     let least = PrimitiveArray::try_new(DataType::Int64, least, None)?;
     assert_eq!(rt; text(alloc, least)?.as_str(), "[-9223372036854775808]");
