@@ -8,7 +8,10 @@ use zstd_decode::{ZstdError, decode_frames};
 fn expect_errors(rt: &(impl Abort + AllocGlobal), bytes: &[u8], length: usize) {
     let wanted = noise(rt.alloc(), length).expect(rt, "a content");
     for end in 0..bytes.len() {
-        assert!(rt; decode_frames(rt.alloc(), &bytes[..end], 1000).err() == Some(ZstdError::Truncated), "{end}");
+        assert!(rt;
+            decode_frames(rt.alloc(), &bytes[..end], 1000).err() == Some(ZstdError::Truncated),
+            "{end}"
+        );
     }
     let mut changed = Vec::new(rt.alloc());
     changed.extend_from_slice(bytes).expect(rt, "a copy");

@@ -60,7 +60,9 @@ fn windows(rt: HostRuntime) {
 fn blocks(rt: HostRuntime) {
     let alloc = rt.alloc();
     assert!(rt; error(alloc, &[0x20, 3], &[0x1F, 0, 0, 97, 98, 99]) == Some(ZstdError::BlockType));
-    assert!(rt; error(alloc, &[0x20, 3], &[0x1D, 0, 0, 97, 98, 99]) == Some(ZstdError::CompressedBlock));
+    assert!(rt;
+        error(alloc, &[0x20, 3], &[0x1D, 0, 0, 97, 98, 99]) == Some(ZstdError::CompressedBlock)
+    );
     assert!(rt; error(alloc, &[0x20, 3], &[0x18, 0, 0, 97, 98, 99]) == Some(ZstdError::Truncated));
     assert!(rt; error(alloc, &[0x20, 3], &[0x18, 0, 0, 97, 98, 99, 0x01, 0, 0]) == None);
     assert!(rt; error(alloc, &[0x20, 3], &[0x10, 0, 0, 97, 98, 0x0B, 0, 0, 99]) == None);
@@ -72,8 +74,20 @@ fn blocks(rt: HostRuntime) {
 fn checksums(rt: HostRuntime) {
     let alloc = rt.alloc();
     // The last four bytes of the checksum of `abc` are AD770999.
-    assert!(rt; error(alloc, &[0x24, 3], &[0x19, 0, 0, 97, 98, 99, 0x99, 0x09, 0x77, 0xAD]) == None);
-    assert!(rt; error(alloc, &[0x24, 3], &[0x19, 0, 0, 97, 98, 99, 0x99, 0x09, 0x77, 0xAC]) == Some(ZstdError::ContentChecksum));
+    assert!(rt;
+        error(
+            alloc,
+            &[0x24, 3],
+            &[0x19, 0, 0, 97, 98, 99, 0x99, 0x09, 0x77, 0xAD]
+        ) == None
+    );
+    assert!(rt;
+        error(
+            alloc,
+            &[0x24, 3],
+            &[0x19, 0, 0, 97, 98, 99, 0x99, 0x09, 0x77, 0xAC]
+        ) == Some(ZstdError::ContentChecksum)
+    );
     assert!(rt; error(alloc, &[0x24, 3], ABC) == Some(ZstdError::Truncated));
     assert!(rt; error(alloc, &[0x24, 4], ABC) == Some(ZstdError::ContentSize));
 }
@@ -81,10 +95,23 @@ fn checksums(rt: HostRuntime) {
 #[test]
 fn what_is_around_a_frame(rt: HostRuntime) {
     let alloc = rt.alloc();
-    assert!(rt; error(alloc, &[0x20, 3], &[0x19, 0, 0, 97, 98, 99, 0]) == Some(ZstdError::Truncated));
-    assert!(rt; error(alloc, &[0x20, 3], &[0x19, 0, 0, 97, 98, 99, 0, 0, 0, 0]) == Some(ZstdError::NotAFrame));
-    assert!(rt; decode_frames(alloc, &[0x5F, 0x2A, 0x4D, 0x18, 0, 0, 0, 0], 0).map(|it| it.len()) == Ok(0));
-    assert!(rt; decode_frames(alloc, &[0x60, 0x2A, 0x4D, 0x18, 0, 0, 0, 0], 0).err() == Some(ZstdError::NotAFrame));
-    assert!(rt; decode_frames(alloc, &[0x50, 0x2A, 0x4D, 0x18, 1, 0, 0, 0], 0).err() == Some(ZstdError::Truncated));
+    assert!(rt;
+        error(alloc, &[0x20, 3], &[0x19, 0, 0, 97, 98, 99, 0]) == Some(ZstdError::Truncated)
+    );
+    assert!(rt;
+        error(alloc, &[0x20, 3], &[0x19, 0, 0, 97, 98, 99, 0, 0, 0, 0])
+            == Some(ZstdError::NotAFrame)
+    );
+    assert!(rt;
+        decode_frames(alloc, &[0x5F, 0x2A, 0x4D, 0x18, 0, 0, 0, 0], 0).map(|it| it.len()) == Ok(0)
+    );
+    assert!(rt;
+        decode_frames(alloc, &[0x60, 0x2A, 0x4D, 0x18, 0, 0, 0, 0], 0).err()
+            == Some(ZstdError::NotAFrame)
+    );
+    assert!(rt;
+        decode_frames(alloc, &[0x50, 0x2A, 0x4D, 0x18, 1, 0, 0, 0], 0).err()
+            == Some(ZstdError::Truncated)
+    );
     assert!(rt; decode_frames(alloc, &[], 100).err() == Some(ZstdError::Truncated));
 }

@@ -1,4 +1,4 @@
-//! Zstandard frames: samples of other encoders, damaged frames, errors and limits.
+//! Zstandard frames: samples of other encoders, damaged frames, errors, limits and FSE tables.
 #![tactic(auto)]
 
 #[cfg(test)]
@@ -7,3 +7,5 @@ mod damaged;
 mod errors;
 #[cfg(test)]
 mod samples;
+#[cfg(test)]
+mod tables;

@@ -18,10 +18,15 @@ pub fn noise(alloc: Global, length: usize) -> Result<Vec<u8>, AllocError> {
 /// Expects the content of frames, with a limit that has room for it, and an error with each smaller one.
 fn expect_noise(rt: &(impl Abort + AllocGlobal), bytes: &[u8], length: usize) {
     let wanted = noise(rt.alloc(), length).expect(rt, "a content");
-    assert!(rt; decode_frames(rt.alloc(), bytes, usize::MAX) == decode_frames(rt.alloc(), bytes, length));
+    assert!(rt;
+        decode_frames(rt.alloc(), bytes, usize::MAX) == decode_frames(rt.alloc(), bytes, length)
+    );
     assert!(rt; decode_frames(rt.alloc(), bytes, length) == Ok(wanted));
     for limit in 0..length {
-        assert!(rt; decode_frames(rt.alloc(), bytes, limit).err() == Some(ZstdError::TooLong), "{limit}");
+        assert!(rt;
+            decode_frames(rt.alloc(), bytes, limit).err() == Some(ZstdError::TooLong),
+            "{limit}"
+        );
     }
 }
 
@@ -45,13 +50,23 @@ fn frames_of_pyarrow(rt: HostRuntime) {
 fn several_frames(rt: HostRuntime) {
     let alloc = rt.alloc();
     let mut wanted = noise(alloc, 10).expect(&rt, "a content");
-    assert!(rt; decode_frames(alloc, include_bytes!("zstd/skippable.zst"), 10) == Ok(noise(alloc, 10).expect(&rt, "a content")));
-    wanted.extend_from_slice(&noise(alloc, 20).expect(&rt, "a content")).expect(&rt, "a content");
+    assert!(rt;
+        decode_frames(alloc, include_bytes!("zstd/skippable.zst"), 10)
+            == Ok(noise(alloc, 10).expect(&rt, "a content"))
+    );
+    wanted
+        .extend_from_slice(&noise(alloc, 20).expect(&rt, "a content"))
+        .expect(&rt, "a content");
     assert!(rt; decode_frames(alloc, include_bytes!("zstd/two.zst"), 30) == Ok(wanted));
-    assert!(rt; decode_frames(alloc, include_bytes!("zstd/two.zst"), 29).err() == Some(ZstdError::TooLong));
+    assert!(rt;
+        decode_frames(alloc, include_bytes!("zstd/two.zst"), 29).err() == Some(ZstdError::TooLong)
+    );
 }
 
 #[test]
 fn a_compressed_block(rt: HostRuntime) {
-    assert!(rt; decode_frames(rt.alloc(), include_bytes!("zstd/compressed.zst"), 1000).err() == Some(ZstdError::CompressedBlock));
+    assert!(rt;
+        decode_frames(rt.alloc(), include_bytes!("zstd/compressed.zst"), 1000).err()
+            == Some(ZstdError::CompressedBlock)
+    );
 }
