@@ -1,10 +1,10 @@
-//! `take` and `filter`.
+//! `take`, `filter` and `concatenate`.
 ghost use Rattle.std.specs.Prelude.{◌≡◌, ◌↔◌, IsTrue, IfOk};
 ghost use Rattle.nest_take.specs.Indices.{AreBelow};
 ghost use Rattle.guide.specs.Words.{selected, layout_of, layout_type, len, mask_indices, slots_of};
 
 use std::alloc::Global;
-use tiekvorn::compute::{filter, take};
+use tiekvorn::compute::{concatenate, filter, take};
 use tiekvorn::error::Error;
 use tiekvorn::{AnyArray, BooleanArray};
 
@@ -30,4 +30,9 @@ pub fn filter_rows(alloc: Global, column: &AnyArray, mask: &BooleanArray) -> Res
     ensures { IfOk result (λ a. slots_of (layout_of a) ≡ selected (slots_of (layout_of column.now)) (mask_indices (slots_of mask.now))) }
 {
     filter(alloc, column, mask)
+}
+
+/// Returns the slots of all columns, one after another. All must have the same data type.
+pub fn concatenate_columns(alloc: Global, columns: &[AnyArray]) -> Result<AnyArray, Error> {
+    concatenate(alloc, columns)
 }

@@ -87,6 +87,9 @@ fn selection_lines(alloc: Global) -> Result<String> {
     let mask = flat::booleans(alloc)?;
     let filtered = selection::filter_rows(alloc, &column, &mask);
     add(alloc, &mut lines, "filter_rows", filtered)?;
+    let columns = vec![in alloc; flat::boxed_numbers(alloc)?, flat::boxed_numbers(alloc)?]?;
+    let concatenated = selection::concatenate_columns(alloc, &columns);
+    add(alloc, &mut lines, "concatenate_columns", concatenated)?;
     Ok(lines)
 }
 

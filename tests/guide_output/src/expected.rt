@@ -48,6 +48,7 @@ last_list: [[{"number":3,"tag":"ab"},{"number":4,"tag":"c"}]]
 pub const SELECTION: &str = r#"
 take_rows(3, 0, 0): [{"number":4,"text":"c"},{"number":1,"text":"ab"},{"number":1,"text":"ab"}]
 filter_rows: [{"number":1,"text":"ab"},{"number":4,"text":"c"}]
+concatenate_columns: [1,null,3,4,1,null,3,4]
 "#;
 
 pub const SHARING: &str = r#"
@@ -100,4 +101,18 @@ read_first_batches(1), name: ["Ann",null]
 read_first_batches(1), counts: [[1,null],null]
 read_first_batches(1), paid: [7,null]
 read_first_batches of half a stream: Ipc(Truncated)
+"#;
+
+pub const ON_DISK: &str = r#"
+read_people, id: [1,2]
+read_people, name: ["Ann","Cy"]
+read_people, age: [31,null]
+file_to_stream, are_equal: true
+read_names_and_ages, name: ["Ann","Cy"]
+read_names_and_ages, age: [31,null]
+"#;
+
+pub const JSON_LINES: &str = r#"
+people_from_json: [{"name":"Ann","age":31},{"name":"Cy","age":null}]
+people_from_json of {"name":"Ann","age":3000000000}: line 0 (counted from 0): integer out of range
 "#;

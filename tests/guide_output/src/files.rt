@@ -1,10 +1,11 @@
 //! The chapter on files and streams.
-use crate::expected::{FILES, STREAMS};
+use crate::expected::{FILES, JSON_LINES, ON_DISK, STREAMS};
 use crate::lines::are;
 use anyhow::Result;
-use guide::files::{in_memory, orders, streaming};
+use guide::files::{in_memory, json_lines, on_disk, orders, streaming};
 use std::alloc::Global;
-use tiekvorn::arrow_ipc::{Batch, Schema, write_file, write_stream};
+use std::fs;
+use tiekvorn::arrow_ipc::{Batch, Schema, read_stream, write_file, write_stream};
 use tiekvorn::json::Json;
 use tiekvorn::{AnyArray, Field};
 
@@ -125,6 +126,61 @@ fn stream_lines(alloc: Global) -> Result<String> {
         }
     }
     Ok(lines)
+}
+
+fn disk_lines(rt: &HostRuntime) -> Result<String> {
+    let alloc = rt.alloc();
+    let mut lines = begun(alloc)?;
+    on_disk::write_people(rt, "people.arrow")?;
+    let file = on_disk::read_people(rt, "people.arrow")?;
+    add_batches(
+        alloc,
+        &mut lines,
+        "read_people",
+        &file.schema,
+        &file.batches,
+    )?;
+    on_disk::file_to_stream(rt, "people.arrow", "people.arrows")?;
+    let bytes = fs::read(rt, "people.arrows")?;
+    let stream = read_stream(alloc, &bytes)?;
+    let same = all_equal(&file.batches, &stream.batches);
+    lines.push_str(&format!(in alloc; "file_to_stream, are_equal: {same}\n")?)?;
+    let fields = &file.schema.fields[1..];
+    for batch in &on_disk::read_names_and_ages(rt, "people.arrow")? {
+        add_columns(
+            alloc,
+            &mut lines,
+            "read_names_and_ages",
+            fields,
+            &batch.columns,
+        )?;
+    }
+    Ok(lines)
+}
+
+fn json_text(alloc: Global) -> Result<String> {
+    let mut lines = begun(alloc)?;
+    let two = "{\"age\":31,\"name\":\"Ann\"}\n{\"name\":\"Cy\"}\n";
+    let people = json_lines::people_from_json(alloc, two.as_bytes())?;
+    lines.push_str(&format!(in alloc; "people_from_json: {}\n", Json::of(&people))?)?;
+    let line = r#"{"name":"Ann","age":3000000000}"#;
+    match json_lines::people_from_json(alloc, line.as_bytes()) {
+        Ok(people) => drop(people),
+        Err(error) => lines.push_str(&format!(in alloc; "people_from_json of {line}: {error}\n")?)?,
+    }
+    Ok(lines)
+}
+
+#[test]
+fn files_on_disk_have_these_columns(rt: HostRuntime) {
+    let found = disk_lines(&rt);
+    assert!(rt; are(&found, ON_DISK), "{found:?}");
+}
+
+#[test]
+fn lines_of_json_are_read(rt: HostRuntime) {
+    let found = json_text(rt.alloc());
+    assert!(rt; are(&found, JSON_LINES), "{found:?}");
 }
 
 #[test]
