@@ -29,7 +29,7 @@ module _ {W : Type 0} (contents : W → Option (List ℕ)) where
   writes_push [] b old mid new is one = (new, subst (λ (w : WriterTree W). WritesBatch contents b w new) is one, refl)
   writes_push (c ∷ bs) b old mid new (next, first, wrote) one = (next, first, writes_push bs b next mid new wrote one)
 
-  -- the calls that write a stream, none of which returns an error
+  -- the calls that write a stream; none returns an error
   finished : (s : SchemaModel) (bs : List RecordBatchTree) (start end : W) (first last : WriterTree W) → StartsWriting contents (schema_error s) (schema_message s) s start (Ok first) → SchemaRoundTrips s → WritesBatches contents bs first last → FinishesWriting contents None end_of_stream last (Ok end) → IsFinished contents s bs start end
   finished s bs start end first last begun again written ended = record { first = first; last = last; begun = begun; again = again; written = written; ended = ended }
 
