@@ -60,9 +60,7 @@ fn windows(rt: HostRuntime) {
 fn blocks(rt: HostRuntime) {
     let alloc = rt.alloc();
     assert!(rt; error(alloc, &[0x20, 3], &[0x1F, 0, 0, 97, 98, 99]) == Some(ZstdError::BlockType));
-    assert!(rt;
-        error(alloc, &[0x20, 3], &[0x1D, 0, 0, 97, 98, 99]) == Some(ZstdError::CompressedBlock)
-    );
+    assert!(rt; error(alloc, &[0x20, 3], &[0x1D, 0, 0, 97, 98, 99]) == Some(ZstdError::BlockSize));
     assert!(rt; error(alloc, &[0x20, 3], &[0x18, 0, 0, 97, 98, 99]) == Some(ZstdError::Truncated));
     assert!(rt; error(alloc, &[0x20, 3], &[0x18, 0, 0, 97, 98, 99, 0x01, 0, 0]) == None);
     assert!(rt; error(alloc, &[0x20, 3], &[0x10, 0, 0, 97, 98, 0x0B, 0, 0, 99]) == None);
@@ -114,4 +112,89 @@ fn what_is_around_a_frame(rt: HostRuntime) {
             == Some(ZstdError::Truncated)
     );
     assert!(rt; decode_frames(alloc, &[], 100).err() == Some(ZstdError::Truncated));
+}
+
+/// What a frame of one compressed block decodes to.
+fn decoded(alloc: Global, content: &[u8]) -> Result<Vec<u8>, ZstdError> {
+    let mut rest = Vec::new(alloc);
+    rest.extend_from_slice(&[(8 * content.len() + 5) as u8, 0, 0])?;
+    rest.extend_from_slice(content)?;
+    decode_frames(alloc, &frame(alloc, &[0, 0x58], &rest)?, 100)
+}
+
+/// Whether the block decodes to this content.
+fn is_content(alloc: Global, content: &[u8], wanted: &[u8]) -> bool {
+    match decoded(alloc, content) {
+        Ok(found) => found.as_slice() == wanted,
+        Err(_) => false,
+    }
+}
+
+/// Whether the block has this error.
+fn is_error(alloc: Global, content: &[u8], wanted: ZstdError) -> bool {
+    decoded(alloc, content).err() == Some(wanted)
+}
+
+#[test]
+fn literals(rt: HostRuntime) {
+    let alloc = rt.alloc();
+    assert!(rt; is_content(alloc, &[0x00, 0x00], b""));
+    assert!(rt; is_content(alloc, &[0x18, 97, 98, 99, 0x00], b"abc"));
+    assert!(rt; is_error(alloc, &[0x00], ZstdError::Truncated));
+    assert!(rt; is_error(alloc, &[0x1A, 0, 0], ZstdError::Truncated));
+    // Two literals of one bit each; all weights are 0; a bit is left; one literal in four streams; no table before.
+    assert!(rt; is_content(alloc, &[0x22, 0xC0, 0, 0x80, 0x10, 0x06, 0], &[1, 0]));
+    assert!(rt;
+        is_error(
+            alloc,
+            &[0x22, 0xC0, 0, 0x80, 0x00, 0x06, 0],
+            ZstdError::HuffmanTable
+        )
+    );
+    assert!(rt;
+        is_error(
+            alloc,
+            &[0x12, 0xC0, 0, 0x80, 0x10, 0x06, 0],
+            ZstdError::Bitstream
+        )
+    );
+    assert!(rt;
+        is_error(
+            alloc,
+            &[0x16, 0xC0, 0, 0x80, 0x10, 0x06, 0],
+            ZstdError::Literals
+        )
+    );
+    assert!(rt; is_error(alloc, &[0x13, 0x40, 0, 0x01, 0], ZstdError::NoTable));
+}
+
+/// Appends the literals `abc` and these bytes.
+fn after_abc(alloc: Global, sequences: &[u8]) -> Result<Vec<u8>, ZstdError> {
+    let mut content = Vec::new(alloc);
+    content.extend_from_slice(&[0x18, 97, 98, 99])?;
+    content.extend_from_slice(sequences)?;
+    decoded(alloc, &content)
+}
+
+#[test]
+fn sequences(rt: HostRuntime) {
+    let alloc = rt.alloc();
+    let wanted = decoded(alloc, &[0x30, 97, 98, 99, 99, 99, 99, 0]);
+    // Three literals and a match of three bytes: its offset is 1, or the first repeat offset.
+    assert!(rt; after_abc(alloc, &[1, 0x54, 3, 2, 0, 0x04]) == wanted);
+    assert!(rt; after_abc(alloc, &[1, 0x54, 3, 0, 0, 0x01]) == wanted);
+    // The offset is 5; the first repeat offset less 1 is 0.
+    assert!(rt; after_abc(alloc, &[1, 0x54, 3, 3, 0, 0x08]).err() == Some(ZstdError::Offset));
+    assert!(rt; after_abc(alloc, &[1, 0x54, 0, 1, 0, 0x03]).err() == Some(ZstdError::Offset));
+    // A bit is left; there is no final bit flag; there are only three literals.
+    assert!(rt; after_abc(alloc, &[1, 0x54, 3, 2, 0, 0x08]).err() == Some(ZstdError::Bitstream));
+    assert!(rt; after_abc(alloc, &[1, 0x54, 3, 2, 0]).err() == Some(ZstdError::Bitstream));
+    assert!(rt; after_abc(alloc, &[1, 0x54, 3, 2, 0, 0]).err() == Some(ZstdError::Bitstream));
+    assert!(rt; after_abc(alloc, &[1, 0x54, 4, 2, 0, 4]).err() == Some(ZstdError::Truncated));
+    // Modes with a reserved bit; a literals length code of 36; an accuracy of 20; no table before; bytes after no sequence.
+    assert!(rt; after_abc(alloc, &[1, 0x01]).err() == Some(ZstdError::Sequences));
+    assert!(rt; after_abc(alloc, &[1, 0x40, 36]).err() == Some(ZstdError::Sequences));
+    assert!(rt; after_abc(alloc, &[1, 0x80, 0x0F]).err() == Some(ZstdError::FseTable));
+    assert!(rt; after_abc(alloc, &[1, 0xC0]).err() == Some(ZstdError::NoTable));
+    assert!(rt; after_abc(alloc, &[0, 7]).err() == Some(ZstdError::Sequences));
 }

@@ -1,6 +1,10 @@
-//! Zstandard frames: samples of other encoders, damaged frames, errors, limits and FSE tables.
+//! Zstandard frames: samples of other encoders, damaged and changed frames, errors, limits and FSE tables.
 #![tactic(auto)]
 
+#[cfg(test)]
+mod changed;
+#[cfg(test)]
+mod compressed;
 #[cfg(test)]
 mod damaged;
 #[cfg(test)]

@@ -62,11 +62,3 @@ fn several_frames(rt: HostRuntime) {
         decode_frames(alloc, include_bytes!("zstd/two.zst"), 29).err() == Some(ZstdError::TooLong)
     );
 }
-
-#[test]
-fn a_compressed_block(rt: HostRuntime) {
-    assert!(rt;
-        decode_frames(rt.alloc(), include_bytes!("zstd/compressed.zst"), 1000).err()
-            == Some(ZstdError::CompressedBlock)
-    );
-}
