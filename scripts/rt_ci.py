@@ -2,8 +2,9 @@
 """`rt ci` with a smaller estimate of memory: the same run, in the same order, with more work side by side.
 
 Before it starts a check, this kit's `rt` reserves the memory that it expects the check to take, 1.5 to 13 GB. Checks take 0.4 of that at
-most, so processors are idle, and the largest crate, which all others wait for, is proved on one of four. The estimate decides nothing
-else. A kit without such an estimate runs as it is.
+most, so processors are idle, and the largest crate, which all others wait for, is proved on one of four. The estimate decides nothing else.
+Of crates that are given by name, the one that is checked gets all processors: `rt` keeps half of them for its tests, and no crate has any.
+A kit without such an estimate runs as it is.
 """
 import importlib.machinery
 import importlib.util
@@ -28,10 +29,12 @@ def main():
     words = ["ci", *sys.argv[1:]]
     try:
         rt = load(path)
-        estimate, run = rt.need, rt.main
+        estimate, processors, run = rt.need, rt.processors, rt.main
     except (AttributeError, OSError, SyntaxError, ImportError):
         os.execvp("rt", ["rt", *words])
     rt.need = lambda crate: SHARE * estimate(crate)
+    if sys.argv[1:]:
+        rt.processors = lambda: 2 * processors()
     status = run(words)
     sys.stdout.flush()
     return status
