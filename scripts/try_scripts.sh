@@ -74,13 +74,15 @@ if [ "${1:-}" = --build ]; then
     cmp -s "$room/wrote" crates/tour/stdout || differs 'rt try of app: other output'
 fi
 
-# A repository with two programs, and an `rt` that makes what `rt ci` makes if all is proved, then says and returns what VERDICT has.
+# A repository with two programs, and an `rt` that makes what `rt ci` makes if all is proved, then says and returns what VERDICT has. Of some
+# crates, `rt ci NAME`, it makes nothing.
 small=$room/small
 mkdir -p "$small/crates/nest/src" "$small/crates/listcut/src" "$small/crates/nest/out" "$room/bin"
 cp -r scripts "$small"
 touch "$small/crates.txt" "$small/HANDLES" "$small/crates/nest/src/main.rt" "$small/crates/listcut/src/main.rt" "$small/crates/nest/out/kept"
 cat >"$room/bin/rt" <<'END'
 #!/usr/bin/env bash
+[ "$*" = ci ] || exit 0
 [ ! -e crates/nest/out ] || exit 3
 for it in nest listcut; do
     mkdir "crates/$it/out"
