@@ -25,13 +25,11 @@ expect() {
     [ "$got" = "$status" ] && [ "$said" = "$message" ] || differs "$*: status $got, said '$said'"
 }
 
-# vendor: every crate that a line names is there, equal to the one here, and uses others of the lines or libraries of the kit.
+# vendor, by the commands that README shows: every crate that a line names is there, equal to the one here, and uses others of the lines or
+# libraries of the kit.
 other=$room/other
-mkdir -p "$other/crates/app/src"
-cp crates/tour/src/main.rt "$other/crates/app/src"
-sed -n 's/^tour:/app:/p' crates.txt >"$other/crates.txt"
-expect 0 '' scripts/vendor "$other"
-cat "$room/wrote" >>"$other/crates.txt"
+commands=$(sed -n '/^## In your own repository/,/^## /s/^    //p' README.md | sed "s|\.\./app|$other|g")
+bash -e -c "$(grep -v 'rt try' <<<"$commands")" || differs 'README: the commands for another repository fail'
 libraries=$(dirname "$(rt doc)")/rlibs
 grep -q '^tiekvorn:' "$other/crates.txt" || differs 'vendor: no line for tiekvorn'
 while IFS=: read -r name uses; do
@@ -70,7 +68,7 @@ expect 0 '' scripts/vendor --help
 
 if [ "${1:-}" = --build ]; then
     rmdir "$other/crates/tiekvorn/out"
-    (cd "$other/crates/app" && rt try) >"$room/wrote" 2>"$room/said" </dev/null || differs "rt try of app: $(tail -n 1 "$room/said")"
+    bash -c "$(grep 'rt try' <<<"$commands")" >"$room/wrote" 2>"$room/said" </dev/null || differs "rt try of app: $(tail -n 1 "$room/said")"
     cmp -s "$room/wrote" crates/tour/stdout || differs 'rt try of app: other output'
 fi
 
