@@ -187,7 +187,7 @@ fn import_typed<R: Read + Drop, W: Write + Drop, P: Progress>(
 }
 
 /// Writes the remaining lines of a reader in a format, as columns of these fields, flushes the output and returns it. Each line is one record, a
-/// value of JSON as `json_read::rows_of_text` reads it. The bytes decode to the records of the lines, in order. The rows of up to 65,536
+/// value of JSON as `json_read::read_json_lines` reads it. The bytes decode to the records of the lines, in order. The rows of up to 65,536
 /// lines, or of 32 MiB of lines, are written as a record batch before further lines are read.
 ///
 /// # Errors
