@@ -19,7 +19,7 @@ HEAD = """# Every public call
 
 Printed by `scripts/list_calls.py` from the sources. A function of a trait has one row, for all types.
 The errors are those that its documentation or its clauses name; where it says "as" another function, those of that one, too.
-`first check` is the first check of its arguments that fails. A test calls a function if its text, or that of a function of its
+`first check` is the first check of its arguments that fails, and `any E` any error of that type. A test calls a function if its text, or that of a function of its
 crate that it calls, has
 
 - `Type::call(`, `Trait::call(`, or an imported `call(`; or
@@ -257,7 +257,8 @@ def row(call):
 def unknown_tests(tests):
     """The names in the last cells of docs/DIFFERENCES.md that are no tests."""
     with open(os.path.join("docs", "DIFFERENCES.md"), encoding="utf-8") as differences:
-        named = re.findall(r"\| `((?:\w+::)+\w+)` \|$", differences.read(), re.M)
+        cells = re.findall(r"\| (`(?:\w+::)+\w+`(?:, `(?:\w+::)+\w+`)*) \|$", differences.read(), re.M)
+    named = re.findall(r"\w[\w:]+", " ".join(cells))
     return sorted(set(named) - {it.path() for it in tests})
 
 

@@ -19,9 +19,12 @@ LIBRARIES = libraries()
 SPOKEN = {
     "AllocError": ["Memory"], "RefusesOrMemory": ["Memory"], "IsItemOrMemory": ["Memory"], "RefusedSome": ["Memory"],
     "WrongOffsets": ["Offsets"],
-    "RefusesValidity": ["ValidityLength"], "ValidityFault": ["ValidityLength"],
-    "FirstFault": ["first check"], "FailFirst": ["first check"], "FailsFirst": ["first check"],
+    "RefusesValidity": ["ValidityLength"],
+    "FailFirst": ["first check"],
 }
+# Words of documentation and contracts that mean any error of a type; and one that does where no error is named.
+ANY_ERROR = re.compile(r"\bthe errors of\b|\bReturnsOrRunsOut\b")
+FIRST_ERROR = "first error"
 STD = set("all any as_bytes as_str chars chunks clear clone cloned cmp collect contains count drop enumerate eq err expect "
           "extend filter find first flush fmt from get insert into into_iter is_empty is_err is_none is_ok is_some iter join "
           "last len lines map max min new next next_back ok or parse pop position push push_str read remove reserve rev skip "
@@ -163,7 +166,7 @@ class Sources:
         crates = sorted(os.listdir("crates"))
         self.runners = RUNNERS + sorted(c for c in os.listdir("tests") if os.path.isdir(os.path.join("tests", c)))
         self.functions, self.traits_of, self.supers, self.variants, self.aliases = [], {}, {}, {}, {}
-        self.fields, self.public, self.exports, self.error_names = {}, {}, {}, set()
+        self.fields, self.public, self.exports, self.error_types = {}, {}, {}, {}
         self.blanket, files = [], []
         for crate in [c for c in LIBRARIES if c in crates] + [c for c in self.runners if c not in LIBRARIES]:
             for folder, _, inside in sorted(os.walk(source(crate))):
@@ -174,6 +177,8 @@ class Sources:
         self.types = {name for file, name in declared if self.is_public(file, name)}
         for file in files:
             self.read(file)
+        for function in self.functions:
+            function.errors = self.errors_of(function)
         for parameter_trait, trait in self.blanket:
             for has in self.traits_of.values():
                 if parameter_trait in has:
@@ -192,7 +197,8 @@ class Sources:
             said = " ".join(f.docs).partition("# Errors")[2]
             for name in re.findall(r"\b(?:[Aa]s|[Tt]hose of)[^.`]*\[?`(\w+)`", said):
                 same = [g for g in named.get(name, []) if g.owner and f.owner and g.owner[0] == f.owner[0]]
-                for g in same or [g for g in named.get(name, []) if not g.owner]:
+                free = [g for g in named.get(name, []) if not g.owner]
+                for g in same or [g for g in free if g.file.crate == f.file.crate] or free:
                     f.errors |= g.errors
         self.lone = {n: fs[0] for n, fs in named.items() if len(fs) == 1 and fs[0].owner and n not in STD}
 
@@ -222,6 +228,8 @@ class Sources:
         for found in re.finditer(r"^(pub )?(?:enum|struct) (\w+)(<[^{;(]*>)?[^{;]*\{(.*?)^\}", text, re.M | re.S):
             self.variants[found[2]] = {v: parse_type(t) for v, t in re.findall(r"^    (\w+)\((.*?)\),", found[4], re.M)}
             self.fields[found[2]] = {v: parse_type(t) for v, t in re.findall(r"^    (?:pub )?(\w+): (.*?),$", found[4], re.M)}
+            if found[2].endswith("Error") and file.crate in LIBRARIES:
+                self.error_types[found[2]] = found[4]
         if file.crate in LIBRARIES:
             self.aliases.update(file.aliases)
         owner, generics, trait, docs, attributes = None, {}, None, [], []
@@ -282,22 +290,30 @@ class Sources:
             written = re.compile(r" *pub (?:const )?fn ").match(text, at)
             public = bool(trait is None and written and (owner[0] in self.types if owner else self.is_public(file, name)))
         self.functions.append(Function(file, owner, generics, trait, name, docs, head, body, attributes, public))
-        self.functions[-1].errors = self.errors_of(self.functions[-1])
+
+    def error_names(self, kind):
+        """The variants of an error type, and of the error types in them."""
+        text = self.error_types.get(kind, "")
+        inner = set(re.findall(r"\w+Error\b", text)) & set(self.error_types) - {kind}
+        return set(re.findall(r"^    (\w+)(?: \{|\(|,$)", text, re.M)).union(*map(self.error_names, inner))
 
     def errors_of(self, function):
         """The names of errors in its documentation or its clauses, and those of another call where it says `as`."""
-        if not self.error_names:
-            text = open(os.path.join("crates", "nest_memory", "src", "error.rt"), encoding="utf-8").read()
-            self.error_names = {"first check"} | set(re.findall(r"^    ([A-Z]\w+)(?:\(AllocError\))?,$", text, re.M))
-        if not function.result or "Result<" not in re.split(r"\n\s*(?:requires|ensures)\b", function.head)[0]:
+        sign = re.split(r"\n\s*(?:requires|ensures)\b", function.head)[0]
+        if not function.result or "Result<" not in sign:
             return set()
         docs = " ".join(function.docs)
         docs = docs.partition("# Errors")[2] or " ".join(re.findall(r"`[^`]*`", docs))
-        words = set(re.findall(r"\w+", docs + " " + function.head.split("->", 1)[1]))
+        said = docs + " " + function.head.split("->", 1)[1]
+        words = set(re.findall(r"\w+", said))
         meant = {error for word in words for error in SPOKEN.get(word, [])}
         if "the child refuses" in docs:
             meant |= {"ItemSize", "ItemType", "Overflow"}
-        return (words | meant) & self.error_names - {"OutOfSpec", "InvalidArgumentError"}
+        kind = next((it for it in reversed(re.findall(r"\w+", sign.split("->", 1)[1])) if it in self.error_types), "Error")
+        named = words & self.error_names(kind) - {"OutOfSpec", "InvalidArgumentError"}
+        if kind != "Error" and (ANY_ERROR.search(said) or FIRST_ERROR in docs and not named - {"Memory"}):
+            meant.add(f"any {kind}")
+        return named | meant
 
     def method(self, file, owner, name):
         """The call of that name of a type, else of a trait that it implements or that one of these needs; those that the file imports first."""
