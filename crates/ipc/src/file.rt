@@ -83,7 +83,7 @@ impl<'a> SliceFileReader<'a> {
     /// Returns a reader of the projected columns. The other columns are skipped, even where their data types cannot be read.
     ///
     /// # Errors
-    /// Those of `new`, and an error of the projection.
+    /// Those of `new`.
     #[tactic(auto, unfolding(crate::specs::Files::file_reader_in))]
     pub fn with_projection(
         alloc: Global,
@@ -157,7 +157,7 @@ pub fn read_file(alloc: Global, bytes: &[u8]) -> Result<File, IpcReadError>
 /// Reads the projected columns of a file. The other columns are skipped, even where their data types cannot be read.
 ///
 /// # Errors
-/// Those of `read_file`, and an error of the projection.
+/// Those of `read_file`.
 #[tactic(auto, unfolding(crate::specs::Files::projected_file_in))]
 pub fn read_file_projected(
     alloc: Global,

@@ -51,7 +51,7 @@ impl<'a> SliceStreamReader<'a> {
     /// Returns a reader of the projected columns. The other columns are skipped, even where their data types cannot be read.
     ///
     /// # Errors
-    /// Those of `new`, and an error of the projection.
+    /// Those of `new`.
     #[tactic(auto, unfolding(crate::specs::SliceStreamReaders::reader_in))]
     pub fn with_projection(
         alloc: Global,

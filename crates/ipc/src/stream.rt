@@ -57,7 +57,7 @@ pub fn read_stream(alloc: Global, bytes: &[u8]) -> Result<Stream, IpcReadError>
 /// be read.
 ///
 /// # Errors
-/// The first error in the order of the bytes, an error of the projection, or `Memory`.
+/// The first error in the order of the bytes, or `Memory`.
 #[tactic(auto, unfolding(crate::specs::Streams::projected_stream_in))]
 pub fn read_stream_projected(
     alloc: Global,

@@ -211,8 +211,8 @@ fn write_batches(
 /// and again where a batch replaces its values.
 ///
 /// # Errors
-/// The first error in the order of writing: a field of the schema (`Extension`, `Float`, `Type`), or the size of its message (`Size`); then
-/// batch by batch `Columns`, if the columns are not those of the schema, or `Size`. `Memory`, where an allocation fails.
+/// The first error in the order of writing: a field of the schema (`Depth`, `Extension`, `Dictionary`, `Type`, `Float`, `Unit`, `Size`), or
+/// the size of its message (`Size`); then batch by batch `Columns`, if the columns are not those of the schema, or `Size`. `Memory`, where an allocation fails.
 #[tactic(auto, unfolding(crate::specs::EncodedStreams::encoded_messages))]
 pub fn write_stream(
     alloc: Global,

@@ -244,9 +244,9 @@ fn write_parts_or_undo(
 /// reader of the file before and after; its dictionaries are cloned only if there are dictionary batches.
 ///
 /// # Errors
-/// `Columns`, if the columns are not those of the fields; `Dictionaries`, if a dictionary would be replaced; then in the order of writing:
-/// `Size` of a dictionary batch, `Dictionaries` if no reader could append the delta, as an offset or key would overflow; `Size` of the
-/// record batch. `Memory`, where an allocation fails. After an error `known` is unchanged.
+/// `Columns`, if the columns are not those of the fields; `DictionaryReplacement`, if a dictionary would be replaced; then in the order of
+/// writing: `Size` of a dictionary batch, `DictionaryReplacement` if no reader could append the delta, as an offset or key would overflow;
+/// `Size` of the record batch. `Memory`, where an allocation fails. After an error `known` is unchanged.
 #[tactic(auto, unfolding(crate::specs::EncodedStreams::encoded_batch))]
 pub fn encode_file_batch<'a>(
     alloc: Global,
@@ -375,9 +375,10 @@ fn write_messages(
 /// reader of the file has all its values before the first record batch.
 ///
 /// # Errors
-/// The first error in the order of writing: a field of the schema (`Extension`, `Float`, `Type`), or the size of its message (`Size`); then
-/// batch by batch `Columns`, if the columns are not those of the schema; `Dictionaries`, if a dictionary would be replaced, or no reader
-/// could append the delta; `Size`; last `Size` of the footer. `Memory`, where an allocation fails.
+/// The first error in the order of writing: a field of the schema (`Depth`, `Extension`, `Dictionary`, `Type`, `Float`, `Unit`, `Size`), or
+/// the size of its message (`Size`); then batch by batch `Columns`, if the columns are not those of the schema; `DictionaryReplacement`, if
+/// a dictionary would be replaced, or no reader could append the delta; `Size`; last `Size` of the footer. `Memory`, where an allocation
+/// fails.
 #[tactic(auto, unfolding(crate::specs::EncodedFiles::encoded_file))]
 pub fn write_file(
     alloc: Global,

@@ -3,7 +3,7 @@ ghost use Rattle.std.specs.Prelude.{◌≡◌};
 
 use std::alloc::{AllocError, AllocFailed};
 
-/// Why bytes were not read: the first error in the order of reading, or want of memory, which can stand in the position of any later one.
+/// Why bytes were not read: the first error in the order of reading, or `Memory` in place of it or of a later one.
 #[derive(Clone, Copy, Debug, PartialEq, Eq, thiserror::Error)]
 pub enum IpcReadError {
     /// The bytes end inside of a message, or a file has fewer than 18 bytes.
@@ -170,7 +170,7 @@ impl<T: Drop> From<AllocFailed<T>> for IpcReadError {
     }
 }
 
-/// Why a schema or a batch is not written: the first reason in the order of writing, or want of memory, which can stand in the position of any later one.
+/// Why a schema or a batch is not written: the first error in the order of writing, or `Memory` in place of it or of a later one.
 #[derive(Clone, Copy, Debug, PartialEq, Eq, thiserror::Error)]
 pub enum IpcWriteError {
     /// The fields nest deeper than 64 levels.

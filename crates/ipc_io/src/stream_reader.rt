@@ -143,7 +143,7 @@ impl<R: Read + Drop> StreamReader<R> {
     /// Returns a reader of the projected columns. The other columns are skipped, even where their data types cannot be read.
     ///
     /// # Errors
-    /// Those of `new`, and `Ipc` with an error of the projection.
+    /// Those of `new`.
     pub fn with_projection(
         alloc: Global,
         reader: R,
