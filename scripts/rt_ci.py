@@ -1,9 +1,11 @@
 #!/usr/bin/env python3
 """`rt ci` with a smaller estimate of memory: the same run, in the same order, with more work side by side.
 
+    scripts/rt_ci.py [--anew] [--chain] [NAME ..]
+
 Before it starts a check, this kit's `rt` reserves the memory that it expects the check to take, 1.5 to 13 GB. Checks take 0.4 of that at
 most, so processors are idle, and the largest crate, which all others wait for, is proved on one of four. The estimate decides nothing else.
-Of crates that are given by name, the one that is checked gets all processors: `rt` keeps half of them for its tests, and no crate has any.
+--chain is for crates that wait for each other: the one that is checked gets all processors, where `rt` keeps half of them for its tests.
 A kit without such an estimate runs as it is.
 """
 import importlib.machinery
@@ -26,14 +28,15 @@ def load(path):
 def main():
     sys.dont_write_bytecode = True
     path = os.path.realpath(shutil.which("rt") or "")
-    words = ["ci", *sys.argv[1:]]
+    given = sys.argv[1:]
+    words = ["ci", *(it for it in given if it != "--chain")]
     try:
         rt = load(path)
         estimate, processors, run = rt.need, rt.processors, rt.main
     except (AttributeError, OSError, SyntaxError, ImportError):
         os.execvp("rt", ["rt", *words])
     rt.need = lambda crate: SHARE * estimate(crate)
-    if sys.argv[1:]:
+    if "--chain" in given:
         rt.processors = lambda: 2 * processors()
     status = run(words)
     sys.stdout.flush()
