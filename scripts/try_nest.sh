@@ -9,15 +9,13 @@ trap 'rm -rf "$room"' EXIT
 failed=0
 
 # Streams and files of another implementation: an int32 column `a` and a string column `b` in record batches of 2, 0 and 1 rows; a
-# compressed one; three rows without a column; boolean columns `a` and `b`.
-unpack() {
-    base64 -d | gzip -dc >"$room/$1"
-}
-unpack stream <<<'H4sIAAAAAAACA51RuxHCMAyVSMyF4MJAihQUFBSUDEHBGsl0jEHJVubFVohPhATQ3bN0+j3J8t77GxE5oKQ1FXhz2FZ8OTF8RbDiS7QAauAacrbwOdqEqA01HfbAEWAkM3SD+Ep6lMCBor+Ti9TUAjYx1iK/41vSIBjXP6CrwLYL/DZkxR4nyavCrBm4Kug4l5XZSeyz2IvEz4lPi0nsPq9Q2qkal/CR7E0jfKx69/GmHfa+T+xdvO1tXzezI/t+I4b+l1z9i5a5O9Yzd+QPd2TFM/a/5oe5Wd2x99eqLpvYs/vGJ/ijfCdoAwAA'
-unpack file <<<'H4sIAAAAAAACA81UO1IDMQyVNrvMsrgwZAsXFBQUlHCEzFDQMZMmdXKSHIKCI6RMmTJlSm4Ez7JMjFgSQoVm3koj6+s33sl0+jx7IHqHrIjIAx1dUItvDdupryaGrxUrfYkqIABPEnMFn6dLOXWSE3EN3AKMYIae4/xca3TADSV/lEfNCQpu0tkC8bHfGe0lzruD7qXbWPo7iUo17jSul1lH6NVDp7mczk5q36tdFX4ufFaaws5xrdHe5PiiH+neNNCPTe18Pl/s994e2Lv9trf75MwN7PsbaejvUpt7sXKMx3CER/6BRzZ9hu63OWFuNjxmfzB5owN75nyHHb1w4mTuWOMFeFWm8vvq/sE7yztt1H5Tnd/XWovuzL0sq6/xoSBiIv+cD4Qeli56BAAA'
-unpack packed <<<'H4sIAAAAAAACA31QsRHCMAx8xw5ngosAKVJQUFBQMgQFaySswjCMw0bOW5bBB3fo7i1ZeksvxxjjE0BPdNjA83SMg+YcDHNeonwCDTESN+HsmOuxlWqQNwkH4kQYkg39xPpae3TEETmf7KpvRoVpc20mP81b4WOUG1/0g0zby/wgrNzjorxBtFrWRvqka5CdrNaDch+6T8kXTRa/1lZx4fmqH1R/beXeqz9/9Xe6Y/tnflNpnOb7+x+SxAWQLvY2wAEAAA=='
-unpack bare <<<'H4sIAAAAAAACA/v///9/AwYGBgEg5mLgZuAAkixANg9UjIWBESjGAWZBSAgAavsfgEOfBFgdM1BEBEjzgNUwQNUyQ9kw89EByFyQMADHOIeamAAAAA=='
-unpack truths <<<'H4sIAAAAAAAC/2VQwQ3CMAy8hqiKSB4G+mAM3szQJWArNkBMwG48wtk1SkktXe5i+5I4tdb6BCDEHhmJa6QunosYmEumlhUIxJmYrefInOBg1WIe8bpiGAnyjV3q5dZCHdH43zc5tE99d+KKFnxufXtPwcnuL3ZSuxdej9hxmom8nK8zZa+rvrgOq3xwzthGXOlfX+r20nmkq3/8Ax6eeI1tLuUvfqcw3pABAAA='
+# compressed one; three rows without a column; boolean columns `a` and `b`. They are copied, since some commands write beside their input.
+data=$(dirname "$0")/../tests/data
+cp "$data/cli/stream.arrows" "$room/stream"
+cp "$data/cli/file.arrow" "$room/file"
+cp "$data/cli/compressed.arrows" "$room/packed"
+cp "$data/streams/valid/no_columns.arrows" "$room/bare"
+cp "$data/flat/valid/boolean.arrows" "$room/truths"
 head -c 500 "$room/file" >"$room/cut"
 printf 'a,b\n1,2\n' >"$room/csv"
 # The stream without its record batch of 0 rows, without its last record batch, and with another integer in its last row.
