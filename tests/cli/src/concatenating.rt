@@ -16,10 +16,10 @@ fn batch_error(batch: Option<usize>, error: CliError) -> AppendError {
 }
 
 /// Returns the bytes of samples.
-fn samples(alloc: Global, digits: &[&str]) -> Result<Vec<Vec<u8>>, Fail> {
+fn samples(alloc: Global, samples: &[&[u8]]) -> Result<Vec<Vec<u8>>, Fail> {
     let mut parts = Vec::new(alloc);
-    for digits in digits {
-        parts.push(bytes_of(alloc, digits)?)?;
+    for sample in samples {
+        parts.push(bytes_of(alloc, sample)?)?;
     }
     Ok(parts)
 }
@@ -56,7 +56,7 @@ fn appended(
 #[test]
 fn samples_are_concatenated(rt: HostRuntime) -> Result<(), Fail> {
     let alloc = rt.alloc();
-    for digits in [
+    for inputs in [
         [STREAM].as_slice(),
         [STREAM, FILE].as_slice(),
         [FILE, FILE, STREAM].as_slice(),
@@ -64,7 +64,7 @@ fn samples_are_concatenated(rt: HostRuntime) -> Result<(), Fail> {
         [COLUMNLESS, COLUMNLESS].as_slice(),
         [EMPTY, EMPTY].as_slice(),
     ] {
-        let parts = samples(alloc, digits)?;
+        let parts = samples(alloc, inputs)?;
         for format in [Format::File, Format::Stream] {
             let want = concatenated(alloc, format, &parts).expect(&rt, "a table");
             let made = appended(alloc, &parts, format, (NEVER, NEVER)).expect(&rt, "an output");
@@ -85,7 +85,7 @@ fn errors_name_the_input(rt: HostRuntime) -> Result<(), Fail> {
     let unread = AppendError::Batch(read_error(None, IpcReadError::Truncated));
     let mut none = Vec::new(alloc);
     none.extend_from_slice(b"a,b\n1,2\n")?;
-    for (digits, last, k, error) in [
+    for (inputs, last, k, error) in [
         ([STREAM, FILE].as_slice(), Some(&broken), 2usize, negative),
         ([].as_slice(), Some(&broken), 0, negative),
         ([STREAM, COMPRESSED].as_slice(), None, 1, compressed),
@@ -105,7 +105,7 @@ fn errors_name_the_input(rt: HostRuntime) -> Result<(), Fail> {
         ([FILE].as_slice(), Some(&none), 1, unread),
         ([].as_slice(), Some(&none), 0, unread),
     ] {
-        let mut parts = samples(alloc, digits)?;
+        let mut parts = samples(alloc, inputs)?;
         if let Some(bytes) = last {
             parts.push(bytes.to_vec(alloc)?)?;
         }
@@ -151,8 +151,8 @@ fn devices_and_outputs_fail(rt: HostRuntime) -> Result<(), Fail> {
 #[test]
 fn the_schema_is_that_of_the_first_input(rt: HostRuntime) -> Result<(), Fail> {
     let alloc = rt.alloc();
-    for (digits, fields) in [(STREAM, 2usize), (FILE, 2), (COLUMNLESS, 0)] {
-        let bytes = bytes_of(alloc, digits)?;
+    for (sample, fields) in [(STREAM, 2usize), (FILE, 2), (COLUMNLESS, 0)] {
+        let bytes = bytes_of(alloc, sample)?;
         for format in [Format::File, Format::Stream] {
             let mut count = Count::new();
             let first = input(&bytes, Device::new(bytes.to_vec(alloc)?, NEVER));

@@ -47,8 +47,8 @@ fn copied(
 #[test]
 fn samples_are_copied(rt: HostRuntime) -> Result<(), Fail> {
     let alloc = rt.alloc();
-    for digits in [STREAM, FILE, BOOLEANS, COLUMNLESS, EMPTY] {
-        let bytes = bytes_of(alloc, digits)?;
+    for sample in [STREAM, FILE, BOOLEANS, COLUMNLESS, EMPTY] {
+        let bytes = bytes_of(alloc, sample)?;
         for format in [Format::File, Format::Stream] {
             let want = converted(alloc, format, &bytes).expect(&rt, "bytes");
             let (made, _) = copied(alloc, &bytes, format, Selection::All, (NEVER, NEVER)).expect(
@@ -80,8 +80,8 @@ fn batches_read_for_slice(
 #[test]
 fn slices_are_copied(rt: HostRuntime) -> Result<(), Fail> {
     let alloc = rt.alloc();
-    for digits in [STREAM, FILE, COLUMNLESS, EMPTY] {
-        let bytes = bytes_of(alloc, digits)?;
+    for sample in [STREAM, FILE, COLUMNLESS, EMPTY] {
+        let bytes = bytes_of(alloc, sample)?;
         for start in 0..5usize {
             for count in [0usize, 1, 2, 3, usize::MAX] {
                 for format in [Format::File, Format::Stream] {
@@ -208,8 +208,8 @@ fn errors_end_a_copy(rt: HostRuntime) -> Result<(), Fail> {
 #[test]
 fn devices_and_outputs_fail(rt: HostRuntime) -> Result<(), Fail> {
     let alloc = rt.alloc();
-    for digits in [STREAM, FILE] {
-        let bytes = bytes_of(alloc, digits)?;
+    for sample in [STREAM, FILE] {
+        let bytes = bytes_of(alloc, sample)?;
         for format in [Format::File, Format::Stream] {
             let (want, _) = copied(alloc, &bytes, format, Selection::All, (NEVER, NEVER)).expect(
                 &rt, "a copy",
@@ -241,8 +241,8 @@ fn devices_and_outputs_fail(rt: HostRuntime) -> Result<(), Fail> {
 #[test]
 fn batches_are_read(rt: HostRuntime) -> Result<(), Fail> {
     let alloc = rt.alloc();
-    for digits in [STREAM, FILE] {
-        let bytes = bytes_of(alloc, digits)?;
+    for sample in [STREAM, FILE] {
+        let bytes = bytes_of(alloc, sample)?;
         let device = Device::new(bytes.to_vec(alloc)?, NEVER);
         let mut reader = open(alloc, Projection::All, input(&bytes, device)).expect(
             &rt, "a reader",

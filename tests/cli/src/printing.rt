@@ -61,8 +61,8 @@ const COMMANDS: [&[&str]; 12] = [
 #[test]
 fn samples_are_printed(rt: HostRuntime) -> Result<(), Fail> {
     let alloc = rt.alloc();
-    for digits in [STREAM, FILE, BOOLEANS, EMPTY] {
-        let bytes = bytes_of(alloc, digits)?;
+    for sample in [STREAM, FILE, BOOLEANS, EMPTY] {
+        let bytes = bytes_of(alloc, sample)?;
         for arguments in COMMANDS {
             let (done, out) = printed(alloc, arguments, &bytes, NEVER, NEVER)?;
             match text_of(alloc, Projection::All, &ordered(alloc, arguments)?, &bytes) {
@@ -162,8 +162,8 @@ fn unselected_batches_are_not_read(rt: HostRuntime) -> Result<(), Fail> {
 #[test]
 fn device_errors_follow_complete_batches(rt: HostRuntime) -> Result<(), Fail> {
     let alloc = rt.alloc();
-    for digits in [STREAM, FILE] {
-        let bytes = bytes_of(alloc, digits)?;
+    for sample in [STREAM, FILE] {
+        let bytes = bytes_of(alloc, sample)?;
         let (_, whole) = printed(alloc, &["rows"], &bytes, NEVER, NEVER)?;
         for call in 0..400usize {
             let (done, out) = printed(alloc, &["rows"], &bytes, call, NEVER)?;

@@ -361,19 +361,19 @@ fn bytes_are_copied(rt: HostRuntime) -> Result<(), Fail> {
 }
 
 /// The text that a command prints of a sample.
-fn said(alloc: Global, arguments: &[&str], digits: &str) -> Result<String, CliError> {
-    crate::oracle::said(alloc, arguments, &bytes_of(alloc, digits)?)
+fn said(alloc: Global, arguments: &[&str], sample: &[u8]) -> Result<String, CliError> {
+    crate::oracle::said(alloc, arguments, &bytes_of(alloc, sample)?)
 }
 
 #[test]
 fn schemas_of_samples_are_printed(rt: HostRuntime) -> Result<(), Fail> {
-    for (digits, want) in [
+    for (sample, want) in [
         (STREAM, "a: int32\nb: string\n"),
         (FILE, "a: int32\nb: string\n"),
         (BOOLEANS, "a: bool\nb: bool not null\n"),
         (COLUMNLESS, ""),
     ] {
-        let text = said(rt.alloc(), &["schema"], digits)?;
+        let text = said(rt.alloc(), &["schema"], sample)?;
         assert!(rt; text.as_str() == want, "{text}");
     }
     Ok(())
@@ -399,8 +399,8 @@ fn rows_of_samples_are_printed(rt: HostRuntime) -> Result<(), Fail> {
         ),
         (["take"].as_slice(), ""),
     ] {
-        for digits in [STREAM, FILE] {
-            let text = said(rt.alloc(), arguments, digits)?;
+        for sample in [STREAM, FILE] {
+            let text = said(rt.alloc(), arguments, sample)?;
             assert!(rt; text.as_str() == want, "{text}");
         }
     }
@@ -411,17 +411,17 @@ fn rows_of_samples_are_printed(rt: HostRuntime) -> Result<(), Fail> {
 
 #[test]
 fn invalid_bytes_are_errors(rt: HostRuntime) {
-    for (digits, want) in [
+    for (sample, want) in [
         (COMPRESSED, CliError::Read(IpcReadError::Compressed)),
-        ("", CliError::Read(IpcReadError::MissingSchema)),
-        ("ffff", CliError::Read(IpcReadError::Truncated)),
-        ("4152524f5731", CliError::Read(IpcReadError::Truncated)),
-        ("2c", CliError::Read(IpcReadError::Truncated)),
-        ("2c2c2c2c2c2c2c2c", CliError::Read(IpcReadError::Truncated)),
+        (b"".as_slice(), CliError::Read(IpcReadError::MissingSchema)),
+        (b"\xff\xff".as_slice(), CliError::Read(IpcReadError::Truncated)),
+        (b"ARROW1".as_slice(), CliError::Read(IpcReadError::Truncated)),
+        (b",".as_slice(), CliError::Read(IpcReadError::Truncated)),
+        (b",,,,,,,,".as_slice(), CliError::Read(IpcReadError::Truncated)),
         (COLUMNLESS, CliError::MismatchedColumns),
     ] {
-        let error = said(rt.alloc(), &["rows"], digits).err();
-        assert!(rt; error == Some(want), "{digits}");
+        let error = said(rt.alloc(), &["rows"], sample).err();
+        assert!(rt; error == Some(want), "{error:?}");
     }
 }
 
@@ -462,8 +462,8 @@ fn projected_columns_are_printed(rt: HostRuntime) -> Result<(), Fail> {
             "{\"a\":1,\"b\":\"a\"}\n",
         ),
     ] {
-        for digits in [STREAM, FILE] {
-            let bytes = bytes_of(alloc, digits)?;
+        for sample in [STREAM, FILE] {
+            let bytes = bytes_of(alloc, sample)?;
             let columns = Projection::Names(names);
             let text = text_of(alloc, columns, &Request::Columns, &bytes)?;
             assert!(rt; text.as_str() == schema, "{text}");

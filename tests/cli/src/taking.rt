@@ -83,8 +83,8 @@ fn lines_at(alloc: Global, bytes: &[u8], indices: &[usize]) -> Result<String, Ba
 #[test]
 fn samples_are_taken(rt: HostRuntime) -> Result<(), Fail> {
     let alloc = rt.alloc();
-    for digits in [STREAM, FILE, BOOLEANS, COLUMNLESS, EMPTY] {
-        let bytes = bytes_of(alloc, digits)?;
+    for sample in [STREAM, FILE, BOOLEANS, COLUMNLESS, EMPTY] {
+        let bytes = bytes_of(alloc, sample)?;
         for indices in INDICES {
             for format in [Format::File, Format::Stream] {
                 let selection = indices_of(alloc, indices)?;
@@ -100,8 +100,8 @@ fn samples_are_taken(rt: HostRuntime) -> Result<(), Fail> {
 #[test]
 fn rows_are_taken_as_lines(rt: HostRuntime) -> Result<(), Fail> {
     let alloc = rt.alloc();
-    for digits in [STREAM, FILE, BOOLEANS, EMPTY] {
-        let bytes = bytes_of(alloc, digits)?;
+    for sample in [STREAM, FILE, BOOLEANS, EMPTY] {
+        let bytes = bytes_of(alloc, sample)?;
         for indices in INDICES {
             let request = Request::Rows(indices_of(alloc, indices)?);
             let want = text_of(alloc, Projection::All, &request, &bytes).map_err(before_batches);
@@ -225,8 +225,8 @@ fn errors_are_returned_before_missing_rows(rt: HostRuntime) -> Result<(), Fail> 
 #[test]
 fn devices_fail_at_any_call(rt: HostRuntime) -> Result<(), Fail> {
     let alloc = rt.alloc();
-    for digits in [STREAM, FILE] {
-        let bytes = bytes_of(alloc, digits)?;
+    for sample in [STREAM, FILE] {
+        let bytes = bytes_of(alloc, sample)?;
         let mut errors = 0;
         for call in 0..400usize {
             match taken(alloc, &bytes, &[2, 0], call) {
@@ -245,8 +245,8 @@ fn devices_fail_at_any_call(rt: HostRuntime) -> Result<(), Fail> {
 #[test]
 fn rows_of_arrays_are_taken(rt: HostRuntime) -> Result<(), Fail> {
     let alloc = rt.alloc();
-    for digits in [STREAM, BOOLEANS] {
-        let bytes = bytes_of(alloc, digits)?;
+    for sample in [STREAM, BOOLEANS] {
+        let bytes = bytes_of(alloc, sample)?;
         let table = read_table(alloc, Projection::All, &bytes)?;
         let schema = copy_schema(alloc, &table.schema)?;
         let arrays = arrays_of(alloc, table)?;
