@@ -1,5 +1,5 @@
 -- Slots as JSON (RFC 8259). A boolean is a literal and an integer a number. UTF-8 is a string with the shortest escapes, and binary data
--- a string of hexadecimal digits. A decimal of 128 bits, a date, a time, a timestamp, a duration and an interval are strings too. A list is an array,
+-- a string of hexadecimal digits. A decimal, a date, a time, a timestamp, a duration and an interval are strings too. A list is an array,
 -- a struct an object of its fields, and a union an object of the selected field. Another native value of several numbers is an array of
 -- them. Names come from the data type.
 use Rattle.std.specs.Prelude.{◌≡◌, ℕ, zero, suc, ◌/◌, ◌%◌, ◌==◌, nat_lt, ℤ, Bool, true, false, ◌||◌, List, [], ◌∷◌, ◌++◌, map, flat_map, codes, Option, Some, None, if◌then◌else◌}
