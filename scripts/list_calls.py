@@ -1,7 +1,7 @@
 #!/usr/bin/env python3
 """Lists every public function of the libraries and of the program, its errors, and the tests that call it.
 
-    python3 scripts/list_calls.py            prints the list, as Markdown
+    python3 scripts/list_calls.py            writes the list to out/CALLS.md
     python3 scripts/list_calls.py --check    names each function that can return Memory and that no test calls, and each unknown
                                              test that docs/DIFFERENCES.md names; fails if there is one
 
@@ -15,9 +15,10 @@ import sys
 sys.dont_write_bytecode = True
 from rattle_sources import LIBRARIES, Sources, closing, parse_type, pieces
 
+LIST = "out/CALLS.md"
 HEAD = """# Every public call
 
-Printed by `scripts/list_calls.py` from the sources. A function of a trait has one row, for all types.
+Made by `scripts/list_calls.py` from the sources. A function of a trait has one row, for all types.
 The errors are those that its documentation or its clauses name; where it says "as" another function, those of that one, too.
 `first check` is the first check of its arguments that fails, and `any E` any error of that type. A test calls a function if its text, or that of a function of its
 crate that it calls, has
@@ -268,7 +269,10 @@ def main():
         for called, ok in reached(sources, bodies, test).items():
             (called.tests if ok else called.refused).append(test)
     if "--check" not in sys.argv[1:]:
-        print(page(sources.calls), end="")
+        os.makedirs("out", exist_ok=True)
+        with open(LIST, "w", encoding="utf-8") as made:
+            made.write(page(sources.calls))
+        print(f"{LIST} lists {len(sources.calls)} functions")
         return
     missing = [c for c in sources.calls if not c.tests and "Memory" in c.errors]
     unknown = unknown_tests(sources.tests())
