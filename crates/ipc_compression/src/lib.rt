@@ -1,0 +1,10 @@
+//! The buffers of compressed record batches, as the Arrow IPC format has them (Message.fbs, table `BodyCompression`).
+#![tactic(auto)]
+
+mod buffer;
+mod codec;
+mod error;
+
+pub use buffer::decompress_buffer;
+pub use codec::CompressionCodec;
+pub use error::CompressionError;
