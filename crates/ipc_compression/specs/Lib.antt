@@ -6,3 +6,6 @@ pub mod Codecs
 pub mod Buffers
 pub mod Lz4BufferExamples
 pub mod ZstdBufferExamples
+-- plain bodies
+pub mod Bodies
+pub mod BodyLaws

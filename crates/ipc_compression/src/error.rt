@@ -26,6 +26,9 @@ pub enum CompressionError {
     /// A buffer does not decode to the length that it states, states a negative length other than -1, or has bytes after its LZ4 frame.
     #[error("compressed buffer does not decode to the length that it states")]
     Length,
+    /// The offset or length of a buffer is negative, or the buffer ends after the body.
+    #[error("buffer is outside of the message body")]
+    BufferRange,
     /// An allocation failed.
     #[error("out of memory")]
     Memory,

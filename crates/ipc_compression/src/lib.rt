@@ -1,10 +1,12 @@
 //! The buffers of compressed record batches, as the Arrow IPC format has them (Message.fbs, table `BodyCompression`).
 #![tactic(auto)]
 
+mod body;
 mod buffer;
 mod codec;
 mod error;
 
+pub use body::plain_body;
 pub use buffer::decompress_buffer;
 pub use codec::CompressionCodec;
 pub use error::CompressionError;
