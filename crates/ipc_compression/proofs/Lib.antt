@@ -1,1 +1,2 @@
 mod Bodies
+mod Written

@@ -8,4 +8,7 @@ pub mod Lz4BufferExamples
 pub mod ZstdBufferExamples
 -- plain bodies
 pub mod Bodies
+-- what is written
+pub mod WrittenBuffers
+pub mod CompressedBodies
 pub mod BodyLaws
