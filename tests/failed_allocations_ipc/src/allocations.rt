@@ -1,7 +1,8 @@
 //! How many allocations each scenario makes. `scripts/test` adds a test for each of them.
 
 use crate::{
-    delta_files, dictionaries_written, dictionary_streams, files_read, nested, schemas, streams,
+    compressed, delta_files, dictionaries_written, dictionary_streams, files_read, nested, schemas,
+    streams,
 };
 use failed_allocations::expect_count;
 
@@ -53,4 +54,9 @@ fn files_read_read(rt: HostRuntime) {
 #[test]
 fn delta_files_written(rt: HostRuntime) {
     expect_count(&rt, delta_files::written, 332);
+}
+
+#[test]
+fn compressed_both_ways(rt: HostRuntime) {
+    expect_count(&rt, compressed::both_ways, 30);
 }

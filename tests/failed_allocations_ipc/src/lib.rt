@@ -2,6 +2,7 @@
 #![tactic(auto)]
 
 mod allocations;
+mod compressed;
 mod delta_files;
 mod dictionaries_written;
 mod dictionary_streams;
