@@ -14,3 +14,5 @@ pub mod Marks
 pub mod Passing
 pub mod Keyed
 pub mod Dictionaries
+pub mod PlainBodies
+pub mod WrittenBuffers

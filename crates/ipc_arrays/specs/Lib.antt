@@ -32,3 +32,13 @@ pub mod NoDictionaries
 pub mod RoundTripLaws
 pub mod ReplacedValues
 pub mod WriteExamples
+-- compressed bodies
+pub mod CompressionResults
+pub mod CompressionCodecs
+pub mod CompressedBuffers
+pub mod Lz4BufferExamples
+pub mod ZstdBufferExamples
+pub mod PlainBodies
+pub mod WrittenBuffers
+pub mod CompressedBodies
+pub mod PlainBodyLaws

@@ -9,6 +9,7 @@ mod bits;
 mod boolean;
 mod bytes;
 mod columns;
+pub mod compression;
 mod cursor;
 mod dictionary;
 mod fixed_size_binary;

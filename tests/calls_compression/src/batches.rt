@@ -1,6 +1,6 @@
 //! The record batches of streams of Arrow C++, as they are stored.
 
-use ipc_compression::CompressionCodec;
+use ipc_arrays::compression::CompressionCodec;
 use ipc_flatbuf::message::{Message, MessageKind, next_message};
 use ipc_flatbuf::{BufferSpec, IpcReadError, i64_at, items_at, offset_field, read_table, u8_field};
 use std::alloc::Global;

@@ -1,7 +1,7 @@
 //! The plain bodies of record batches that Arrow C++ compressed: those of the same batch without compression, and those of the other codec.
 
 use crate::batches::{StoredBatch, first_batch};
-use ipc_compression::{CompressionCodec, CompressionError, plain_body};
+use ipc_arrays::compression::{CompressionCodec, CompressionError, plain_body};
 use ipc_flatbuf::BufferSpec;
 use std::alloc::Global;
 use std::process::Abort;

@@ -1,6 +1,6 @@
 //! Each error of a buffer, by the smallest change of one that decodes. After an error the output is unchanged.
 
-use ipc_compression::{CompressionCodec, CompressionError, decompress_buffer};
+use ipc_arrays::compression::{CompressionCodec, CompressionError, decompress_buffer};
 use std::process::Abort;
 
 /// `abc` as an LZ4 frame of an uncompressed block, as Arrow C++ writes it.

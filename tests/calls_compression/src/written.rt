@@ -1,6 +1,6 @@
 //! What is written: it decodes to its content, and it is the shorter of two forms.
 
-use ipc_compression::{CompressionCodec, compress_buffer, decompress_buffer};
+use ipc_arrays::compression::{CompressionCodec, compress_buffer, decompress_buffer};
 use lz4_frame::decode_frame;
 use std::process::Abort;
 

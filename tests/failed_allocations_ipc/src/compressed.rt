@@ -1,7 +1,7 @@
 //! Buffers that are compressed and decoded, and the plain body of a record batch of them. A failed call leaves the output unchanged.
 
 use failed_allocations::failures::{Failure, Failures, expect};
-use ipc_compression::{
+use ipc_arrays::compression::{
     CompressionCodec, CompressionError, compress_buffer, decompress_buffer, plain_body,
 };
 use ipc_flatbuf::BufferSpec;

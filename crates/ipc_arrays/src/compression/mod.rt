@@ -1,0 +1,14 @@
+//! The buffers of compressed record batches, as the Arrow IPC format has them (Message.fbs, table `BodyCompression`).
+
+mod body;
+mod buffer;
+mod codec;
+mod compress;
+mod error;
+pub mod laws;
+
+pub use body::plain_body;
+pub use buffer::decompress_buffer;
+pub use codec::CompressionCodec;
+pub use compress::compress_buffer;
+pub use error::CompressionError;
