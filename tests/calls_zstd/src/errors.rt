@@ -142,12 +142,19 @@ fn literals(rt: HostRuntime) {
     assert!(rt; is_content(alloc, &[0x18, 97, 98, 99, 0x00], b"abc"));
     assert!(rt; is_error(alloc, &[0x00], ZstdError::Truncated));
     assert!(rt; is_error(alloc, &[0x1A, 0, 0], ZstdError::Truncated));
-    // Two literals of one bit each; all weights are 0; a bit is left; one literal in four streams; no table before.
+    // Two literals of one bit each; all weights are 0; no weight is 1; a bit is left; one literal in four streams; no table before.
     assert!(rt; is_content(alloc, &[0x22, 0xC0, 0, 0x80, 0x10, 0x06, 0], &[1, 0]));
     assert!(rt;
         is_error(
             alloc,
             &[0x22, 0xC0, 0, 0x80, 0x00, 0x06, 0],
+            ZstdError::HuffmanTable
+        )
+    );
+    assert!(rt;
+        is_error(
+            alloc,
+            &[0x22, 0xC0, 0, 0x80, 0x20, 0x06, 0],
             ZstdError::HuffmanTable
         )
     );
