@@ -205,3 +205,25 @@ fn sequences(rt: HostRuntime) {
     assert!(rt; after_abc(alloc, &[1, 0xC0]).err() == Some(ZstdError::NoTable));
     assert!(rt; after_abc(alloc, &[0, 7]).err() == Some(ZstdError::Sequences));
 }
+
+#[test]
+fn four_streams(rt: HostRuntime) {
+    let alloc = rt.alloc();
+    // Six literals of one bit each, two in each of the first three streams; four, one in each stream.
+    let six = [0x66, 0x00, 0x03, 0x80, 0x10, 1, 0, 1, 0, 1, 0, 4, 4, 4, 1, 0];
+    assert!(rt; is_content(alloc, &six, &[0, 0, 0, 0, 0, 0]));
+    let four = [0x46, 0x00, 0x03, 0x80, 0x10, 1, 0, 1, 0, 1, 0, 2, 2, 2, 2, 0];
+    assert!(rt; is_error(alloc, &four, ZstdError::Literals));
+}
+
+#[test]
+fn numbers_of_sequences(rt: HostRuntime) {
+    let alloc = rt.alloc();
+    // A number of 0 in two bytes ends the section, as one in one byte does.
+    let wanted = decoded(alloc, &[0x18, 97, 98, 99, 0]);
+    assert!(rt; after_abc(alloc, &[0x80, 0]) == wanted);
+    assert!(rt; after_abc(alloc, &[0x80, 0, 0]).err() == Some(ZstdError::Sequences));
+    // One sequence, of three literals and a match of three bytes.
+    let wanted = decoded(alloc, &[0x30, 97, 98, 99, 99, 99, 99, 0]);
+    assert!(rt; after_abc(alloc, &[0x80, 1, 0x54, 3, 2, 0, 0x04]) == wanted);
+}
