@@ -1,5 +1,6 @@
 //! Compressed frames of the program `zstd` 1.5.4 and of pyarrow 25, as `tests/data/zstd/make.py` makes them, decode to their contents.
 
+use crate::samples::noise;
 use std::alloc::{AllocError, Global};
 use std::process::Abort;
 use zstd_decode::{ZstdError, decode_frames, xxh64};
@@ -86,6 +87,32 @@ fn letters_and_rows(rt: HostRuntime) {
     expect_content(&rt, include_bytes!("zstd/mixture_3.zst"), &wanted);
     expect_content(&rt, include_bytes!("zstd/mixture_19.zst"), &wanted);
     expect_content(&rt, include_bytes!("zstd/mixture_fast.zst"), &wanted);
+}
+
+#[test]
+fn offsets_as_large_as_the_window(rt: HostRuntime) {
+    let part = noise(rt.alloc(), 1024).expect(&rt, "a content");
+    let mut wanted = Vec::new(rt.alloc());
+    for _ in 0..8 {
+        wanted.extend_from_slice(&part).expect(&rt, "a content");
+    }
+    expect_content(&rt, include_bytes!("zstd/window.zst"), &wanted);
+}
+
+/// Frames that the description of the format names, since libraries before 1.3.5 and programs before 1.4.4 refused them.
+#[test]
+fn frames_that_zstd_refused(rt: HostRuntime) {
+    let tiny = [
+        0x28, 0xB5, 0x2F, 0xFD, 0x20, 0x27, 0xC5, 0x00, 0x00, 0x80, 0xF3, 0xF1, 0xF0, 0xEC, 0xEB,
+        0xC6, 0xC5, 0xC7, 0xF0, 0x9D, 0x43, 0x00, 0x00, 0x00, 0xE0, 0xE0, 0x06, 0x58, 0x01, 0x00,
+        0x60, 0x3E, 0x52,
+    ];
+    expect_checksum(&rt, &tiny, 39, 0xDE02_5017);
+    let zeros = [
+        0x28, 0xB5, 0x2F, 0xFD, 0xA0, 0x01, 0x00, 0x02, 0x00, 0x02, 0x00, 0x10, 0x00, 0x0B, 0x00,
+        0x00, 0x00,
+    ];
+    expect_checksum(&rt, &zeros, 131_073, 0xE3B3_3BB6);
 }
 
 #[test]

@@ -227,3 +227,20 @@ fn numbers_of_sequences(rt: HostRuntime) {
     let wanted = decoded(alloc, &[0x30, 97, 98, 99, 99, 99, 99, 0]);
     assert!(rt; after_abc(alloc, &[0x80, 1, 0x54, 3, 2, 0, 0x04]) == wanted);
 }
+
+/// What 1024 times `a`, `b`, and a match of three bytes at an offset of 1021 plus `more` decode to, with a window of 1024 bytes.
+fn past_window(alloc: Global, more: u8) -> Result<Vec<u8>, ZstdError> {
+    let mut rest = Vec::new(alloc);
+    rest.extend_from_slice(&[0x02, 0x20, 0, 97, 0x0A, 0, 0, 98])?;
+    rest.extend_from_slice(&[0x45, 0, 0, 0x00, 1, 0x54, 0, 10, 0, more, 0x04])?;
+    decode_frames(alloc, &frame(alloc, &[0, 0], &rest)?, 1028)
+}
+
+#[test]
+fn offsets_of_a_window(rt: HostRuntime) {
+    let alloc = rt.alloc();
+    let found = past_window(alloc, 3).expect(&rt, "a frame");
+    assert!(rt; found.len() == 1028 && found.ends_with(b"baaa"));
+    assert!(rt; past_window(alloc, 4).err() == Some(ZstdError::Offset));
+    assert!(rt; past_window(alloc, 5).err() == Some(ZstdError::Offset));
+}

@@ -62,6 +62,7 @@ def frames():
     write("two.zst", by_zstd(noise(10)) + by_zstd(noise(20)))
     write("skippable.zst", bytes.fromhex("5f2a4d1803000000") + b"abc" + by_zstd(noise(10)))
     write("zeros.zst", by_zstd(bytes(1000)))
+    write("window.zst", by_zstd(noise(1024) * 8, "-5", "--zstd=wlog=10"))
     for name, level in (("1", "-1"), ("3", "-3"), ("19", "-19"), ("fast", "--fast=1")):
         write(f"letters_{name}.zst", b"".join(by_zstd(letters(it), level, "--no-check") for it in range(301)))
         write(f"rows_{name}.zst", by_zstd(rows(4_000_000), level))
