@@ -34,7 +34,7 @@ printf '%-24s %6.2f s for %.1f MB\n' 'plain program, writing' "$(cat "$work/seco
 timed 'nest from-json' "$(size "$work/text")" "$program" from-json "$type" "$work/text" "$work/file"
 timed 'nest rows' "$(size "$work/text")" "$program" rows "$work/file"
 cmp "$work/text" "$work/out"
-timed 'nest rows, ten of them' "$(size "$work/file")" "$program" rows "$work/file" 0 10
+timed 'nest rows, ten of them' "$(size "$work/file")" "$program" head "$work/file"
 files=$(for ((i = 0; i < copies; i++)); do echo "$work/file"; done)
 timed 'nest concat' "$(($(size "$work/file") * copies))" "$program" concat $files -o "$work/one"
 cp "$work/one" "$work/other"

@@ -10,8 +10,7 @@ The line before a quote is a comment that names its source:
     <!-- crates/x/src/y.rt -->         of a Rust block: the whole file; of any other: consecutive lines of it
 
 A Rust block without such a line is an error. A console block needs none: each of its commands has to call a program of PROGRAMS, whose
-script runs it by --run, and to write exactly what the block shows. Usage is quoted as an indented block: each of its lines that begins
-with `nest` must be in the `--help` text. Run it at the top of the repository."""
+script runs it by --run, and to write exactly what the block shows. Run it at the top of the repository."""
 import difflib
 import os
 import re
@@ -76,12 +75,6 @@ def console_errors(text):
     return [f"no script runs this: {command}" for command, _ in COMMAND.findall(text) if not called(command)]
 
 
-def usage_errors(page, usage):
-    """Returns an error message for each line of an indented block that begins with `nest` and is not in the usage."""
-    lines = re.findall(r"^    (nest .*)$", read(page), re.M)
-    return [f"{page}: not in --help: {line}" for line in lines if line not in usage.split("\n")]
-
-
 def difference(page, block):
     """Returns the lines of a diff or of an error message, and the text that the block must have."""
     note, language, text = NOTE.match(block["before"]), block["language"], block["text"]
@@ -112,9 +105,6 @@ def check(page, write):
         return f"{block['before']}\n```{block['language']}\n{wanted if replaced else block['text']}```"
 
     text = BLOCK.sub(replacement, source)
-    for line in usage_errors(page, read("crates/nest/src/main.rt")):
-        count += 1
-        print(line)
     if text != source:
         with open(page, "w", encoding="utf-8") as file:
             file.write(text)
@@ -139,8 +129,6 @@ def run_commands(program, folder):
             if wrote != output:
                 lines = difflib.unified_diff(output.split("\n"), wrote.split("\n"), page, program, lineterm="")
                 wrong.append("\n".join([f"{page}: {command}", *lines]))
-        if name == "nest":
-            wrong += usage_errors(page, written(program, f"{name} --help", folder))
     if not count:
         wrong.append(f"no page has a command that calls {name}")
     if wrong:

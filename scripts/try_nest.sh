@@ -46,15 +46,19 @@ all='{"a":1,"b":"a"}\n{"a":null,"b":"b"}\n{"a":3,"b":null}\n'
 for file in "$room/stream" "$room/file" -; do
     expect 0 'a: int32\nb: string\n' '' schema "$file"
     expect 0 "$all" '' rows "$file"
-    expect 0 '{"a":null,"b":"b"}\n{"a":3,"b":null}\n' '' rows "$file" 1 5
-    expect 0 '{"a":null,"b":"b"}\n' '' rows "$file" 1 1
-    expect 0 '' '' rows "$file" 3 1
-    expect 0 '{"a":null,"b":"b"}\n{"a":3,"b":null}\n' '' cut "$file" 1 5
-    expect 1 '' "nest: $file: the column is not boolean" where "$file" b
-    expect 1 '' "nest: $file: there is no column of that name" where "$file" c
+    expect 0 '{"a":null,"b":"b"}\n{"a":3,"b":null}\n' '' rows "$file" --start 1 --count 5
+    expect 0 '{"a":null,"b":"b"}\n' '' rows "$file" --start 1 --count 1
+    expect 0 '' '' rows "$file" --start 3 --count 1
+    expect 0 '{"a":null,"b":"b"}\n{"a":3,"b":null}\n' '' rows "$file" --start 1
+    expect 0 '{"a":1,"b":"a"}\n' '' rows --count=1 "$file"
+    expect 0 "$all" '' head "$file"
+    expect 0 '{"a":1,"b":"a"}\n{"a":null,"b":"b"}\n' '' head "$file" 2
+    expect 0 '{"a":null,"b":"b"}\n{"a":3,"b":null}\n' '' slice "$file" 1 5
+    expect 0 '{"a":null,"b":"b"}\n{"a":3,"b":null}\n' '' cut -- "$file" 1 5
+    expect 2 '' "nest: $file: the column is not boolean" where "$file" b
+    expect 2 '' "nest: $file: there is no column of that name" where "$file" c
     expect 0 '{"a":3,"b":null}\n{"a":1,"b":"a"}\n{"a":3,"b":null}\n' '' take "$file" 2 0 2
-    expect 0 '' '' take "$file"
-    expect 1 '' "nest: $file: a row index is out of range" take "$file" 0 3
+    expect 2 '' "nest: $file: a row index is out of range" take "$file" 0 3
     expect 0 '' '' convert "$file" "$room/as.arrows"
     expect 0 "$all" '' rows "$room/as.arrows"
     expect 0 '' '' convert "$room/as.arrows" "$room/as"
@@ -67,35 +71,40 @@ done
 expect 0 '' '' convert "$room/as" "$room/as"
 expect 0 "$all" '' rows "$room/as"
 expect 0 '{"a":true,"b":false}\n{"a":true,"b":true}\n{"a":true,"b":false}\n{"a":true,"b":true}\n{"a":true,"b":true}\n' '' where "$room/truths" a
-expect 1 '' "nest: $room/packed: record batch 0: $compressed; write it without compression" convert "$room/packed" "$room/as"
+expect 2 '' "nest: $room/packed: record batch 0: $compressed; write it without compression" convert "$room/packed" "$room/as"
 expect 0 "$all" '' rows "$room/as"
-expect 1 '' "nest: $room/none/as: output cannot be written" convert "$room/file" "$room/none/as"
-expect 1 '' "nest: $room/packed: record batch 0: $compressed; write it without compression" rows "$room/packed"
-expect 0 '' '' rows "$room/packed" 0 0
-expect 1 '' "nest: $room/csv: $text" rows "$room/csv"
-expect 1 '' "nest: $room/cut: $magic" schema "$room/cut"
+expect 2 '' "nest: $room/none/as: output cannot be written: no such directory" convert "$room/file" "$room/none/as"
+expect 2 '' "nest: $room/packed: record batch 0: $compressed; write it without compression" rows "$room/packed"
+expect 0 '' '' rows "$room/packed" --start 0 --count 0
+expect 2 '' "nest: $room/csv: $text" rows "$room/csv"
+expect 2 '' "nest: $room/cut: $magic" schema "$room/cut"
 # Files of other formats: by their first bytes.
 : >"$room/empty"
 printf 'PAR1\25\4\25\20' >"$room/parquet"
 printf 'FEA1\0\0\0\0' >"$room/feather"
 printf '\37\213\10\10' >"$room/gzip"
-expect 1 '' "nest: $room/empty: not an Arrow IPC file or stream: the file is empty" schema "$room/empty"
-expect 1 '' "nest: $room/parquet: not an Arrow IPC file or stream: it looks like Parquet" schema "$room/parquet"
-expect 1 '' "nest: $room/feather: not an Arrow IPC file or stream: it looks like Feather version 1" rows "$room/feather"
-expect 1 '' "nest: $room/gzip: not an Arrow IPC file or stream" rows "$room/gzip"
-expect 1 '' "nest: $room/bare: record batch 0: the record batch has no columns of the schema" rows "$room/bare"
+expect 2 '' "nest: $room/empty: not an Arrow IPC file or stream: the file is empty" schema "$room/empty"
+expect 2 '' "nest: $room/parquet: not an Arrow IPC file or stream: it looks like Parquet" schema "$room/parquet"
+expect 2 '' "nest: $room/feather: not an Arrow IPC file or stream: it looks like Feather version 1" rows "$room/feather"
+expect 2 '' "nest: $room/gzip: not an Arrow IPC file or stream" rows "$room/gzip"
+expect 2 '' "nest: $room/bare: record batch 0: the record batch has no columns of the schema" rows "$room/bare"
 expect 0 '' '' schema "$room/bare"
-expect 1 '' "nest: $room/none: no such file" rows "$room/none"
+expect 2 '' "nest: $room/none: no such file" rows "$room/none"
+expect 2 '' "nest: $room: is a directory" rows "$room"
+expect 2 '' "nest: $room: is a directory" equal "$room/file" "$room"
+expect 2 '' "nest: $room: is a directory" from-json 'struct<a: int32>' "$room" "$room/as"
+expect 2 '' "nest: $room: output cannot be written: is a directory" convert "$room/file" "$room"
+expect 2 '' "nest: $room/file/as: output cannot be written" convert "$room/file" "$room/file/as"
 # The second record batch is truncated, or the metadata length of the third is negative: earlier rows are printed. Inputs that cannot seek.
 two='{"a":1,"b":"a"}\n{"a":null,"b":"b"}\n'
 head -c 500 "$room/stream" >"$room/early"
 { head -c 632 "$room/stream"; printf '\0'; tail -c +634 "$room/stream"; } >"$room/negative"
-expect 0 "$two" '' rows "$room/early" 0 2
+expect 0 "$two" '' rows "$room/early" --start 0 --count 2
 expect 0 '' '' cut "$room/early" 0 0
-expect 1 "$two" "nest: $room/negative: record batch 2: $negative" rows "$room/negative"
-expect 0 "$two" '' rows "$room/negative" 0 2
+expect 2 "$two" "nest: $room/negative: record batch 2: $negative" rows "$room/negative"
+expect 0 "$two" '' rows "$room/negative" --start 0 --count 2
 expect 0 '{"a":1,"b":"a"}\n' '' take "$room/negative" 0
-expect 1 '' "nest: $room/negative: record batch 2: $negative" take "$room/negative" 0 2
+expect 2 '' "nest: $room/negative: record batch 2: $negative" take "$room/negative" 0 2
 [ "$("$program" rows - <"$room/file")" = "$("$program" rows "$room/file")" ] || { echo 'nest rows: a file as standard input'; failed=1; }
 for input in stream file; do
     [ "$(cat "$room/$input" | "$program" cut /dev/stdin 1 1)" = '{"a":null,"b":"b"}' ] || { echo 'nest cut: a pipe'; failed=1; }
@@ -117,22 +126,22 @@ expect 1 'row 2\n' '' equal "$room/file" "$room/shorter"
 expect 1 'row 2\n' '' equal "$room/shorter" "$room/parts"
 expect 1 'row 2\n' '' equal "$room/parts" "$room/unlike"
 # An error is reported with its record batch if no row before it differs, else the difference is printed.
-expect 1 '' "nest: $room/packed: record batch 0: $compressed; write it without compression" equal "$room/packed" "$room/file"
-expect 1 '' "nest: $room/packed: record batch 0: $compressed; write it without compression" equal "$room/file" "$room/packed"
-expect 1 '' "nest: $room/csv: $text" equal "$room/packed" "$room/csv"
-expect 1 '' "nest: $room/negative: record batch 2: $negative" equal "$room/file" "$room/negative"
+expect 2 '' "nest: $room/packed: record batch 0: $compressed; write it without compression" equal "$room/packed" "$room/file"
+expect 2 '' "nest: $room/packed: record batch 0: $compressed; write it without compression" equal "$room/file" "$room/packed"
+expect 2 '' "nest: $room/csv: $text" equal "$room/packed" "$room/csv"
+expect 2 '' "nest: $room/negative: record batch 2: $negative" equal "$room/file" "$room/negative"
 [ "$(cat "$room/stream" | "$program" equal /dev/stdin "$room/unlike")" = 'row 2' ] || { echo 'nest equal: a pipe'; failed=1; }
-expect 1 '' "nest: $room/csv: $text" equal "$room/file" "$room/csv"
-expect 1 '' "nest: $room/none: no such file" equal "$room/file" "$room/none"
+expect 2 '' "nest: $room/csv: $text" equal "$room/file" "$room/csv"
+expect 2 '' "nest: $room/none: no such file" equal "$room/file" "$room/none"
 # Projected columns, in the order of the schema, of streams and files, with the option anywhere; an unknown name.
 for file in "$room/stream" "$room/file" -; do
     expect 0 'b: string\n' '' schema "$file" --columns b
-    expect 0 'a: int32\nb: string\n' '' --columns b,a,c schema "$file"
+    expect 0 'a: int32\nb: string\n' '' schema --columns b,a,c "$file"
     expect 0 '{"b":"a"}\n{"b":"b"}\n{"b":null}\n' '' rows --columns b "$file"
     expect 0 '{"a":3}\n' '' take "$file" --columns a 2
     expect 0 '' '' schema "$file" --columns c
-    expect 1 '' "nest: $file: record batch 0: the record batch has no columns of the schema" rows "$file" --columns c
-    expect 1 '' "nest: $file: there is no column of that name" where "$file" a --columns b
+    expect 2 '' "nest: $file: record batch 0: the record batch has no columns of the schema" rows "$file" --columns c
+    expect 2 '' "nest: $file: there is no column of that name" where "$file" a --columns b
     expect 0 '' '' convert "$file" "$room/b" --columns b
     expect 0 '{"b":"a"}\n{"b":"b"}\n{"b":null}\n' '' rows "$room/b"
 done
@@ -150,18 +159,18 @@ expect 0 '' '' equal "$room/one" "$room/shorter"
 expect 0 '' '' concat "$room/parts" "$room/unlike" --columns b -o "$room/b"
 expect 0 'b: string\n' '' schema "$room/b"
 expect 0 '' '' concat "$room/one" "$room/one" -o "$room/one"
-expect 1 '' "nest: $room/truths: the schema differs from that of $room/file" concat "$room/file" "$room/parts" "$room/truths" -o "$room/none"
-expect 1 '' "nest: $room/packed: record batch 0: $compressed; write it without compression" concat "$room/file" "$room/packed" -o "$room/none"
-expect 1 '' "nest: $room/negative: record batch 2: $negative" concat "$room/file" "$room/negative" -o "$room/none"
-expect 1 '' "nest: $room/csv: $text" concat "$room/csv" "$room/file" -o "$room/none"
-expect 1 '' "nest: $room/absent: no such file" concat "$room/file" "$room/absent" -o "$room/none"
+expect 2 '' "nest: $room/truths: the schema differs from that of $room/file" concat "$room/file" "$room/parts" "$room/truths" -o "$room/none"
+expect 2 '' "nest: $room/packed: record batch 0: $compressed; write it without compression" concat "$room/file" "$room/packed" -o "$room/none"
+expect 2 '' "nest: $room/negative: record batch 2: $negative" concat "$room/file" "$room/negative" -o "$room/none"
+expect 2 '' "nest: $room/csv: $text" concat "$room/csv" "$room/file" -o "$room/none"
+expect 2 '' "nest: $room/absent: no such file" concat "$room/file" "$room/absent" -o "$room/none"
 [ ! -e "$room/none" ] || { echo 'nest concat: an output after an error'; failed=1; }
 # To standard output, to a full one, and to an existing file, which is unchanged after an error.
 [ "$("$program" concat "$room/file" "$room/parts" -o - | "$program" rows -)" = "$(printf "$all$all")" ] || { echo 'nest concat: a pipe'; failed=1; }
 said=$("$program" concat "$room/file" "$room/parts" -o - 2>&1 >/dev/full)
-[ "$? $said" = '1 nest: -: output cannot be written' ] || { echo "nest concat to a full device: $said"; failed=1; }
+[ "$? $said" = '2 nest: -: output cannot be written' ] || { echo "nest concat to a full device: $said"; failed=1; }
 expect 0 '' '' concat "$room/file" -o "$room/kept"
-expect 1 '' "nest: $room/packed: record batch 0: $compressed; write it without compression" concat "$room/parts" "$room/packed" -o "$room/kept"
+expect 2 '' "nest: $room/packed: record batch 0: $compressed; write it without compression" concat "$room/parts" "$room/packed" -o "$room/kept"
 expect 0 "$all" '' rows "$room/kept"
 expect 0 '' '' concat "$room/parts" "$room/file" "$room/parts" -o "$room/kept"
 expect 0 "$all$all$all" '' rows "$room/kept"
@@ -183,17 +192,17 @@ selected() {
 }
 for file in "$room/stream" "$room/file" -; do
     for words in '0 0' '0 1' '1 1' '1 2' '0 3' '1 9' '2 1' '3 1' '9 18446744073709551615'; do
-        selected cut "$file" $words
+        selected slice "$file" $words
     done
-    for words in '' '0' '2 0 2' '1 1 1' '0 1 2'; do
+    for words in '0' '2 0 2' '1 1 1' '0 1 2'; do
         selected take "$file" $words
     done
     selected cut "$file" 1 2 --columns b
     selected take --columns a "$file" 2
-    expect 1 '' "nest: $file: a row index is out of range" take "$file" 0 3 -o "$room/none"
-    expect 1 '' "nest: $file: the column is not boolean" where "$file" b -o "$room/none"
-    expect 1 '' "nest: $file: there is no column of that name" where "$file" c -o "$room/none"
-    expect 1 '' "nest: $file: there is no column of that name" where "$file" a --columns b -o "$room/none"
+    expect 2 '' "nest: $file: a row index is out of range" take "$file" 0 3 -o "$room/none"
+    expect 2 '' "nest: $file: the column is not boolean" where "$file" b -o "$room/none"
+    expect 2 '' "nest: $file: there is no column of that name" where "$file" c -o "$room/none"
+    expect 2 '' "nest: $file: there is no column of that name" where "$file" a --columns b -o "$room/none"
 done
 selected where "$room/truths" a
 selected where "$room/truths" b
@@ -207,18 +216,18 @@ expect 0 '' '' cut "$room/bare" 1 9 -o "$room/two"
 expect 0 '' '' take "$room/bare" 0 2 -o "$room/other"
 expect 0 '' '' equal "$room/two" "$room/other"
 expect 1 'row 2\n' '' equal "$room/two" "$room/bare"
-expect 1 '' "nest: $room/bare: a row index is out of range" take "$room/bare" 3 -o "$room/none"
-expect 1 '' "nest: $room/bare: there is no column of that name" where "$room/bare" a -o "$room/none"
-expect 1 '' "nest: $room/packed: record batch 0: $compressed; write it without compression" cut "$room/packed" 0 1 -o "$room/none"
-expect 1 '' "nest: $room/csv: $text" take "$room/csv" 0 -o "$room/none"
-expect 1 '' "nest: $room/absent: no such file" where "$room/absent" a -o "$room/none"
-expect 1 '' "nest: $room/no/out: output cannot be written" cut "$room/file" 0 1 -o "$room/no/out"
+expect 2 '' "nest: $room/bare: a row index is out of range" take "$room/bare" 3 -o "$room/none"
+expect 2 '' "nest: $room/bare: there is no column of that name" where "$room/bare" a -o "$room/none"
+expect 2 '' "nest: $room/packed: record batch 0: $compressed; write it without compression" cut "$room/packed" 0 1 -o "$room/none"
+expect 2 '' "nest: $room/csv: $text" take "$room/csv" 0 -o "$room/none"
+expect 2 '' "nest: $room/absent: no such file" where "$room/absent" a -o "$room/none"
+expect 2 '' "nest: $room/no/out: output cannot be written: no such directory" cut "$room/file" 0 1 -o "$room/no/out"
 [ ! -e "$room/none" ] || { echo 'nest: an output after an error'; failed=1; }
 # New files: an error leaves none; a slice before an invalid record batch is written. An existing output is unchanged after an error, may be the
 # input, and may be a device.
 : >"$room/none.json"
 expect 0 '' '' convert "$room/file" /dev/null
-expect 1 '' 'nest: /dev/full: output cannot be written' convert "$room/file" /dev/full
+expect 2 '' 'nest: /dev/full: output cannot be written' convert "$room/file" /dev/full
 [ -c /dev/null ] && [ -c /dev/full ] || { echo 'nest convert: a device is gone'; failed=1; }
 for out in "$room/new.arrows" "$room/new"; do
     for file in "$room/stream" "$room/file" "$room/truths" "$room/bare" -; do
@@ -237,15 +246,15 @@ for out in "$room/new.arrows" "$room/new"; do
         cmp -s "$out" "$room/first" || { echo "nest cut $words -o $out: other bytes"; failed=1; }
     done
     rm -f "$out"
-    expect 1 '' "nest: $room/negative: record batch 2: $negative" convert "$room/negative" "$out"
-    expect 1 '' "nest: $room/negative: record batch 2: $negative" cut "$room/negative" 1 2 -o "$out"
-    expect 1 '' "nest: $room/csv: $text" convert "$room/csv" "$out"
-    expect 1 '' "nest: $room/absent: no such file" convert "$room/absent" "$out"
-    expect 1 '' "nest: $room/truths: there is no column of that name" where "$room/truths" c -o "$out"
+    expect 2 '' "nest: $room/negative: record batch 2: $negative" convert "$room/negative" "$out"
+    expect 2 '' "nest: $room/negative: record batch 2: $negative" cut "$room/negative" 1 2 -o "$out"
+    expect 2 '' "nest: $room/csv: $text" convert "$room/csv" "$out"
+    expect 2 '' "nest: $room/absent: no such file" convert "$room/absent" "$out"
+    expect 2 '' "nest: $room/truths: there is no column of that name" where "$room/truths" c -o "$out"
     [ ! -e "$out" ] || { echo 'nest: a new output after an error'; failed=1; }
     expect 0 '' '' cut "$room/negative" 1 1 -o "$out"
     expect 0 '{"a":null,"b":"b"}\n' '' rows "$out"
-    expect 1 '' "nest: $room/negative: record batch 2: $negative" convert "$room/negative" "$out"
+    expect 2 '' "nest: $room/negative: record batch 2: $negative" convert "$room/negative" "$out"
     expect 0 '{"a":null,"b":"b"}\n' '' rows "$out"
     rm -f "$out"
     expect 0 '' '' convert "$room/file" "$out"
@@ -258,7 +267,7 @@ for out in "$room/new.arrows" "$room/new"; do
     expect 0 "$all" '' rows "$out"
     [ "$(stat -c %a "$out")" = 604 ] && [ -L "$room/link.arrows" ] || { echo "nest convert: another file than $out"; failed=1; }
     echo mine >"$out.part"
-    expect 1 '' "nest: $out: output cannot be written" cut "$room/file" 0 1 -o "$out"
+    expect 2 '' "nest: $out: output cannot be written: OUT.part exists" cut "$room/file" 0 1 -o "$out"
     expect 0 "$all" '' rows "$out"
     [ "$(cat "$out.part")" = mine ] || { echo 'nest cut: another file was written'; failed=1; }
     rm "$out.part"
@@ -272,7 +281,7 @@ cp "$(command -v sleep)" "$room/busy"
 busy=$!
 for _ in {1..500}; do [ "/proc/$busy/exe" -ef "$room/busy" ] && break || sleep 0.01; done
 beside() {
-    expect 1 '' "nest: $room/busy: output cannot be replaced; it is complete in $room/busy.part" "$@"
+    expect 2 '' "nest: $room/busy: output cannot be replaced; it is complete in $room/busy.part" "$@"
     expect 0 "$all" '' rows "$room/busy.part"
     cmp -s "$room/busy" "$(command -v sleep)" || { echo "nest $*: a program was written over"; failed=1; }
     rm -f "$room/busy.part"
@@ -285,38 +294,83 @@ beside concat "$room/file" -o "$room/busy"
 beside from-json 'struct<a: int32, b: string>' "$room/rows.json" "$room/busy"
 kill $busy
 [ "$("$program" convert "$room/stream" - | "$program" rows -)" = "$("$program" rows "$room/stream")" ] || { echo 'nest convert: standard output'; failed=1; }
-options='nest: --columns and -o take one value each; try --help'
-expect 2 '' "$options" cut "$room/file" 0 1 -o
-expect 2 '' "$options" take "$room/file" 0 -o "$room/none" -o "$room/none"
-expect 2 '' "$options" where "$room/truths" a -o "$room/none" -o
-expect 2 '' "$options" rows "$room/file" --columns
-expect 2 '' "$options" rows "$room/file" --columns a --columns b
-invalid='nest: invalid arguments; try --help'
-expect 2 '' "$invalid" cut "$room/file" 1 -o "$room/none"
-expect 2 '' "$invalid" take "$room/file" 01 -o "$room/none"
-expect 2 '' "$invalid" where "$room/truths" a b -o "$room/none"
-expect 2 '' "$invalid" cut -o "$room/none"
-expect 2 '' "$invalid" convert "$room/file" "$room/as" -o "$room/none"
-expect 2 '' "$invalid" concat "$room/file"
-expect 2 '' "$invalid" concat -o "$room/none"
-expect 2 '' "$invalid" rows "$room/file" -o "$room/none"
-expect 2 '' "$invalid" --columns a rows
-expect 2 '' "$invalid"
-expect 2 '' "$invalid" rows
-expect 2 '' "$invalid" show "$room/file"
-expect 2 '' "$invalid" convert "$room/file"
-expect 2 '' "$invalid" convert "$room/file" - -
-expect 2 '' "$invalid" equal "$room/file"
-expect 2 '' "$invalid" equal "$room/file" "$room/file" "$room/file"
-expect 2 '' "$invalid" schema "$room/file" 0
-expect 2 '' "$invalid" rows "$room/file" 1
-expect 2 '' "$invalid" rows "$room/file" 1 x
-expect 2 '' "$invalid" cut "$room/file"
-expect 2 '' "$invalid" cut "$room/file" 1
-expect 2 '' "$invalid" where "$room/file"
-expect 2 '' "$invalid" where "$room/truths" a b
-expect 2 '' "$invalid" take "$room/file" 01
-expect 2 '' "$invalid" take "$room/file" 18446744073709551616
+# Arguments that are refused: the message names the argument, and a near name where there is one.
+# refuses MESSAGE ARGUMENT ..
+refuses() {
+    local message=$1
+    shift
+    local said got
+    said=$("$program" "$@" 2>&1 >"$room/wrote" <"$room/stream")
+    got=$?
+    if [ "$got" != 2 ] || [ -s "$room/wrote" ] || ! grep -qF -- "$message" <<<"$said"; then
+        echo "nest $*: status $got, said '$said', wrote '$(cat "$room/wrote")'"
+        failed=1
+    fi
+}
+value="a value is required for '"
+required='the following required arguments were not provided:'
+refuses "$value--output <OUT>'" cut "$room/file" 0 1 -o
+refuses "'--output <OUT>' cannot be used multiple times" take "$room/file" 0 -o "$room/none" -o "$room/none"
+refuses "$value--columns <NAMES>'" rows "$room/file" --columns
+refuses "'--columns <NAMES>' cannot be used multiple times" rows "$room/file" --columns a --columns b
+refuses "$required" cut "$room/file" 1 -o "$room/none"
+refuses '<COUNT>' cut "$room/file" 1
+refuses '<START>' slice "$room/file"
+refuses "$required" concat "$room/file"
+refuses '<FILE>' concat -o "$room/none"
+refuses '<FILE>' rows
+refuses '<OUT>' convert "$room/file"
+refuses '<OTHER>' equal "$room/file"
+refuses '<COLUMN>' where "$room/file"
+refuses '<INDEX>' take "$room/file"
+refuses '<OUT>' from-json 'struct<a: int32>' "$room/lines"
+refuses "unexpected argument 'b'" where "$room/truths" a b -o "$room/none"
+refuses "unexpected argument '-o'" convert "$room/file" "$room/as" -o "$room/none"
+refuses "unexpected argument '-o'" rows "$room/file" -o "$room/none"
+refuses "unexpected argument '--columns'" --columns a rows "$room/file"
+refuses "a similar argument exists: '--columns'" rows "$room/file" --column a
+refuses "unexpected argument '1'" rows "$room/file" 1
+refuses "unexpected argument '0'" schema "$room/file" 0
+refuses "unexpected argument '-'" convert "$room/file" - -
+refuses "unrecognized subcommand 'show'" show "$room/file"
+refuses "a similar subcommand exists: 'schema'" schem "$room/file"
+refuses "invalid value 'x' for '--start <START>'" rows "$room/file" --start x
+refuses "invalid value '18446744073709551616' for '<INDEX>" take "$room/file" 18446744073709551616
+refuses 'Usage: nest <COMMAND>'
+[ ! -e "$room/none" ] || { echo 'nest: an output after invalid arguments'; failed=1; }
+expect 2 '' 'nest: an argument is not UTF-8' rows $'\377'
+
+# Help and the version, on standard output; a reader that ends is no error.
+# shows TEXT ARGUMENT ..
+shows() {
+    local text=$1
+    shift
+    "$program" "$@" >"$room/wrote" 2>"$room/said" && [ ! -s "$room/said" ] && grep -qF -- "$text" "$room/wrote" ||
+        { echo "nest $*: wrote '$(cat "$room/wrote")', said '$(cat "$room/said")'"; failed=1; }
+}
+shows 'Usage: nest <COMMAND>' --help
+shows 'Usage: nest <COMMAND>' help
+for command in schema rows head slice take where equal concat convert from-json; do
+    shows "Usage: nest $command" help "$command"
+    shows "Example: nest $command" "$command" --help
+done
+shows '[alias: cut]' --help
+version=$(sed -n 's/^## \([0-9.]*\).*/\1/p' CHANGELOG.md | head -1)
+expect 0 "nest $version\n" '' --version
+yes '{"a":1,"b":"a"}' | head -n 200000 >"$room/many"
+"$program" from-json 'struct<a: int32, b: string>' "$room/many" "$room/large"
+# quiet ARGUMENT ..
+quiet() {
+    local said
+    said=$({ "$program" "$@" 2>&3 | head -c 20 >/dev/null; echo "${PIPESTATUS[0]}" >"$room/status"; } 3>&1)
+    [ "$(cat "$room/status") $said" = '0 ' ] || { echo "nest $* | head: status $(cat "$room/status"), said '$said'"; failed=1; }
+}
+quiet rows "$room/large"
+quiet convert "$room/large" -
+quiet slice "$room/large" 1 1000000 -o -
+quiet concat "$room/large" "$room/large" -o -
+quiet from-json 'struct<a: int32, b: string>' "$room/many" -
+quiet take "$room/large" $(seq 20000)
 
 # Lines of JSON: fields in any order and missing ones, in either format, from standard input; the first invalid line, and invalid types.
 rows='struct<a: int32, b: string, c: list<item: int8>>'
@@ -329,25 +383,22 @@ for out in "$room/made" "$room/made.arrows"; do
 done
 "$program" rows "$room/made" | "$program" from-json "$rows" - - | cmp -s - "$room/made" || { echo 'nest from-json: its own lines'; failed=1; }
 printf '{"a":1}\n{"a":2147483648}\n' >"$room/past"
-expect 1 '' "nest: $room/past: line 2: integer out of range" from-json "$rows" "$room/past" "$room/as"
+expect 2 '' "nest: $room/past: line 2: integer out of range" from-json "$rows" "$room/past" "$room/as"
 printf '{"a":1}\n\n' >"$room/past"
-expect 1 '' "nest: $room/past: line 2: invalid JSON" from-json "$rows" "$room/past" "$room/as"
+expect 2 '' "nest: $room/past: line 2: invalid JSON" from-json "$rows" "$room/past" "$room/as"
 printf '{"d":1}' >"$room/past"
-expect 1 '' "nest: $room/past: line 1: unknown field" from-json "$rows" "$room/past" "$room/as"
-expect 1 '' "nest: struct<a: double>: cannot be read from JSON: floating-point type" from-json 'struct<a: double>' "$room/lines" "$room/as"
-expect 1 '' "nest: $room/none: no such file" from-json "$rows" "$room/none" "$room/as"
-expect 1 '' "nest: $room/none/as: output cannot be written" from-json "$rows" "$room/lines" "$room/none/as"
+expect 2 '' "nest: $room/past: line 1: unknown field" from-json "$rows" "$room/past" "$room/as"
+expect 2 '' "nest: struct<a: double>: cannot be read from JSON: floating-point type" from-json 'struct<a: double>' "$room/lines" "$room/as"
+expect 2 '' "nest: $room/none: no such file" from-json "$rows" "$room/none" "$room/as"
+expect 2 '' "nest: $room/none/as: output cannot be written: no such directory" from-json "$rows" "$room/lines" "$room/none/as"
 expect 2 '' 'nest: int8: the type of a row is a struct' from-json int8 "$room/lines" "$room/as"
 expect 2 '' "nest: struct: invalid data type at byte 0" from-json struct "$room/lines" "$room/as"
-expect 2 '' "$invalid" from-json "$rows" "$room/lines"
 
-said=$("$program" --help | head -1)
-[ "${said%% FILE*}" = 'Usage: nest COMMAND' ] || { echo "nest --help: $said"; failed=1; }
 [ "$("$program" convert "$room/stream" - | "$program" rows -)" = "$("$program" rows "$room/stream")" ] || { echo 'nest convert | nest rows'; failed=1; }
 said=$("$program" rows - 2>&1 <&-)
-[ "$? $said" = '1 nest: -: input cannot be read' ] || { echo "nest with no input: $said"; failed=1; }
+[ "$? $said" = '2 nest: -: input cannot be read' ] || { echo "nest with no input: $said"; failed=1; }
 said=$("$program" rows "$room/file" 2>&1 >/dev/full)
-[ "$? $said" = "1 nest: $room/file: record batch 0: output cannot be written" ] || { echo "nest to a full device: $said"; failed=1; }
+[ "$? $said" = "2 nest: $room/file: record batch 0: output cannot be written" ] || { echo "nest to a full device: $said"; failed=1; }
 
 # The commands that the pages show, in a folder with the files that they name.
 pages=$room/pages

@@ -1,3 +1,2 @@
-mod Named
-mod Places
-mod ReadDigits
+mod AddedNames
+mod Integers

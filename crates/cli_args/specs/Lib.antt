@@ -1,9 +1,8 @@
-pub mod Numbers
 pub mod Requests
-pub mod Formats
-pub mod Arguments
 pub mod RequestTrees
-pub mod ArgumentTrees
-pub mod Imports
-pub mod ImportTrees
+pub mod Formats
+pub mod ColumnNames
+pub mod CommandLine
+pub mod Commands
+pub mod CommandTrees
 pub mod Examples

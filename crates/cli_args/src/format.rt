@@ -1,5 +1,5 @@
 //! The IPC format of an output.
-ghost use Rattle.std.specs.Prelude.{◌≡◌, string_bytes};
+ghost use Rattle.std.specs.Prelude.{◌≡◌};
 ghost use Rattle.cli_args.specs.Formats.{spec_format_of};
 
 /// An Arrow IPC format.
@@ -12,8 +12,8 @@ pub enum Format {
 }
 
 /// Returns the format of an output by its name: `Stream` if the name ends in `.arrows`, else `File`.
-pub fn format_of(name: &String) -> Format
-    ensures { result ≡ spec_format_of (string_bytes name.now) }
+pub fn format_of(name: &str) -> Format
+    ensures { result ≡ spec_format_of name.now }
 {
     let end = b".arrows";
     if name.as_bytes().ends_with(end) {

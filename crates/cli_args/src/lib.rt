@@ -1,14 +1,20 @@
-//! The command line of the program `nest`.
+//! The command line of the program `nest`, as clap parses it.
 #![tactic(auto)]
 
 mod arguments;
+mod column_names;
+mod command;
+mod command_line;
 mod format;
-mod import;
 pub mod laws;
-mod numbers;
+mod parsing;
 mod request;
+mod values;
 
-pub use arguments::{Arguments, parse_arguments, parse_column_names};
+pub use arguments::Arguments;
+pub use clap::Error;
+pub use column_names::parse_column_names;
+pub use command::{Command, ImportRequest};
 pub use format::{Format, format_of};
-pub use import::{ImportRequest, parse_import};
-pub use request::{Column, Request, Selection, parse_request, parse_selection};
+pub use parsing::parse_arguments;
+pub use request::{Column, Request, Selection};

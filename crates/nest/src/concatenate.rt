@@ -1,8 +1,7 @@
 //! The command `concat`.
 use crate::input::{OpenError, Source, open_input};
-use crate::is;
-use crate::messages::{report, report_batch, report_open, report_usage};
-use crate::output::{Output, ProgressLine, open_output, settle};
+use crate::messages::{failed, report, report_batch};
+use crate::output::{Output, ProgressLine, StandardOutput, open_output, settle};
 use cli_args::format_of;
 use cli_read::Input;
 use cli_rows::{BatchError, CliError};
@@ -16,11 +15,11 @@ use std::process::ExitCode;
 #[derive(Drop)]
 enum ConcatError<'a> {
     /// The file is not opened.
-    Open(&'a String, OpenError),
+    Open(&'a str, OpenError),
     /// The file is not read, or not written.
-    Batch(&'a String, BatchError),
+    Batch(&'a str, BatchError),
     /// The schema of the file differs from that of the first.
-    Schema(&'a String),
+    Schema(&'a str),
     /// The end of the output is not written.
     End(CliError),
 }
@@ -29,7 +28,7 @@ enum ConcatError<'a> {
 fn begin<'a, W: Write + Drop>(
     rt: &HostRuntime,
     columns: Projection<'_>,
-    (file, input): (&'a String, Input<Source>),
+    (file, input): (&'a str, Input<Source>),
     out: Output<'_, W>,
     line: &mut ProgressLine<'_>,
 ) -> Result<BatchWriter<W>, ConcatError<'a>> {
@@ -44,7 +43,7 @@ fn begin<'a, W: Write + Drop>(
 fn append_file<'a, W: Write + Drop>(
     rt: &HostRuntime,
     columns: Projection<'_>,
-    file: &'a String,
+    file: &'a str,
     writer: &mut BatchWriter<W>,
     line: &mut ProgressLine<'_>,
 ) -> Result<(), ConcatError<'a>> {
@@ -62,11 +61,11 @@ fn append_file<'a, W: Write + Drop>(
 fn append_files<'a, W: Write + Drop>(
     rt: &HostRuntime,
     columns: Projection<'_>,
-    files: &'a [String],
+    files: &[&'a str],
     writer: &mut BatchWriter<W>,
     line: &mut ProgressLine<'_>,
 ) -> Result<(), ConcatError<'a>> {
-    for file in files {
+    for &file in files {
         append_file(rt, columns, file, writer, line)?;
     }
     Ok(())
@@ -76,8 +75,8 @@ fn append_files<'a, W: Write + Drop>(
 fn concat_inputs<'a, W: Write + Drop>(
     rt: &HostRuntime,
     columns: Projection<'_>,
-    first: (&'a String, Input<Source>),
-    others: &'a [String],
+    first: (&'a str, Input<Source>),
+    others: &[&'a str],
     out: Output<'_, W>,
 ) -> Result<(), ConcatError<'a>> {
     let mut line = ProgressLine::new(rt, out.is_terminal);
@@ -104,21 +103,21 @@ fn concat_inputs<'a, W: Write + Drop>(
 
 fn report_concat(
     rt: &HostRuntime,
-    first: &String,
-    out: &String,
+    first: &str,
+    out: &str,
     done: Result<(), ConcatError<'_>>,
 ) -> ExitCode {
     match done {
         Ok(()) => ExitCode::SUCCESS,
         Err(ConcatError::Schema(file)) => {
             let _ = eprintln!(rt; "nest: {file}: the schema differs from that of {first}");
-            ExitCode::FAILURE
+            failed()
         }
-        Err(ConcatError::End(error)) => report(rt, out, error),
-        Err(ConcatError::Open(file, error)) => report_open(rt, file, error),
+        Err(ConcatError::End(error)) => report(rt, out, &error),
+        Err(ConcatError::Open(file, error)) => report(rt, file, &error),
         Err(ConcatError::Batch(file, error)) => {
             if error.error == CliError::Output {
-                return report(rt, out, CliError::Output);
+                return report(rt, out, &CliError::Output);
             }
             report_batch(rt, file, error)
         }
@@ -129,15 +128,15 @@ fn report_concat(
 fn concat_to_file(
     rt: &HostRuntime,
     columns: Projection<'_>,
-    first: (&String, Input<Source>),
-    others: &[String],
-    out: &String,
+    first: (&str, Input<Source>),
+    others: &[&str],
+    out: &str,
 ) -> ExitCode {
     let name = first.0;
     match open_output(rt, out) {
         Err(error) => {
             drop(first);
-            report(rt, out, error)
+            report(rt, out, &error)
         }
         Ok((writer, place)) => {
             let output = Output {
@@ -158,27 +157,28 @@ fn concat_to_file(
 }
 
 /// Concatenates files.
-pub fn concat(
-    rt: &HostRuntime,
-    columns: Projection<'_>,
-    files: &[String],
-    out: &String,
-) -> ExitCode {
+pub fn concat(rt: &HostRuntime, columns: Projection<'_>, files: &[&str], out: &str) -> ExitCode {
     let [first, others @ ..] = files else {
-        return report_usage(rt);
+        return failed();
     };
+    let first = *first;
     match open_input(rt, first) {
-        Err(error) => report_open(rt, first, error),
+        Err(error) => report(rt, first, &error),
         Ok(input) => {
-            if !is(out, "-") {
+            if out != "-" {
                 return concat_to_file(rt, columns, (first, input), others, out);
             }
+            let mut writer = StandardOutput::new(io::writer(rt));
             let output = Output {
                 name: out,
-                writer: io::writer(rt),
+                writer: &mut writer,
                 is_terminal: false,
             };
             let done = concat_inputs(rt, columns, (first, input), others, output);
+            if writer.is_closed() {
+                drop(done);
+                return ExitCode::SUCCESS;
+            }
             report_concat(rt, first, out, done)
         }
     }

@@ -1,11 +1,10 @@
-//! The commands that write one input: `convert`, and `cut`, `take` and `where` with an output.
+//! The commands that write one input: `convert`, and `slice`, `take` and `where` with an output.
 ghost use Rattle.cli_args.specs.RequestTrees.{selection_tree};
 ghost use Rattle.cli_rows.specs.RowOrder.{IsInRowOrder};
 
 use crate::input::{Source, open_input};
-use crate::is;
-use crate::messages::{report, report_batch, report_open};
-use crate::output::{Output, ProgressLine, open_output, settle};
+use crate::messages::{report, report_batch};
+use crate::output::{Output, ProgressLine, StandardOutput, open_output, settle};
 use crate::take::write_taken;
 use cli_args::{Selection, format_of};
 use cli_read::Input;
@@ -44,15 +43,15 @@ fn copy_input<W: Write + Drop>(
 /// Reports the result of a copy.
 fn report_copy(
     rt: &HostRuntime,
-    file: &String,
-    out: &String,
+    file: &str,
+    out: &str,
     copied: Result<(), BatchError>,
 ) -> ExitCode {
     match copied {
         Ok(()) => ExitCode::SUCCESS,
         Err(error) => {
             if error.error == CliError::Output {
-                return report(rt, out, CliError::Output);
+                return report(rt, out, &CliError::Output);
             }
             report_batch(rt, file, error)
         }
@@ -63,9 +62,9 @@ fn report_copy(
 fn copy_to_file(
     rt: &HostRuntime,
     columns: Projection<'_>,
-    from: (&String, Input<Source>),
+    from: (&str, Input<Source>),
     selection: Selection,
-    out: &String,
+    out: &str,
 ) -> ExitCode
     requires { IsInRowOrder (selection_tree selection) }
 {
@@ -74,7 +73,7 @@ fn copy_to_file(
         Err(error) => {
             drop(input);
             drop(selection);
-            report(rt, out, error)
+            report(rt, out, &error)
         }
         Ok((writer, place)) => {
             let output = Output {
@@ -95,27 +94,31 @@ fn copy_to_file(
 pub fn copy_file(
     rt: &HostRuntime,
     columns: Projection<'_>,
-    file: &String,
+    file: &str,
     selection: Selection,
-    out: &String,
+    out: &str,
 ) -> ExitCode
     requires { IsInRowOrder (selection_tree selection) }
 {
     match open_input(rt, file) {
         Err(error) => {
             drop(selection);
-            report_open(rt, file, error)
+            report(rt, file, &error)
         }
         Ok(input) => {
-            if !is(out, "-") {
+            if out != "-" {
                 return copy_to_file(rt, columns, (file, input), selection, out);
             }
+            let mut writer = StandardOutput::new(io::writer(rt));
             let output = Output {
                 name: out,
-                writer: io::writer(rt),
+                writer: &mut writer,
                 is_terminal: false,
             };
             let copied = copy_input(rt, columns, selection, input, output);
+            if writer.is_closed() {
+                return ExitCode::SUCCESS;
+            }
             report_copy(rt, file, out, copied)
         }
     }
@@ -125,9 +128,9 @@ pub fn copy_file(
 pub fn copy_selection(
     rt: &HostRuntime,
     columns: Projection<'_>,
-    file: &String,
+    file: &str,
     selection: Selection,
-    out: &String,
+    out: &str,
 ) -> ExitCode {
     match in_row_order(selection) {
         Ok(selection) => copy_file(rt, columns, file, selection, out),

@@ -1,5 +1,4 @@
 //! Files and standard input as inputs.
-use crate::is;
 use cli_read::{Input, is_file, read_first_bytes};
 use cli_rows::{CliError, OtherFormat, other_format, read_input};
 use ipc_io::SeekRead;
@@ -18,6 +17,9 @@ pub enum OpenError {
     /// The file may not be read.
     #[error("permission denied")]
     PermissionDenied,
+    /// The name is that of a directory.
+    #[error("is a directory")]
+    Directory,
     /// The file cannot be opened, or reading failed.
     #[error("input cannot be read")]
     Input,
@@ -43,6 +45,7 @@ impl From<io::Error> for OpenError {
         match error.kind() {
             ErrorKind::NotFound => OpenError::NotFound,
             ErrorKind::PermissionDenied => OpenError::PermissionDenied,
+            ErrorKind::IsADirectory => OpenError::Directory,
             ErrorKind::OutOfMemory => OpenError::Memory,
             _ => OpenError::Input,
         }
@@ -119,6 +122,13 @@ fn open_stdin(rt: &HostRuntime) -> Result<Input<Source>, OpenError> {
     Ok(Input::Stream(Source::Stdin(source)))
 }
 
+fn is_directory(rt: &HostRuntime, file: &str) -> bool {
+    match fs::metadata(rt, file) {
+        Ok(metadata) => metadata.is_dir(),
+        Err(_) => false,
+    }
+}
+
 /// Returns an open file as an input, from its first byte.
 fn open_file(rt: &impl AllocGlobal, mut opened: File) -> Result<Input<Source>, OpenError> {
     let head = read_first_bytes(rt.alloc(), &mut opened)?;
@@ -138,11 +148,20 @@ fn open_file(rt: &impl AllocGlobal, mut opened: File) -> Result<Input<Source>, O
     Ok(Input::Stream(Source::Pipe(source)))
 }
 
+/// Opens a file. A directory can be opened, but not read.
+pub fn open_path(rt: &HostRuntime, file: &str) -> Result<File, OpenError> {
+    if is_directory(rt, file) {
+        return Err(OpenError::Directory);
+    }
+    let opened = fs::open(rt, file)?;
+    Ok(opened)
+}
+
 /// Opens a file or standard input, as an Arrow file or stream by its first bytes.
-pub fn open_input(rt: &HostRuntime, file: &String) -> Result<Input<Source>, OpenError> {
-    if is(file, "-") {
+pub fn open_input(rt: &HostRuntime, file: &str) -> Result<Input<Source>, OpenError> {
+    if file == "-" {
         return open_stdin(rt);
     }
-    let opened = fs::open(rt, file.as_str())?;
+    let opened = open_path(rt, file)?;
     open_file(rt, opened)
 }

@@ -1,15 +1,14 @@
 //! The command `from-json`.
-use crate::input::OpenError;
-use crate::is;
-use crate::messages::{report, report_open};
-use crate::output::{Output, ProgressLine, open_output, settle};
+use crate::input::open_path;
+use crate::messages::{failed, report};
+use crate::output::{Output, ProgressLine, StandardOutput, open_output, settle};
 use cli_args::{ImportRequest, format_of};
 use cli_rows::CliError;
 use cli_write::import::{ImportError, import};
 use nest_memory::datatypes::{DataType, Field};
+use std::io;
 use std::io::{IsTerminal, Read, Write};
 use std::process::ExitCode;
-use std::{fs, io};
 use type_text::parse_type;
 
 /// Reports why lines are not written.
@@ -18,21 +17,21 @@ fn report_import(rt: &HostRuntime, request: &ImportRequest<'_>, error: ImportErr
     match error {
         ImportError::Type(reason) => {
             let _ = eprintln!(rt; "nest: {row_type}: cannot be read from JSON: {reason}");
-            ExitCode::FAILURE
+            failed()
         }
         ImportError::Line(line, reason) => {
             let line = line.saturating_add(1);
             let _ = eprintln!(rt; "nest: {lines}: line {line}: {reason}");
-            ExitCode::FAILURE
+            failed()
         }
         ImportError::Overflow => {
             let _ = eprintln!(rt; "nest: {lines}: the rows exceed the limits of an array");
-            ExitCode::FAILURE
+            failed()
         }
-        ImportError::Write(error) => report(rt, out, CliError::Write(error)),
-        ImportError::Input => report(rt, lines, CliError::Input),
-        ImportError::Output => report(rt, out, CliError::Output),
-        ImportError::Memory => report(rt, lines, CliError::Memory),
+        ImportError::Write(error) => report(rt, out, &CliError::Write(error)),
+        ImportError::Input => report(rt, lines, &CliError::Input),
+        ImportError::Output => report(rt, out, &CliError::Output),
+        ImportError::Memory => report(rt, lines, &CliError::Memory),
     }
 }
 
@@ -79,7 +78,7 @@ fn import_to_file<R: Read + Drop>(
         Err(error) => {
             drop(fields);
             drop(input);
-            report(rt, out, error)
+            report(rt, out, &error)
         }
         Ok((writer, place)) => {
             let output = Output {
@@ -104,29 +103,34 @@ fn import_lines<R: Read + Drop>(
     input: R,
 ) -> ExitCode {
     let out = request.output;
-    if !is(out, "-") {
+    if out != "-" {
         return import_to_file(rt, request, fields, input);
     }
+    let mut writer = StandardOutput::new(io::writer(rt));
     let output = Output {
         name: out,
-        writer: io::writer(rt),
+        writer: &mut writer,
         is_terminal: false,
     };
     let done = import_from(rt, fields, input, output);
+    if writer.is_closed() {
+        drop(done);
+        return ExitCode::SUCCESS;
+    }
     report_done(rt, request, done)
 }
 
 /// Opens the lines, and writes them as columns of these fields.
 fn open_lines(rt: &HostRuntime, request: &ImportRequest<'_>, fields: Vec<Field>) -> ExitCode {
     let file = request.input;
-    if is(file, "-") {
+    if file == "-" {
         return import_lines(rt, request, fields, rt.reader());
     }
-    match fs::open(rt, file.as_str()) {
+    match open_path(rt, file) {
         Ok(opened) => import_lines(rt, request, fields, opened),
         Err(error) => {
             drop(fields);
-            report_open(rt, file, OpenError::from(error))
+            report(rt, file, &error)
         }
     }
 }
@@ -134,16 +138,16 @@ fn open_lines(rt: &HostRuntime, request: &ImportRequest<'_>, fields: Vec<Field>)
 /// Writes lines of JSON as an Arrow stream or file.
 pub fn from_json(rt: &HostRuntime, request: &ImportRequest<'_>) -> ExitCode {
     let row_type = request.row_type;
-    match parse_type(rt.alloc(), row_type.as_str()) {
+    match parse_type(rt.alloc(), row_type) {
         Ok(DataType::Struct(fields)) => open_lines(rt, request, fields),
         Ok(other) => {
             drop(other);
             let _ = eprintln!(rt; "nest: {row_type}: the type of a row is a struct");
-            ExitCode::from(2)
+            failed()
         }
         Err(error) => {
             let _ = eprintln!(rt; "nest: {row_type}: {error}");
-            ExitCode::from(2)
+            failed()
         }
     }
 }

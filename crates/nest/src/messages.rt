@@ -1,20 +1,16 @@
 //! Messages on standard error, and exit codes.
 use crate::input::OpenError;
+use crate::output::StandardOutput;
 use cli_read::CompareError;
 use cli_rows::{BatchError, CliError, Difference, difference_text, write_output};
 use ipc_flatbuf::IpcReadError;
+use std::fmt::Display;
 use std::io;
+use std::io::ErrorKind;
 use std::process::ExitCode;
 
-/// Reports invalid arguments.
-pub fn report_usage(rt: &HostRuntime) -> ExitCode {
-    let _ = eprintln!(rt; "nest: invalid arguments; try --help");
-    ExitCode::from(2)
-}
-
-/// Reports an option that is present twice or has no value.
-pub fn report_options(rt: &HostRuntime) -> ExitCode {
-    let _ = eprintln!(rt; "nest: --columns and -o take one value each; try --help");
+/// Returns the exit code of an error.
+pub fn failed() -> ExitCode {
     ExitCode::from(2)
 }
 
@@ -46,21 +42,15 @@ impl From<CliError> for InputError {
 }
 
 /// Reports an error of a file.
-pub fn report(rt: &HostRuntime, file: &String, error: CliError) -> ExitCode {
+pub fn report<E: Display>(rt: &HostRuntime, file: &str, error: &E) -> ExitCode {
     let _ = eprintln!(rt; "nest: {file}: {error}");
-    ExitCode::FAILURE
-}
-
-/// Reports an input that is not opened.
-pub fn report_open(rt: &HostRuntime, file: &String, error: OpenError) -> ExitCode {
-    let _ = eprintln!(rt; "nest: {file}: {error}");
-    ExitCode::FAILURE
+    failed()
 }
 
 /// Reports an error of an input.
-pub fn report_input(rt: &HostRuntime, file: &String, error: InputError) -> ExitCode {
+pub fn report_input(rt: &HostRuntime, file: &str, error: InputError) -> ExitCode {
     match error {
-        InputError::Open(error) => report_open(rt, file, error),
+        InputError::Open(error) => report(rt, file, &error),
         InputError::Batch(error) => report_batch(rt, file, error),
     }
 }
@@ -74,28 +64,40 @@ fn advice(error: CliError) -> &'static str {
 }
 
 /// Reports an error of a file and its record batch.
-pub fn report_batch(rt: &HostRuntime, file: &String, error: BatchError) -> ExitCode {
+pub fn report_batch(rt: &HostRuntime, file: &str, error: BatchError) -> ExitCode {
     let advice = advice(error.error);
     let _ = eprintln!(rt; "nest: {file}: {error}{advice}");
-    ExitCode::FAILURE
+    failed()
 }
 
-/// Prints the first difference. The exit code is that of a failure.
-fn print_difference(rt: &HostRuntime, file: &String, difference: Difference) -> ExitCode {
+/// Prints the help or the version that the arguments ask for, or reports what is wrong with them.
+pub fn report_arguments(rt: &HostRuntime, error: &cli_args::Error) -> ExitCode {
+    let printed = error.print(rt);
+    if error.use_stderr() {
+        return failed();
+    }
+    match printed {
+        Err(error) if error.kind() != ErrorKind::BrokenPipe => report(rt, "-", &CliError::Output),
+        _ => ExitCode::SUCCESS,
+    }
+}
+
+/// Prints the first difference.
+fn print_difference(rt: &HostRuntime, file: &str, difference: Difference) -> ExitCode {
     let Ok(line) = difference_text(rt.alloc(), difference) else {
-        return report(rt, file, CliError::Memory);
+        return report(rt, file, &CliError::Memory);
     };
-    let written = write_output(&mut io::writer(rt), line.as_bytes());
-    match written {
-        Ok(()) => ExitCode::FAILURE,
-        Err(error) => report(rt, file, error),
+    let mut out = StandardOutput::new(io::writer(rt));
+    match write_output(&mut out, line.as_bytes()) {
+        Err(error) if !out.is_closed() => report(rt, file, &error),
+        _ => ExitCode::from(1),
     }
 }
 
 /// Prints the result of a comparison, or reports its error.
 pub fn print_comparison(
     rt: &HostRuntime,
-    files: (&String, &String),
+    files: (&str, &str),
     compared: Result<Option<Difference>, CompareError>,
 ) -> ExitCode {
     match compared {
@@ -106,7 +108,7 @@ pub fn print_comparison(
         Err(CompareError::TooManyRows) => {
             let file = files.0;
             let _ = eprintln!(rt; "nest: {file}: more than 2^64 rows are equal");
-            ExitCode::FAILURE
+            failed()
         }
     }
 }

@@ -1,9 +1,11 @@
 //! Outputs, and the progress line.
-use cli_rows::CliError;
+use crate::messages::failed;
 use cli_write::Progress;
 use std::fs::File;
+use std::io::{ErrorKind, Write};
 use std::process::ExitCode;
 use std::{fs, io};
+use thiserror::Error;
 
 /// The number of record batches between two updates of the line.
 const BATCHES: usize = 16;
@@ -46,10 +48,83 @@ impl Progress for ProgressLine<'_> {
     }
 }
 
+/// Error returned where an output is not opened.
+#[derive(Clone, Copy, Debug, PartialEq, Eq, Error)]
+pub enum CreateError {
+    /// There is no directory for the output.
+    #[error("output cannot be written: no such directory")]
+    NotFound,
+    /// The output, or its directory, may not be written.
+    #[error("output cannot be written: permission denied")]
+    PermissionDenied,
+    /// The output is a directory.
+    #[error("output cannot be written: is a directory")]
+    Directory,
+    /// The file beside the output exists.
+    #[error("output cannot be written: OUT.part exists")]
+    PartExists,
+    /// The output cannot be opened.
+    #[error("output cannot be written")]
+    Output,
+    /// An allocation failed.
+    #[error("out of memory")]
+    Memory,
+}
+
+impl From<io::Error> for CreateError {
+    fn from(error: io::Error) -> CreateError {
+        match error.kind() {
+            ErrorKind::NotFound => CreateError::NotFound,
+            ErrorKind::PermissionDenied => CreateError::PermissionDenied,
+            ErrorKind::IsADirectory => CreateError::Directory,
+            ErrorKind::OutOfMemory => CreateError::Memory,
+            _ => CreateError::Output,
+        }
+    }
+}
+
+/// Standard output. It records whether nothing reads it any more, as in `nest rows FILE | head`.
+#[derive(Drop)]
+pub struct StandardOutput<W> {
+    writer: W,
+    is_closed: bool,
+}
+
+impl<W> StandardOutput<W> {
+    pub fn new(writer: W) -> StandardOutput<W> {
+        StandardOutput {
+            writer,
+            is_closed: false,
+        }
+    }
+
+    pub fn is_closed(&self) -> bool {
+        self.is_closed
+    }
+}
+
+impl<W: Write> Write for StandardOutput<W> {
+    fn write(&mut self, buf: &[u8]) -> io::Result<usize> {
+        match self.writer.write(buf) {
+            Ok(n) => Ok(n),
+            Err(error) => {
+                if error.kind() == ErrorKind::BrokenPipe {
+                    self.is_closed = true;
+                }
+                Err(error)
+            }
+        }
+    }
+
+    fn flush(&mut self) -> io::Result<()> {
+        self.writer.flush()
+    }
+}
+
 /// An output: its name, its writer, and whether the progress line is shown.
 #[derive(Drop)]
 pub struct Output<'a, W> {
-    pub name: &'a String,
+    pub name: &'a str,
     pub writer: W,
     pub is_terminal: bool,
 }
@@ -66,60 +141,55 @@ pub enum Place {
 }
 
 /// Returns whether a regular file exists.
-fn is_file(rt: &HostRuntime, name: &String) -> bool {
-    match fs::metadata(rt, name.as_str()) {
+fn is_file(rt: &HostRuntime, name: &str) -> bool {
+    match fs::metadata(rt, name) {
         Ok(metadata) => metadata.is_file(),
         Err(_) => false,
     }
 }
 
 /// Opens a new file beside an output.
-fn open_beside(rt: &HostRuntime, out: &String) -> Result<(File, Place), CliError> {
+fn open_beside(rt: &HostRuntime, out: &str) -> Result<(File, Place), CreateError> {
     let Ok(name) = format!(in rt.alloc(); "{out}.part") else {
-        return Err(CliError::Memory);
+        return Err(CreateError::Memory);
     };
     match File::create_new(rt, name.as_str()) {
         Ok(created) => Ok((created, Place::Beside(name))),
-        Err(_) => {
+        Err(error) => {
             drop(name);
-            Err(CliError::Output)
+            if error.kind() == ErrorKind::AlreadyExists {
+                return Err(CreateError::PartExists);
+            }
+            Err(CreateError::from(error))
         }
     }
 }
 
 /// Opens an output, or a file beside it if the output exists.
-pub fn open_output(rt: &HostRuntime, out: &String) -> Result<(File, Place), CliError> {
-    if let Ok(created) = File::create_new(rt, out.as_str()) {
+pub fn open_output(rt: &HostRuntime, out: &str) -> Result<(File, Place), CreateError> {
+    if let Ok(created) = File::create_new(rt, out) {
         return Ok((created, Place::Created));
     }
     if is_file(rt, out) {
         return open_beside(rt, out);
     }
-    match fs::create(rt, out.as_str()) {
-        Ok(opened) => Ok((opened, Place::Device)),
-        Err(_) => Err(CliError::Output),
-    }
+    let opened = fs::create(rt, out)?;
+    Ok((opened, Place::Device))
 }
 
 /// Copies a file over an output, which keeps its permissions and links.
-fn write_over(rt: &HostRuntime, from: &String, out: &String) -> Result<(), CliError> {
-    let Ok(mut written) = fs::open(rt, from.as_str()) else {
-        return Err(CliError::Output);
-    };
-    let Ok(mut target) = fs::create(rt, out.as_str()) else {
-        return Err(CliError::Output);
-    };
-    match io::copy(&mut written, &mut target) {
-        Ok(_) => Ok(()),
-        Err(_) => Err(CliError::Output),
-    }
+fn write_over(rt: &HostRuntime, from: &str, out: &str) -> io::Result<()> {
+    let mut written = fs::open(rt, from)?;
+    let mut target = fs::create(rt, out)?;
+    io::copy(&mut written, &mut target)?;
+    Ok(())
 }
 
 /// Completes an output, or removes it if it is incomplete. If an existing output cannot be replaced, the complete output stays beside it, and
 /// this is reported.
 pub fn settle(
     rt: &HostRuntime,
-    out: &String,
+    out: &str,
     place: Place,
     is_complete: bool,
 ) -> Result<(), ExitCode> {
@@ -127,16 +197,16 @@ pub fn settle(
         Place::Device => Ok(()),
         Place::Created => {
             if !is_complete {
-                let _ = fs::remove_file(rt, out.as_str());
+                let _ = fs::remove_file(rt, out);
             }
             Ok(())
         }
         Place::Beside(name) => {
-            if is_complete && write_over(rt, &name, out).is_err() {
+            if is_complete && write_over(rt, name.as_str(), out).is_err() {
                 let _ = eprintln!(rt;
                     "nest: {out}: output cannot be replaced; it is complete in {name}"
                 );
-                return Err(ExitCode::FAILURE);
+                return Err(failed());
             }
             let _ = fs::remove_file(rt, name.as_str());
             Ok(())

@@ -1,19 +1,19 @@
 //! The command `take`. All rows are in memory before the output is opened.
 use crate::input::open_input;
-use crate::is;
 use crate::messages::{InputError, report, report_input};
-use crate::output::{open_output, settle};
+use crate::output::{StandardOutput, open_output, settle};
 use cli_args::format_of;
 use cli_read::{take_encoded, take_lines};
 use cli_rows::write_output;
 use ipc_schema::Projection;
 use std::io;
+use std::io::Write;
 use std::process::ExitCode;
 
 fn taken_lines(
     rt: &HostRuntime,
     columns: Projection<'_>,
-    file: &String,
+    file: &str,
     indices: &[usize],
 ) -> Result<String, InputError> {
     let input = open_input(rt, file)?;
@@ -22,23 +22,24 @@ fn taken_lines(
 }
 
 /// Prints the row at each index.
-pub fn print_taken(
+pub fn print_taken<W: Write>(
     rt: &HostRuntime,
     columns: Projection<'_>,
-    file: &String,
+    file: &str,
     indices: &[usize],
+    out: &mut W,
 ) -> Result<(), InputError> {
     let text = taken_lines(rt, columns, file, indices)?;
-    write_output(&mut io::writer(rt), text.as_bytes())?;
+    write_output(out, text.as_bytes())?;
     Ok(())
 }
 
 fn taken_bytes(
     rt: &HostRuntime,
     columns: Projection<'_>,
-    file: &String,
+    file: &str,
     indices: &[usize],
-    out: &String,
+    out: &str,
 ) -> Result<Vec<u8>, InputError> {
     let format = format_of(out);
     let input = open_input(rt, file)?;
@@ -46,9 +47,9 @@ fn taken_bytes(
     Ok(bytes)
 }
 
-fn write_file(rt: &HostRuntime, out: &String, bytes: &[u8]) -> ExitCode {
+fn write_file(rt: &HostRuntime, out: &str, bytes: &[u8]) -> ExitCode {
     match open_output(rt, out) {
-        Err(error) => report(rt, out, error),
+        Err(error) => report(rt, out, &error),
         Ok((mut opened, place)) => {
             let written = write_output(&mut opened, bytes);
             drop(opened);
@@ -56,17 +57,18 @@ fn write_file(rt: &HostRuntime, out: &String, bytes: &[u8]) -> ExitCode {
                 Err(code) => code,
                 Ok(()) => match written {
                     Ok(()) => ExitCode::SUCCESS,
-                    Err(error) => report(rt, out, error),
+                    Err(error) => report(rt, out, &error),
                 },
             }
         }
     }
 }
 
-fn write_stdout(rt: &HostRuntime, out: &String, bytes: &[u8]) -> ExitCode {
-    match write_output(&mut io::writer(rt), bytes) {
-        Ok(()) => ExitCode::SUCCESS,
-        Err(error) => report(rt, out, error),
+fn write_stdout(rt: &HostRuntime, out: &str, bytes: &[u8]) -> ExitCode {
+    let mut writer = StandardOutput::new(io::writer(rt));
+    match write_output(&mut writer, bytes) {
+        Err(error) if !writer.is_closed() => report(rt, out, &error),
+        _ => ExitCode::SUCCESS,
     }
 }
 
@@ -74,13 +76,13 @@ fn write_stdout(rt: &HostRuntime, out: &String, bytes: &[u8]) -> ExitCode {
 pub fn write_taken(
     rt: &HostRuntime,
     columns: Projection<'_>,
-    file: &String,
+    file: &str,
     indices: &[usize],
-    out: &String,
+    out: &str,
 ) -> ExitCode {
     match taken_bytes(rt, columns, file, indices, out) {
         Err(error) => report_input(rt, file, error),
-        Ok(bytes) if is(out, "-") => write_stdout(rt, out, &bytes),
+        Ok(bytes) if out == "-" => write_stdout(rt, out, &bytes),
         Ok(bytes) => write_file(rt, out, &bytes),
     }
 }

@@ -1,58 +1,135 @@
 //! Command lines.
-use crate::oracle::request;
-use cli_args::{
-    Arguments, Format, format_of, parse_arguments, parse_column_names, parse_selection,
-};
+use clap::error::ErrorKind;
+use cli_args::{Command, Error, Format, Selection, format_of, parse_arguments, parse_column_names};
 use std::alloc::{AllocError, Global};
 use std::test::*;
 
-/// Returns whether a command and one argument select rows.
-fn selects(alloc: Global, command: &str, argument: &str) -> Result<bool, AllocError> {
-    let command = String::from_str(alloc, command)?;
-    let mut arguments = Vec::new(alloc);
-    arguments.push(String::from_str(alloc, argument)?)?;
-    let selection = parse_selection(alloc, &command, &arguments)?;
-    Ok(selection.is_some())
+/// Returns the words of a command line, the name of the program first.
+fn words(alloc: Global, arguments: &[&str]) -> Result<Vec<String>, AllocError> {
+    let mut all = Vec::new(alloc);
+    all.push(String::from_str(alloc, "nest")?)?;
+    for argument in arguments {
+        all.push(String::from_str(alloc, argument)?)?;
+    }
+    Ok(all)
 }
 
-#[test]
-fn arguments_select_rows(rt: HostRuntime) {
-    for (command, argument, want) in [
-        ("where", "ok", true),
-        ("take", "1", true),
-        ("take", "x", false),
-        ("cut", "1", false),
-        ("rows", "1", false),
-    ] {
-        let found = selects(rt.alloc(), command, argument);
-        assert!(rt; found.ok() == Some(want), "{command} {argument}");
+/// Returns the error of a command line.
+fn error_of(alloc: Global, arguments: &[&str]) -> Result<Error, Fail> {
+    let all = words(alloc, arguments)?;
+    match parse_arguments(alloc, &all) {
+        Ok(_) => Err(Fail::from("arguments")),
+        Err(error) => Ok(error),
+    }
+}
+
+/// Returns the slice of the rows that a command selects of the file `f`.
+fn slice_of(alloc: Global, arguments: &[&str]) -> Result<Option<(usize, usize)>, Fail> {
+    let all = words(alloc, arguments)?;
+    match parse_arguments(alloc, &all)?.command {
+        Command::Select(file, Selection::Slice(start, count), None) if file == "f" => {
+            Ok(Some((start, count)))
+        }
+        _ => Ok(None),
     }
 }
 
 #[test]
-fn invalid_arguments_are_no_request(rt: HostRuntime) {
-    for arguments in [
-        ["show"].as_slice(),
-        ["schema", "0"].as_slice(),
-        ["rows", "1"].as_slice(),
-        ["rows", "1", "1", "1"].as_slice(),
-        ["rows", "01", "1"].as_slice(),
-        ["rows", "1", "+1"].as_slice(),
-        ["rows", "1", "18446744073709551616"].as_slice(),
-        ["take", "x"].as_slice(),
-        ["take", ""].as_slice(),
-        ["take", "1", "-1"].as_slice(),
-        ["cut"].as_slice(),
-        ["cut", "1"].as_slice(),
-        ["where"].as_slice(),
-        ["where", "a", "b"].as_slice(),
-        ["equal", "a"].as_slice(),
+fn rows_are_selected(rt: HostRuntime) -> Result<(), Fail> {
+    let all = Some((0, usize::MAX));
+    for (arguments, want) in [
+        (["rows", "f"].as_slice(), None),
+        (["rows", "f", "--start", "0"].as_slice(), all),
+        (["rows", "--start=3", "f"].as_slice(), Some((3, usize::MAX))),
+        (["rows", "f", "--count", "4"].as_slice(), Some((0, 4))),
+        (["rows", "--count=4", "f", "--start=3"].as_slice(), Some((3, 4))),
+        (["head", "f"].as_slice(), Some((0, 10))),
+        (["head", "f", "3"].as_slice(), Some((0, 3))),
+        (["slice", "f", "1", "2"].as_slice(), Some((1, 2))),
+        (["cut", "f", "1", "+02"].as_slice(), Some((1, 2))),
+        (["slice", "--", "f", "1", "2"].as_slice(), Some((1, 2))),
+        (["slice", "-o", "g", "f", "1", "2"].as_slice(), None),
+        (["take", "f", "1", "2"].as_slice(), None),
     ] {
-        let found = request(rt.alloc(), arguments)
-            .ok()
-            .expect(&rt, "no allocation fails");
-        assert!(rt; found.is_none(), "{}", arguments[0]);
+        let found = slice_of(rt.alloc(), arguments)?;
+        assert!(rt; found == want, "{} {}", arguments[0], arguments.len());
     }
+    Ok(())
+}
+
+/// Returns the names of the files of a command, after one another.
+fn files_of(alloc: Global, arguments: &[&str]) -> Result<String, Fail> {
+    let all = words(alloc, arguments)?;
+    let text = match parse_arguments(alloc, &all)?.command {
+        Command::Schema(file) => format!(in alloc; "schema {file}")?,
+        Command::Select(file, Selection::Indices(indices), out) => {
+            format!(in alloc; "{} indices {file} {}", indices.len(), out.unwrap_or(""))?
+        }
+        Command::Select(file, Selection::Where(_), out) => {
+            format!(in alloc; "where {file} {}", out.unwrap_or(""))?
+        }
+        Command::Select(_, _, _) => format!(in alloc; "rows")?,
+        Command::Equal(file, other) => format!(in alloc; "equal {file} {other}")?,
+        Command::Concat(files, out) => {
+            format!(in alloc; "concat {} {} {out}", files[0], files.len())?
+        }
+        Command::Convert(file, out) => format!(in alloc; "convert {file} {out}")?,
+        Command::FromJson(request) => {
+            let (row_type, lines, out) = (request.row_type, request.input, request.output);
+            format!(in alloc; "from-json {row_type} {lines} {out}")?
+        }
+    };
+    Ok(text)
+}
+
+#[test]
+fn commands_have_files(rt: HostRuntime) -> Result<(), Fail> {
+    for (arguments, want) in [
+        (["schema", "f"].as_slice(), "schema f"),
+        (["take", "f", "7", "0", "7", "-o", "g"].as_slice(), "3 indices f g"),
+        (["where", "f", "ok"].as_slice(), "where f "),
+        (["equal", "f", "g"].as_slice(), "equal f g"),
+        (["concat", "-o", "g", "f", "h"].as_slice(), "concat f 2 g"),
+        (["convert", "f", "-"].as_slice(), "convert f -"),
+        (["from-json", "t", "f", "g"].as_slice(), "from-json t f g"),
+    ] {
+        let found = files_of(rt.alloc(), arguments)?;
+        assert!(rt; found.as_str() == want, "{want}: {found}");
+    }
+    Ok(())
+}
+
+#[test]
+fn invalid_arguments_are_errors(rt: HostRuntime) -> Result<(), Fail> {
+    for (arguments, want) in [
+        (["show"].as_slice(), ErrorKind::InvalidSubcommand),
+        (["schema"].as_slice(), ErrorKind::MissingRequiredArgument),
+        (["schema", "f", "0"].as_slice(), ErrorKind::UnknownArgument),
+        (["--columns", "a", "rows", "f"].as_slice(), ErrorKind::UnknownArgument),
+        (["rows", "f", "1", "1"].as_slice(), ErrorKind::UnknownArgument),
+        (["rows", "f", "--count", "-1"].as_slice(), ErrorKind::UnknownArgument),
+        (["rows", "f", "--count", "x"].as_slice(), ErrorKind::ValueValidation),
+        (["rows", "f", "--count"].as_slice(), ErrorKind::InvalidValue),
+        (["head", "f", "18446744073709551616"].as_slice(), ErrorKind::ValueValidation),
+        (["take", "f"].as_slice(), ErrorKind::MissingRequiredArgument),
+        (["take", "f", ""].as_slice(), ErrorKind::ValueValidation),
+        (["cut", "f", "1"].as_slice(), ErrorKind::MissingRequiredArgument),
+        (["where", "f", "a", "b"].as_slice(), ErrorKind::UnknownArgument),
+        (["equal", "f"].as_slice(), ErrorKind::MissingRequiredArgument),
+        (["concat", "f"].as_slice(), ErrorKind::MissingRequiredArgument),
+        (["convert", "f", "g", "-o", "h"].as_slice(), ErrorKind::UnknownArgument),
+        (["slice", "f", "1", "2", "-o", "g", "-o", "h"].as_slice(), ErrorKind::ArgumentConflict),
+        (["--help"].as_slice(), ErrorKind::DisplayHelp),
+        (["help", "rows"].as_slice(), ErrorKind::DisplayHelp),
+        (["rows", "--help"].as_slice(), ErrorKind::DisplayHelp),
+        (["--version"].as_slice(), ErrorKind::DisplayVersion),
+    ] {
+        let error = error_of(rt.alloc(), arguments)?;
+        assert!(rt; error.kind() == want, "{} {}: {error}", arguments[0], arguments.len());
+    }
+    let none = ErrorKind::DisplayHelpOnMissingArgumentOrSubcommand;
+    assert!(rt; error_of(rt.alloc(), &[])?.kind() == none);
+    Ok(())
 }
 
 #[test]
@@ -65,47 +142,22 @@ fn names_have_formats(rt: HostRuntime) {
         ("-", Format::File),
         ("", Format::File),
     ] {
-        let name = String::from_str(rt.alloc(), name)
-            .ok()
-            .expect(&rt, "no allocation fails");
-        assert!(rt; format_of(&name) == want, "{name}");
+        assert!(rt; format_of(name) == want, "{name}");
     }
-}
-
-/// Parses a command line.
-fn parsed(alloc: Global, arguments: &[&str]) -> Result<Option<Arguments>, AllocError> {
-    let mut all = Vec::new(alloc);
-    for argument in arguments {
-        all.push(String::from_str(alloc, argument)?)?;
-    }
-    Ok(parse_arguments(all))
 }
 
 #[test]
-fn options_are_parsed(rt: HostRuntime) {
+fn columns_are_parsed(rt: HostRuntime) -> Result<(), Fail> {
+    let alloc = rt.alloc();
     for arguments in [
-        ["--columns", "a,b", "rows", "f"].as_slice(),
         ["rows", "--columns", "a,b", "f"].as_slice(),
-        ["rows", "f", "--columns", "a,b"].as_slice(),
+        ["rows", "f", "--columns=a,b"].as_slice(),
+        ["concat", "f", "-o", "g", "--columns", "a,b"].as_slice(),
     ] {
-        let found = parsed(rt.alloc(), arguments)
-            .ok()
-            .expect(&rt, "no allocation fails");
-        let found = found.expect(&rt, "a command line");
-        assert!(rt; found.positional.len() == 2 && found.out.is_none());
-        let columns = found.columns.as_ref().expect(&rt, "columns");
-        let names = parse_column_names(rt.alloc(), columns.as_str())
-            .ok()
-            .expect(&rt, "no allocation fails");
-        assert!(rt; names.len() == 2);
+        let all = words(alloc, arguments)?;
+        let arguments = parse_arguments(alloc, &all)?;
+        let names = parse_column_names(alloc, arguments.columns.unwrap_or(""))?;
+        assert!(rt; names.as_slice() == ["a", "b"].as_slice());
     }
-    for arguments in [
-        ["rows", "f", "--columns"].as_slice(),
-        ["-o", "a", "rows", "f", "-o", "b"].as_slice(),
-    ] {
-        let found = parsed(rt.alloc(), arguments)
-            .ok()
-            .expect(&rt, "no allocation fails");
-        assert!(rt; found.is_none(), "{}", arguments[0]);
-    }
+    Ok(())
 }

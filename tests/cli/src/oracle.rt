@@ -1,6 +1,6 @@
 //! The expected results, made of a whole table in memory.
 use crate::devices::{Device, NEVER, input};
-use cli_args::{Format, Request, Selection, parse_request};
+use cli_args::{Command, Format, Request, Selection, parse_arguments};
 use cli_read::open;
 use cli_rows::{
     CliError, Table, copy_schema, encode_table, row_array, selected_batches, selection_error,
@@ -9,7 +9,7 @@ use cli_rows::{
 use ipc::Batch;
 use ipc_schema::Projection;
 use nest_array::AnyArray;
-use std::alloc::Global;
+use std::alloc::{AllocError, Global};
 
 /// Reads a table.
 pub fn read_table(alloc: Global, columns: Projection<'_>, bytes: &[u8]) -> Result<Table, CliError> {
@@ -23,14 +23,32 @@ pub fn read_table(alloc: Global, columns: Projection<'_>, bytes: &[u8]) -> Resul
     Ok(Table { schema, batches })
 }
 
-/// Parses a command and its arguments.
-pub fn request(alloc: Global, arguments: &[&str]) -> Result<Option<Request>, CliError> {
-    let command = String::from_str(alloc, arguments[0])?;
+/// Returns the words of a command line: the program, a command, a file, and the arguments after it.
+pub fn words(alloc: Global, arguments: &[&str]) -> Result<Vec<String>, AllocError> {
     let mut all = Vec::new(alloc);
+    for word in ["nest", arguments[0], "file"] {
+        all.push(String::from_str(alloc, word)?)?;
+    }
     for i in 1..arguments.len() {
         all.push(String::from_str(alloc, arguments[i])?)?;
     }
-    Ok(parse_request(alloc, &command, &all)?)
+    Ok(all)
+}
+
+/// Parses a command and the arguments after its file. `take` alone selects no row.
+pub fn request(alloc: Global, arguments: &[&str]) -> Result<Option<Request>, CliError> {
+    if arguments.len() == 1 && arguments[0] == "take" {
+        return Ok(Some(Request::Rows(Selection::Indices(Vec::new(alloc)))));
+    }
+    let all = words(alloc, arguments)?;
+    let Ok(parsed) = parse_arguments(alloc, &all) else {
+        return Ok(None);
+    };
+    match parsed.command {
+        Command::Schema(_) => Ok(Some(Request::Columns)),
+        Command::Select(_, selection, _) => Ok(Some(Request::Rows(selection))),
+        _ => Ok(None),
+    }
 }
 
 /// Returns the text that a request prints of a table.

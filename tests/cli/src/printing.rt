@@ -46,10 +46,10 @@ fn printed(
 const COMMANDS: [&[&str]; 12] = [
     &["schema"],
     &["rows"],
-    &["rows", "0", "0"],
-    &["rows", "0", "2"],
-    &["rows", "1", "1"],
-    &["rows", "1", "9"],
+    &["slice", "0", "0"],
+    &["slice", "0", "2"],
+    &["slice", "1", "1"],
+    &["slice", "1", "9"],
     &["cut", "2", "1"],
     &["cut", "3", "1"],
     &["cut", "9", "18446744073709551615"],
@@ -132,16 +132,16 @@ fn unselected_batches_are_not_read(rt: HostRuntime) -> Result<(), Fail> {
     let two = "{\"a\":1,\"b\":\"a\"}\n{\"a\":null,\"b\":\"b\"}\n";
     // The second record batch is truncated, and not needed for two rows.
     for end in [424, 500] {
-        let (done, out) = printed(alloc, &["rows", "0", "2"], &stream[..end], NEVER, NEVER)?;
+        let (done, out) = printed(alloc, &["slice", "0", "2"], &stream[..end], NEVER, NEVER)?;
         assert!(rt;
             done == Ok(()) && out.as_slice() == two.as_bytes(),
             "{end}: {done:?}"
         );
     }
-    let (done, out) = printed(alloc, &["rows", "0", "3"], &stream[..500], NEVER, NEVER)?;
+    let (done, out) = printed(alloc, &["slice", "0", "3"], &stream[..500], NEVER, NEVER)?;
     assert!(rt; done.err().and_then(|e| e.batch) == Some(1) && out.as_slice() == two.as_bytes());
     // No row, or the columns: the schema is sufficient.
-    for arguments in [["rows", "0", "0"].as_slice(), ["schema"].as_slice()] {
+    for arguments in [["slice", "0", "0"].as_slice(), ["schema"].as_slice()] {
         let (done, _) = printed(alloc, arguments, &stream[..200], NEVER, NEVER)?;
         assert!(rt; done == Ok(()), "{done:?}");
     }

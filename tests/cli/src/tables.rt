@@ -129,20 +129,20 @@ fn schemas_are_printed(rt: HostRuntime) {
 fn rows_are_printed(rt: HostRuntime) {
     for (arguments, indices) in [
         (["rows"].as_slice(), [0usize, 1, 2].as_slice()),
-        (["rows", "0", "1"].as_slice(), [0usize].as_slice()),
-        (["rows", "1", "2"].as_slice(), [1usize, 2].as_slice()),
+        (["slice", "0", "1"].as_slice(), [0usize].as_slice()),
+        (["slice", "1", "2"].as_slice(), [1usize, 2].as_slice()),
         (["cut", "1", "2"].as_slice(), [1usize, 2].as_slice()),
         (
-            ["rows", "1", "18446744073709551615"].as_slice(),
+            ["slice", "1", "18446744073709551615"].as_slice(),
             [1usize, 2].as_slice(),
         ),
-        (["rows", "2", "9"].as_slice(), [2usize].as_slice()),
-        (["rows", "3", "1"].as_slice(), [].as_slice()),
+        (["slice", "2", "9"].as_slice(), [2usize].as_slice()),
+        (["slice", "3", "1"].as_slice(), [].as_slice()),
         (
-            ["rows", "18446744073709551615", "1"].as_slice(),
+            ["slice", "18446744073709551615", "1"].as_slice(),
             [].as_slice(),
         ),
-        (["rows", "0", "0"].as_slice(), [].as_slice()),
+        (["slice", "0", "0"].as_slice(), [].as_slice()),
         (
             ["take", "2", "0", "2", "1"].as_slice(),
             [2usize, 0, 2, 1].as_slice(),
@@ -190,8 +190,8 @@ fn many_rows_are_printed(rt: HostRuntime) {
     let indices = [0usize, 1, 2, 0, 1, 2, 0, 1, 2, 0, 1, 2];
     for (arguments, first, count) in [
         (["rows"].as_slice(), 0usize, 12usize),
-        (["rows", "2", "7"].as_slice(), 2, 7),
-        (["rows", "2", "8"].as_slice(), 2, 8),
+        (["slice", "2", "7"].as_slice(), 2, 7),
+        (["slice", "2", "8"].as_slice(), 2, 8),
         (["cut", "3", "9"].as_slice(), 3, 9),
     ] {
         let batch = batch(alloc, &ids, &names).expect(&rt, "a batch");
@@ -238,7 +238,7 @@ fn requests_of_record_batches_are_printed(rt: HostRuntime) -> Result<(), Fail> {
             "{\"id\":1,\"name\":\"a\"}\n{\"id\":2,\"name\":null}\n{\"id\":-3,\"name\":\"\\\"c\\\"\"}\n",
         ),
         (
-            ["rows", "1", "2"].as_slice(),
+            ["slice", "1", "2"].as_slice(),
             "{\"id\":2,\"name\":null}\n{\"id\":-3,\"name\":\"\\\"c\\\"\"}\n",
         ),
         (
@@ -386,13 +386,13 @@ fn rows_of_samples_are_printed(rt: HostRuntime) -> Result<(), Fail> {
             ["rows"].as_slice(),
             "{\"a\":1,\"b\":\"a\"}\n{\"a\":null,\"b\":\"b\"}\n{\"a\":3,\"b\":null}\n",
         ),
-        (["rows", "0", "1"].as_slice(), "{\"a\":1,\"b\":\"a\"}\n"),
+        (["slice", "0", "1"].as_slice(), "{\"a\":1,\"b\":\"a\"}\n"),
         (
-            ["rows", "1", "18446744073709551615"].as_slice(),
+            ["slice", "1", "18446744073709551615"].as_slice(),
             "{\"a\":null,\"b\":\"b\"}\n{\"a\":3,\"b\":null}\n",
         ),
-        (["rows", "3", "1"].as_slice(), ""),
-        (["rows", "0", "0"].as_slice(), ""),
+        (["slice", "3", "1"].as_slice(), ""),
+        (["slice", "0", "0"].as_slice(), ""),
         (
             ["take", "2", "0", "2"].as_slice(),
             "{\"a\":3,\"b\":null}\n{\"a\":1,\"b\":\"a\"}\n{\"a\":3,\"b\":null}\n",

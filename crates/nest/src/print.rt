@@ -1,0 +1,96 @@
+//! The commands that print: `schema`, `equal`, and those that select rows, without an output.
+use crate::input::open_input;
+use crate::messages::{InputError, print_comparison, report, report_input};
+use crate::output::StandardOutput;
+use crate::take::print_taken;
+use cli_args::{Request, Selection};
+use cli_read::compare;
+use cli_rows::in_row_order;
+use ipc_schema::Projection;
+use std::io;
+use std::io::Write;
+use std::process::ExitCode;
+
+/// Prints rows. Those in row order are printed as they are read.
+fn print_selection<W: Write>(
+    rt: &HostRuntime,
+    columns: Projection<'_>,
+    file: &str,
+    selection: Selection,
+    out: &mut W,
+) -> Result<(), InputError> {
+    match in_row_order(selection) {
+        Err(indices) => print_taken(rt, columns, file, &indices, out),
+        Ok(selection) => match open_input(rt, file) {
+            Err(error) => {
+                drop(selection);
+                Err(InputError::Open(error))
+            }
+            Ok(input) => {
+                let request = Request::Rows(selection);
+                cli_read::print(rt.alloc(), columns, request, input, out)?;
+                Ok(())
+            }
+        },
+    }
+}
+
+fn print_fields<W: Write>(
+    rt: &HostRuntime,
+    columns: Projection<'_>,
+    file: &str,
+    out: &mut W,
+) -> Result<(), InputError> {
+    let input = open_input(rt, file)?;
+    cli_read::print(rt.alloc(), columns, Request::Columns, input, out)?;
+    Ok(())
+}
+
+/// Reports the result of printing. If nothing reads standard output any more, that is no error.
+fn report_printed<W>(
+    rt: &HostRuntime,
+    file: &str,
+    printed: Result<(), InputError>,
+    out: &StandardOutput<W>,
+) -> ExitCode {
+    match printed {
+        Err(error) if !out.is_closed() => report_input(rt, file, error),
+        _ => ExitCode::SUCCESS,
+    }
+}
+
+/// Prints the selected rows of a file.
+pub fn print_rows(
+    rt: &HostRuntime,
+    columns: Projection<'_>,
+    file: &str,
+    selection: Selection,
+) -> ExitCode {
+    let mut out = StandardOutput::new(io::writer(rt));
+    let printed = print_selection(rt, columns, file, selection, &mut out);
+    report_printed(rt, file, printed, &out)
+}
+
+/// Prints the schema of a file.
+pub fn print_schema(rt: &HostRuntime, columns: Projection<'_>, file: &str) -> ExitCode {
+    let mut out = StandardOutput::new(io::writer(rt));
+    let printed = print_fields(rt, columns, file, &mut out);
+    report_printed(rt, file, printed, &out)
+}
+
+/// Compares two files.
+pub fn equal(rt: &HostRuntime, columns: Projection<'_>, file: &str, other: &str) -> ExitCode {
+    match open_input(rt, file) {
+        Err(error) => report(rt, file, &error),
+        Ok(left) => match open_input(rt, other) {
+            Err(error) => {
+                drop(left);
+                report(rt, other, &error)
+            }
+            Ok(right) => {
+                let compared = compare(rt.alloc(), columns, left, right);
+                print_comparison(rt, (file, other), compared)
+            }
+        },
+    }
+}
