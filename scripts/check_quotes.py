@@ -10,7 +10,8 @@ The line before a quote is a comment that names its source:
     <!-- crates/x/src/y.rt -->         of a Rust block: the whole file; of any other: consecutive lines of it
 
 A Rust block without such a line is an error. A console block needs none: each of its commands has to call a program of PROGRAMS, whose
-script runs it by --run, and to write exactly what the block shows. Run it at the top of the repository."""
+script runs it by --run, and to write exactly what the block shows. A line of an indented block that begins with `nest` has to end in the
+text that the help has of a command. Run it at the top of the repository."""
 import difflib
 import os
 import re
@@ -21,6 +22,8 @@ import sys
 PAGES = ["docs/GUIDE.md", "docs/CLI.md", "README.md"]
 # The programs that the pages call, and the script that runs these calls.
 PROGRAMS = {"nest": "scripts/try_nest.sh", "listcut": "scripts/try_listcut.sh"}
+# The file with what `nest --help` says of each command.
+HELP = "crates/cli_args/src/command_line.rt"
 BLOCK = re.compile(r"(?P<before>[^\n]*)\n```(?P<language>\w+)\n(?P<text>.*?)```", re.S)
 NOTE = re.compile(r"<!-- (?P<file>[^ :]+)(?::(?P<items>[^>]*))? -->$")
 COMMAND = re.compile(r"^\$ (.*)\n((?:(?!\$ ).*\n)*)", re.M)
@@ -75,6 +78,14 @@ def console_errors(text):
     return [f"no script runs this: {command}" for command, _ in COMMAND.findall(text) if not called(command)]
 
 
+def usage_errors(page):
+    """Returns an error message for each line of an indented block that begins with `nest` and ends in no text of a command."""
+    abouts = re.findall(r'let about = "(.*)";|\.about\("(.*)"\)', read(HELP))
+    texts = {it for pair in abouts for it in pair}
+    lines = re.findall(r"^    nest .*?\S  +(\S.*)$", read(page), re.M)
+    return [f"{page}: not in the help of nest: {it}" for it in lines if it not in texts]
+
+
 def difference(page, block):
     """Returns the lines of a diff or of an error message, and the text that the block must have."""
     note, language, text = NOTE.match(block["before"]), block["language"], block["text"]
@@ -105,6 +116,9 @@ def check(page, write):
         return f"{block['before']}\n```{block['language']}\n{wanted if replaced else block['text']}```"
 
     text = BLOCK.sub(replacement, source)
+    for line in usage_errors(page):
+        count += 1
+        print(line)
     if text != source:
         with open(page, "w", encoding="utf-8") as file:
             file.write(text)
