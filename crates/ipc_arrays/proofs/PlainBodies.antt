@@ -9,7 +9,8 @@ use Rattle.ipc_arrays.specs.declared.compression.codec.CompressionCodec.{Compres
 use Rattle.ipc_arrays.specs.declared.compression.error.CompressionError.{CompressionError}
 use Rattle.ipc_arrays.specs.CompressionResults.{◌>>=◌, FailsOrRunsOut}
 use Rattle.ipc_arrays.specs.CompressedBuffers.{appended}
-use Rattle.ipc_arrays.specs.PlainBodies.{buffer_slice, padded, body_of, buffer_spec, buffer_specs, laid_out, is_needed_at, decompressed_buffer, decompressed_buffers, spec_plain_body, DecodesEachBuffer}
+use Rattle.ipc_arrays.specs.BodyBuffers.{padded, body_of, buffer_specs}
+use Rattle.ipc_arrays.specs.PlainBodies.{buffer_slice, buffer_spec, laid_out, is_needed_at, decompressed_buffer, decompressed_buffers, spec_plain_body, DecodesEachBuffer}
 use Rattle.ipc_arrays.specs.PlainBodyLaws.{body_push, specs_push, first_is, others_are}
 
 -- ---- one buffer

@@ -2,7 +2,8 @@
 use Rattle.std.specs.Prelude.{◌≡◌, ℕ, ◌+◌, Bool, List, [], ◌∷◌, Ok, if◌then◌else◌}
 use Rattle.ipc_arrays.specs.declared.compression.codec.CompressionCodec.{CompressionCodec}
 use Rattle.ipc_arrays.specs.CompressedBuffers.{decompressed}
-use Rattle.ipc_arrays.specs.PlainBodies.{body_of, buffer_specs, is_needed_at, spec_plain_body}
+use Rattle.ipc_arrays.specs.BodyBuffers.{body_of, buffer_specs}
+use Rattle.ipc_arrays.specs.PlainBodies.{is_needed_at, spec_plain_body}
 
 -- each buffer decodes to the content at its index
 abbrev pub AreDecodedTo : CompressionCodec → List (List ℕ) → List (List ℕ) → Type 0

@@ -1,11 +1,10 @@
 -- The plain body of a compressed body: what its buffers decode to, one after the other (Columnar format, RecordBatch message).
 use Rattle.std.specs.Prelude.{◌≡◌, ℕ, ◌+◌, ℤ, pos, negsuc, Bool, true, false, List, [], ◌∷◌, ◌++◌, length, take, drop, slice_get, slice_index_or, Some, Result, Ok, Err, nat_le, if◌then◌else◌}
-use Rattle.std.specs.List.{flat_map}
-use Rattle.ipc_flatbuf.specs.MessageBytes.{padding}
 use Rattle.ipc_flatbuf.specs.declared.batch.parts.BufferSpec.{BufferSpec}
 use Rattle.ipc_arrays.specs.declared.compression.codec.CompressionCodec.{CompressionCodec}
 use Rattle.ipc_arrays.specs.declared.compression.error.CompressionError.{CompressionError}
 use Rattle.ipc_arrays.specs.declared.compression.error.CompressionError.TheVariants.{BufferRange}
+use Rattle.ipc_arrays.specs.BodyBuffers.{padded, body_of, buffer_specs}
 use Rattle.ipc_arrays.specs.CompressionResults.{◌>>=◌}
 use Rattle.ipc_arrays.specs.CompressedBuffers.{decompressed}
 
@@ -17,22 +16,9 @@ buffer_slice body offset (negsuc size) = Err BufferRange
 
 -- ---- a body without compression
 
--- a buffer, padded with zeros to a multiple of 8 bytes
-unfoldable pub padded : List ℕ → List ℕ
-padded bytes = bytes ++ padding (length bytes)
-
--- the body of these buffers
-unfoldable pub body_of : List (List ℕ) → List ℕ
-body_of buffers = flat_map padded buffers
-
 -- a buffer at an offset
 abbrev pub buffer_spec : ℕ → List ℕ → BufferSpec
 buffer_spec offset bytes = record { offset = pos offset; length = pos (length bytes) }
-
--- the offsets and lengths of buffers, the first at an offset
-unfoldable pub buffer_specs : ℕ → List (List ℕ) → List BufferSpec
-buffer_specs offset [] = []
-buffer_specs offset (bytes ∷ buffers) = buffer_spec offset bytes ∷ buffer_specs (offset + length (padded bytes)) buffers
 
 -- the next buffer of a body, and the body with it at its end
 abbrev pub laid_out : List ℕ → Result (List ℕ) CompressionError → Result (BufferSpec × List ℕ) CompressionError
