@@ -12,7 +12,7 @@ use Rattle.nest_model.specs.Layout.{Layouts, count_layouts, layout_type, more_la
 use Rattle.nest_model.specs.Meaning.{first_len, len}
 use Rattle.nest_array.specs.Seen.{layout_of, layouts_of}
 use Rattle.nest_array.specs.declared.any.AnyArray.{AnyArray}
-use Rattle.nest_columns.specs.Columns.{ColumnsError, ColumnsFit, column_fields}
+use Rattle.nest_array.specs.Columns.{ColumnsError, ColumnsFit, column_fields}
 use Rattle.ipc_schema.specs.Schemas.{schema_of}
 use Rattle.ipc_schema.specs.TypeLaws.{list_back}
 use Rattle.ipc_schema.specs.Types.{field_list}

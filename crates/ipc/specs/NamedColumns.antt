@@ -8,7 +8,7 @@ use Rattle.nest_model.specs.Checks.{Checks, FailFirst, Pass, check, done}
 use Rattle.nest_model.specs.Fits.{EachLen}
 use Rattle.nest_model.specs.Layout.{Layout, Layouts, count_layouts, more_layouts, no_layouts}
 use Rattle.nest_model.specs.Meaning.{first_len}
-use Rattle.nest_columns.specs.Columns.{column_fields}
+use Rattle.nest_array.specs.Columns.{column_fields}
 use Rattle.ipc_schema.specs.Schemas.{SchemaModel}
 use Rattle.ipc_schema.specs.Types.{field_list}
 use Rattle.ipc.specs.Streams.{RecordBatchTree}

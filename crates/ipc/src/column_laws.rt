@@ -7,8 +7,8 @@ ghost use Rattle.nest_memory.specs.declared.error.Error.TheVariants.{Memory, Out
 ghost use Rattle.nest_memory.specs.declared.error.SpecError.TheVariants as spec;
 ghost use Rattle.nest_model.specs.Examples.{both, ints, three_ints, two_texts};
 ghost use Rattle.nest_model.specs.Layout.{Layouts, count_layouts, no_layouts};
-ghost use Rattle.nest_columns.specs.Columns.{ColumnsError, ColumnsFit};
-ghost use Rattle.nest_columns.specs.Examples.{name_and_age};
+ghost use Rattle.nest_array.specs.Columns.{ColumnsError, ColumnsFit};
+ghost use Rattle.nest_array.specs.ColumnExamples.{name_and_age};
 ghost use Rattle.ipc.specs.EncodedStreams.{spec_are_columns};
 ghost use Rattle.ipc.specs.NamedColumns.{BatchError, BatchFits, RefusesBatch, columns_batch, columns_schema};
 

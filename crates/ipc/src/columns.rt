@@ -9,8 +9,8 @@ ghost use Rattle.ipc.specs.NamedColumns.{BatchError, BatchFits, RefusesBatch, co
 use crate::batch::Batch;
 use ipc_schema::Schema;
 use nest_array::any::AnyArray;
+use nest_array::nullable_fields;
 use nest_array::struct_::have_len;
-use nest_columns::nullable_fields;
 use nest_memory::error::{Error, SpecError};
 use std::alloc::Global;
 use std::collections::BTreeMap;

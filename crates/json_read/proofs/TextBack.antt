@@ -7,7 +7,7 @@ use Rattle.std.proofs.lemmas.Slice.Eq.{bytes_eq-Decides}
 use Rattle.std.specs.Int.Signed.{mag}
 use Rattle.std.specs.Option.{option_map}
 use Rattle.std.proofs.Math.IntN.{+ℤ_idr}
-use Rattle.value_text.proofs.Signed.{signed}
+use Rattle.json_write.proofs.Signed.{signed}
 use Rattle.json_read.specs.TextNumbers.{first_of, first_result, numbers_that, is_text, numbers_of_text}
 use Rattle.json_write.proofs.OneText.{one-text, count-told}
 use Rattle.json_write.specs.Formats.{text_of_numbers, numbers_count}

@@ -22,10 +22,10 @@ use Rattle.json_write.specs.declared.format.ValueFormat.{ValueFormat}
 use Rattle.json_write.specs.declared.format.ValueFormat.TheVariants.{Decimal, Date, MillisecondDate, Time, Timestamp, Duration, Months, DaysMs, MonthDayNano}
 use Rattle.nest_memory.specs.declared.datatypes.TimeUnit.{TimeUnit}
 use Rattle.nest_memory.specs.declared.datatypes.physical_type.PrimitiveType.TheVariants as primitive
-use Rattle.value_text.specs.Decimals.{decimal_text}
-use Rattle.value_text.specs.Times.{unit_digits, date_text, millisecond_date_text, is_time_of_day, time_text, timestamp_text, duration_text, months_text, days_ms_text, month_day_nano_text}
+use Rattle.json_write.specs.Decimals.{decimal_text}
+use Rattle.json_write.specs.Times.{unit_digits, date_text, millisecond_date_text, is_time_of_day, time_text, timestamp_text, duration_text, months_text, days_ms_text, month_day_nano_text}
 use Rattle.nest_memory.specs.declared.datatypes.physical_type.PrimitiveType.{PrimitiveType}
-use Rattle.value_text.specs.Reading.{IsParsed}
+use Rattle.json_write.specs.Reading.{IsParsed}
 
 -- no numbers in the ranges have the text
 invalid-in : (v : ValueFormat) (zs : List ℤ) (b : Bool) → (b ≡ true → ⊥) → first_error (error_unless b InvalidText) (error_unless (is_within_precision v zs) PrecisionExceeded) ≡ Some InvalidText

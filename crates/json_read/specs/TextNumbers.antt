@@ -1,7 +1,7 @@
 -- The numbers of a native value from its text: those that have this text.
 use Rattle.std.specs.Prelude.{ℕ, zero, suc, ◌^◌, ℤ, pos, neg_ℤ, ◌+ℤ◌, unsigned_abs, Bool, true, false, nat_lt, bytes_eq, List, [], ◌∷◌, Option, Some, None, if◌then◌else◌}
 use Rattle.std.specs.Option.{option_map}
-use Rattle.value_text.specs.Decimals.{decimal_text}
+use Rattle.json_write.specs.Decimals.{decimal_text}
 use Rattle.json_write.specs.Formats.{text_of_numbers, numbers_count}
 use Rattle.json_write.specs.declared.format.ValueFormat.{ValueFormat}
 use Rattle.json_write.specs.declared.format.ValueFormat.TheVariants.{Decimal}

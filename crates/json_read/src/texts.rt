@@ -7,8 +7,8 @@ ghost use Rattle.json_read.specs.NativeNumbers.{ReadsValue};
 ghost use Rattle.json_read.specs.declared.value_error.ValueError.TheVariants.{InvalidText};
 ghost use Rattle.json_write.specs.Formats.{has_format};
 ghost use Rattle.nest_flat.specs.declared.any_native.AnyNative.TheVariants as native;
-ghost use Rattle.value_text.specs.Reading.{IsParsed};
-ghost use Rattle.value_text.specs.Times.{date_text, is_time_of_day, time_text, unit_digits};
+ghost use Rattle.json_write.specs.Reading.{IsParsed};
+ghost use Rattle.json_write.specs.Times.{date_text, is_time_of_day, time_text, unit_digits};
 ghost use Rattle.nest_memory.specs.declared.datatypes.physical_type.PrimitiveType.TheVariants.{DaysMs, Int128, Int32, Int64, MonthDayNano};
 
 use crate::numbers::native_of;
@@ -18,11 +18,13 @@ use crate::text_numbers::{
 use crate::value_error::ValueError;
 use json::Value;
 use json_write::ValueFormat;
+use json_write::value_text::{
+    is_time, parse_date, parse_millisecond_date, parse_time, parse_timestamp,
+};
 use nest_flat::any_native::AnyNative;
 use nest_memory::datatypes::TimeUnit;
 use nest_memory::datatypes::physical_type::PrimitiveType;
 use nest_memory::types::{days_ms, months_days_ns};
-use value_text::{is_time, parse_date, parse_millisecond_date, parse_time, parse_timestamp};
 
 /// Returns the native value of a JSON value.
 ///

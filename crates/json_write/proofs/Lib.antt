@@ -1,3 +1,13 @@
+pub mod Signed
+pub mod Months
+pub mod Years
+pub mod Days
+pub mod DigitFacts
+pub mod DecimalFacts
+pub mod TimeFacts
+pub mod ReadingFacts
+pub mod TimeReadingFacts
+pub mod TimeResults
 mod MemberPrefixes
 mod NativeValues
 mod Nesting

@@ -11,8 +11,8 @@ use Rattle.nest_memory.specs.declared.datatypes.physical_type.PrimitiveType.TheV
 use Rattle.json_write.specs.Formats.{has_format, text_in, text_of_numbers}
 use Rattle.json_write.specs.declared.format.ValueFormat.{ValueFormat}
 use Rattle.json_write.specs.declared.format.ValueFormat.TheVariants.{Number, Decimal, Date, MillisecondDate, Time, Timestamp, Duration, Months, DaysMs, MonthDayNano}
-use Rattle.value_text.specs.Decimals.{decimal_text}
-use Rattle.value_text.specs.Times.{days_ms_text, month_day_nano_text}
+use Rattle.json_write.specs.Decimals.{decimal_text}
+use Rattle.json_write.specs.Times.{days_ms_text, month_day_nano_text}
 
 -- all values of a format but numbers and times are text
 pub always-text : (v : ValueFormat) (x : AnyNative) → has_format (native_kind x) v ≡ true → (v ≡ Number → ⊥) → ((u : TimeUnit) → v ≡ Time u → ⊥) → true ≡ is_some (text_of_numbers v (native_numbers x))

@@ -6,9 +6,9 @@ use Rattle.std.proofs.lemmas.Option.{same_Some}
 use Rattle.json_write.specs.Formats.{text_of_numbers, numbers_count}
 use Rattle.json_write.specs.declared.format.ValueFormat.{ValueFormat}
 use Rattle.json_write.specs.declared.format.ValueFormat.TheVariants.{Number, Decimal, Date, MillisecondDate, Time, Timestamp, Duration, Months, DaysMs, MonthDayNano}
-use Rattle.value_text.proofs.DecimalFacts.{decimal_injective}
-use Rattle.value_text.proofs.TimeFacts.{date_injective, millisecond_date_injective, time_injective, timestamp_injective, duration_injective, months_injective, days_ms_injective, month_day_nano_injective}
-use Rattle.value_text.specs.Times.{unit_digits, is_time_of_day, time_text}
+use Rattle.json_write.proofs.DecimalFacts.{decimal_injective}
+use Rattle.json_write.proofs.TimeFacts.{date_injective, millisecond_date_injective, time_injective, timestamp_injective, duration_injective, months_injective, days_ms_injective, month_day_nano_injective}
+use Rattle.json_write.specs.Times.{unit_digits, is_time_of_day, time_text}
 
 no-text : (a : List ℕ) → None ≡ Some a → ⊥
 no-text a e = false≢true (ap is_some e)

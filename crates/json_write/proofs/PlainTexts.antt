@@ -13,11 +13,11 @@ use Rattle.json_write.specs.Formats.{text_of_numbers, text_in}
 use Rattle.json_write.specs.JsonText.{json_of_value, string_or_numbers}
 use Rattle.json_write.specs.declared.format.ValueFormat.{ValueFormat}
 use Rattle.json_write.specs.declared.format.ValueFormat.TheVariants.{Number, Decimal, Date, MillisecondDate, Time, Timestamp, Duration, Months, DaysMs, MonthDayNano}
-use Rattle.value_text.specs.Calendar.{date_of}
-use Rattle.value_text.specs.Decimals.{decimal_text}
-use Rattle.value_text.specs.Digits.{digit, number_text, integer_text, last_digits, at_least, fraction_text}
-use Rattle.value_text.specs.Times.{year_text, calendar_text, date_text, clock_text, is_time_of_day, time_text, zone_text, timestamp_text, millisecond_date_text, duration_text, months_text, days_text, days_ms_text, month_day_nano_text, unit_digits, whole_seconds, subseconds}
-use Rattle.value_text.specs.declared.calendar.Date.{Date as CalendarDate}
+use Rattle.json_write.specs.Calendar.{date_of}
+use Rattle.json_write.specs.Decimals.{decimal_text}
+use Rattle.json_write.specs.Digits.{digit, number_text, integer_text, last_digits, at_least, fraction_text}
+use Rattle.json_write.specs.Times.{year_text, calendar_text, date_text, clock_text, is_time_of_day, time_text, zone_text, timestamp_text, millisecond_date_text, duration_text, months_text, days_text, days_ms_text, month_day_nano_text, unit_digits, whole_seconds, subseconds}
+use Rattle.json_write.specs.declared.value_text.calendar.Date.{Date as CalendarDate}
 
 abbrev IsPlain : List ℕ → Type 0
 IsPlain [] = Unit {0}

@@ -6,8 +6,8 @@ use Rattle.nest_memory.specs.declared.datatypes.IntervalUnit.{IntervalUnit}
 use Rattle.nest_memory.specs.declared.datatypes.IntervalUnit.TheVariants as interval
 use Rattle.nest_memory.specs.declared.datatypes.physical_type.PrimitiveType.{PrimitiveType}
 use Rattle.nest_memory.specs.declared.datatypes.physical_type.PrimitiveType.TheVariants as primitive
-use Rattle.value_text.specs.Decimals.{decimal_text}
-use Rattle.value_text.specs.Times.{unit_digits, date_text, millisecond_date_text, is_time_of_day, time_text, timestamp_text, duration_text, months_text, days_ms_text, month_day_nano_text}
+use Rattle.json_write.specs.Decimals.{decimal_text}
+use Rattle.json_write.specs.Times.{unit_digits, date_text, millisecond_date_text, is_time_of_day, time_text, timestamp_text, duration_text, months_text, days_ms_text, month_day_nano_text}
 use Rattle.json_write.specs.declared.format.ValueFormat.{ValueFormat}
 use Rattle.json_write.specs.declared.format.ValueFormat.TheVariants.{Number, Decimal, Date, MillisecondDate, Time, Timestamp, Duration, Months, DaysMs, MonthDayNano}
 

@@ -14,6 +14,7 @@ mod quoting;
 mod scalar;
 pub mod struct_rows;
 pub mod traits;
+pub mod value_text;
 
 pub use display::Json;
 pub use format::ValueFormat;

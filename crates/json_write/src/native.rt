@@ -8,13 +8,13 @@ ghost use Rattle.json_write.specs.JsonText.{json_of_value};
 
 use crate::flat::write_number;
 use crate::format::ValueFormat;
-use nest_flat::any_native::AnyNative;
-use std::fmt;
-use std::fmt::Formatter;
-use value_text::{
+use crate::value_text::{
     is_time, write_date, write_days_ms, write_decimal, write_duration, write_millisecond_date,
     write_month_day_nano, write_months, write_time, write_timestamp,
 };
+use nest_flat::any_native::AnyNative;
+use std::fmt;
+use std::fmt::Formatter;
 
 /// Writes a value: as a JSON string, or as numbers.
 #[inline(always)]

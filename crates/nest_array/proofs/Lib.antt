@@ -20,3 +20,5 @@ pub mod UnionChecks
 pub mod Windows
 pub mod NullErrors
 pub mod NullMakes
+pub mod ColumnChecks
+pub mod MadeFields

@@ -25,3 +25,6 @@ pub mod Types
 pub mod WindowParts
 pub mod Words
 pub mod Downcasts
+pub mod Columns
+pub mod Entries
+pub mod ColumnExamples

@@ -7,6 +7,7 @@
 pub mod any;
 pub mod array;
 pub mod boxed;
+pub mod columns;
 pub mod dictionary;
 mod downcasts;
 pub mod equal;
@@ -27,6 +28,7 @@ pub mod window;
 pub use any::{AnyArray, clone};
 pub use array::Array;
 pub use boxed::Boxed;
+pub use columns::{map_of_entries, nullable_fields, struct_of_columns};
 pub use dictionary::DictionaryArray;
 pub use dictionary::keys::{AnyKeys, DictionaryKey};
 pub use fixed_size_binary::FixedSizeBinaryArray;

@@ -1,9 +1,8 @@
 //! The iterators of arrays, bitmaps and builders, struct and map arrays of columns, and the function `clone` of arrow2's module of this name.
-pub use nest_array::{Steps, clone};
+pub use nest_array::{Steps, clone, map_of_entries, struct_of_columns};
 pub use nest_build::fixed_size_binary::{
     MutableFixedSizeBinaryIter, MutableFixedSizeBinaryValuesIter,
 };
-pub use nest_columns::{map_of_entries, struct_of_columns};
 pub use nest_flat::binary::iterator::{BinaryIter, BinaryValuesIter};
 pub use nest_flat::boolean::iterator::{BooleanIter, BooleanValuesIter};
 pub use nest_flat::iterator::{SlotItems, SlotsIter};

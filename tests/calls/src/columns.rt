@@ -1,4 +1,4 @@
-//! Tests of `nest_columns`: struct and map arrays are equal to those whose fields and data types are made one by one.
+//! Tests of `nest_array::columns`: struct and map arrays are equal to those whose fields and data types are made one by one.
 
 mod entries;
 mod structs;

@@ -1,8 +1,7 @@
 //! Schemas and record batches of named columns.
 use ipc::{Batch, batch_of_columns, read_stream, write_stream};
 use ipc_schema::Schema;
-use nest_array::{AnyArray, Boxed};
-use nest_columns::nullable_fields;
+use nest_array::{AnyArray, Boxed, nullable_fields};
 use nest_flat::primitive::PrimitiveArray;
 use nest_flat::utf8::Utf8Array;
 use nest_memory::datatypes::{DataType, Field};

@@ -1,15 +1,15 @@
 //! Texts of single values, and values read from texts. The dates and timestamps are those of Python's `datetime` and of NumPy.
+use json_write::value_text::{
+    is_time, parse_date, parse_millisecond_date, parse_time, parse_timestamp, write_date,
+    write_days_ms, write_decimal, write_decimal_digits, write_duration, write_millisecond_date,
+    write_month_day_nano, write_months, write_time, write_timestamp,
+};
 use nest_memory::datatypes::TimeUnit;
 use std::alloc::Global;
 use std::fmt;
 use std::fmt::{Display, Formatter};
 use std::process::Abort;
 use std::test::*;
-use value_text::{
-    is_time, parse_date, parse_millisecond_date, parse_time, parse_timestamp, write_date,
-    write_days_ms, write_decimal, write_decimal_digits, write_duration, write_millisecond_date,
-    write_month_day_nano, write_months, write_time, write_timestamp,
-};
 
 /// A value of each kind that has a text.
 #[derive(Clone, Copy, Debug)]

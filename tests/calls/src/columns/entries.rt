@@ -1,8 +1,7 @@
 //! Map arrays of keys and values.
 use super::{numbers, strings, strings_and_numbers};
 use json_write::Json;
-use nest_array::{Array, MapArray, StructArray};
-use nest_columns::map_of_entries;
+use nest_array::{Array, MapArray, StructArray, map_of_entries};
 use nest_memory::datatypes::DataType;
 use nest_memory::datatypes::field::Field;
 use nest_memory::error::{Error, SpecError};

@@ -1,8 +1,7 @@
 //! Struct arrays of columns.
 use super::{numbers, strings_and_numbers};
 use json_write::Json;
-use nest_array::{AnyArray, Array, StructArray};
-use nest_columns::struct_of_columns;
+use nest_array::{AnyArray, Array, StructArray, struct_of_columns};
 use nest_memory::datatypes::DataType;
 use nest_memory::datatypes::field::Field;
 use nest_memory::error::{Error, SpecError};

@@ -2,8 +2,8 @@ use Rattle.std.specs.Prelude.{map}
 use Rattle.std.proofs.Common.{◌≡◌, length, sym, ◌∙◌, ap, subst, rules}
 use Rattle.nest_array.specs.Seen.{layouts_of}
 use Rattle.nest_model.specs.Meaning.{first_len}
-use Rattle.nest_columns.proofs.MadeFields.{names-count-back}
-use Rattle.nest_columns.specs.Columns.{column_fields}
+use Rattle.nest_array.proofs.MadeFields.{names-count-back}
+use Rattle.nest_array.specs.Columns.{column_fields}
 use Rattle.ipc.specs.NamedColumns.{BatchFits}
 use Rattle.ipc.proofs.NamedColumns.{batch-is, schema-is}
 use Rattle.ipc.proofs.columns.batch_of_columns.Goals as goal

@@ -1,7 +1,7 @@
 use Rattle.std.proofs.Common.{◌≡◌, true, false, sym, ◌∙◌, subst, rules}
 use Rattle.nest_model.specs.Fits.{EachLen}
 use Rattle.nest_array.specs.Seen.{layouts_of}
-use Rattle.nest_columns.proofs.MadeFields.{names-count, names-count-back}
+use Rattle.nest_array.proofs.MadeFields.{names-count, names-count-back}
 use Rattle.ipc.proofs.columns.first_error.Goals as goal
 
 pub returns-then-names-columns : goal.returns-then-names-columns

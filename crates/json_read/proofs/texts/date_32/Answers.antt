@@ -1,7 +1,7 @@
 use Rattle.std.proofs.Common.{FitsSigned, subst, w32}
 use Rattle.std.specs.Option.{SomeIff}
-use Rattle.value_text.specs.Times.{date_text}
-use Rattle.value_text.proofs.TimeFacts.{date_injective}
+use Rattle.json_write.specs.Times.{date_text}
+use Rattle.json_write.proofs.TimeFacts.{date_injective}
 use Rattle.json_read.proofs.NumberReading.{back-64, day-fits, narrow-result}
 use Rattle.json_read.proofs.texts.date_32.Goals as goal
 

@@ -8,7 +8,7 @@ use Rattle.json_read.proofs.NumberReading.{back-128}
 use Rattle.json_read.proofs.TextResults.{both, decimal-format, in-128, one-none, one-some, short-128, text-precise}
 use Rattle.json_write.specs.declared.format.ValueFormat.TheVariants.{Decimal}
 use Rattle.nest_memory.specs.declared.datatypes.physical_type.PrimitiveType.TheVariants.{Int128}
-use Rattle.value_text.specs.Decimals.{decimal_text}
+use Rattle.json_write.specs.Decimals.{decimal_text}
 use Rattle.json_read.proofs.texts.decimal_of.Goals as goal
 
 pub returns-in-None : goal.returns-in-None

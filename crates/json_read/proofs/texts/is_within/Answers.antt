@@ -1,6 +1,6 @@
 use Rattle.std.proofs.Common.{◌<◌, ◌≤◌, ◌^◌, unsigned_abs, arith}
 use Rattle.std.proofs.lemmas.Bool.Decides.{nat_tests}
-use Rattle.value_text.proofs.ReadingFacts.{ten_order}
+use Rattle.json_write.proofs.ReadingFacts.{ten_order}
 use Rattle.json_read.proofs.NumberReading.{magnitude}
 use Rattle.json_read.proofs.texts.is_within.Goals as goal
 

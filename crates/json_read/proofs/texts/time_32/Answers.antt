@@ -1,7 +1,7 @@
 use Rattle.std.proofs.Common.{FitsSigned, IsTrue, subst, w32}
 use Rattle.std.specs.Option.{SomeIff}
-use Rattle.value_text.specs.Times.{is_time_of_day, time_text, unit_digits}
-use Rattle.value_text.proofs.TimeFacts.{time_injective}
+use Rattle.json_write.specs.Times.{is_time_of_day, time_text, unit_digits}
+use Rattle.json_write.proofs.TimeFacts.{time_injective}
 use Rattle.json_read.proofs.NumberReading.{back-64, narrow-such}
 use Rattle.json_read.proofs.texts.time_32.Goals as goal
 

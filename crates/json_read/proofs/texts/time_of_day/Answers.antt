@@ -1,7 +1,7 @@
 use Rattle.std.proofs.Common.{◌≡◌, IsTrue, false, sym, ap, ◌∙◌, subst}
 use Rattle.std.proofs.lemmas.Bool.{false≢true}
-use Rattle.value_text.specs.Times.{is_time_of_day, unit_digits}
-use Rattle.value_text.proofs.TimeFacts.{time_injective}
+use Rattle.json_write.specs.Times.{is_time_of_day, unit_digits}
+use Rattle.json_write.proofs.TimeFacts.{time_injective}
 use Rattle.json_read.proofs.NumberReading.{back-64}
 use Rattle.json_read.proofs.texts.time_of_day.Goals as goal
 

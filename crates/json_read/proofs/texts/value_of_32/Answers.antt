@@ -6,7 +6,7 @@ use Rattle.json_read.proofs.TextResults.{IsTimeIn, date-format, months-format, t
 use Rattle.json_write.specs.declared.format.ValueFormat.TheVariants as format
 use Rattle.nest_flat.specs.declared.any_native.AnyNative.TheVariants as native
 use Rattle.nest_memory.specs.declared.datatypes.physical_type.PrimitiveType.TheVariants as primitive
-use Rattle.value_text.specs.Times.{date_text, months_text, time_text, unit_digits}
+use Rattle.json_write.specs.Times.{date_text, months_text, time_text, unit_digits}
 use Rattle.json_read.proofs.texts.value_of_32.Goals as goal
 
 pub returns-in-Date : goal.returns-in-Date

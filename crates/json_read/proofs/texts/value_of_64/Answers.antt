@@ -6,7 +6,7 @@ use Rattle.json_read.proofs.TextResults.{IsTimeIn, duration-format, milliseconds
 use Rattle.json_write.specs.declared.format.ValueFormat.TheVariants as format
 use Rattle.nest_flat.specs.declared.any_native.AnyNative.TheVariants as native
 use Rattle.nest_memory.specs.declared.datatypes.physical_type.PrimitiveType.TheVariants as primitive
-use Rattle.value_text.specs.Times.{duration_text, millisecond_date_text, time_text, timestamp_text, unit_digits}
+use Rattle.json_write.specs.Times.{duration_text, millisecond_date_text, time_text, timestamp_text, unit_digits}
 use Rattle.json_read.proofs.texts.value_of_64.Goals as goal
 
 pub returns-in-MillisecondDate : goal.returns-in-MillisecondDate

@@ -1,2 +1,0 @@
-pub mod Errors
-pub mod MadeFields

@@ -1,4 +1,0 @@
-pub mod Columns
-pub mod Entries
-pub mod Examples
-pub mod Words

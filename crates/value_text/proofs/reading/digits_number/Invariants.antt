@@ -1,6 +1,0 @@
-use Rattle.std.proofs.Common.{◌≡◌, ◌^◌, ◌<◌, take}
-use Rattle.value_text.specs.Digits.{last_digits}
-use Rattle.value_text.proofs.reading.digits_number.Given as goal
-
-abbrev pub invariant-scan : goal.invariant-scan
-invariant-scan l = (l.number < 10 ^ l.digit-index) × (take l.digit-index l.digits ≡ last_digits l.digit-index l.number)
