@@ -14,8 +14,7 @@ ghost use Rattle.nest_model.specs.Layout.{layout_type};
 ghost use Rattle.nest_model.specs.Meaning.{len, slot, slots_of};
 ghost use Rattle.nest_model.specs.Nullness.{has_keys, is_null_at, null_count};
 ghost use Rattle.nest_model.specs.Slot as slots;
-ghost use Rattle.nest_array.specs.Downcasts.{IsDowncast};
-ghost use Rattle.promises_arrays.specs.Conversions.{kind_of};
+ghost use Rattle.nest_array.specs.Downcasts.{HasKind, IsDowncast};
 ghost use Rattle.promises_arrays.specs.Validities.{IsUnderValidity, SetsValidity};
 
 use nest_array::{AnyArray, Array};
@@ -137,7 +136,7 @@ pub fn clone_any(array: &AnyArray, alloc: Global) -> Result<AnyArray, Error>
 /// Returns the primitive array of a native type, exactly where the array is of that kind.
 pub fn as_primitive<T: NativeArray>(array: &AnyArray) -> Option<&T::Array>
     ensures { MatchOption result
-        (kind_of (layout_of array.now) ≡ physical.Primitive T.PRIMITIVE → ⊥)
+        (HasKind (physical.Primitive T.PRIMITIVE) (layout_of array.now) → ⊥)
         (λ a. IsDowncast (physical.Primitive T.PRIMITIVE) (layout_of array.now) (T.layout_of_array a.now)) }
 {
     array.as_primitive::<T>()

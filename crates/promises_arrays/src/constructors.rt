@@ -9,7 +9,7 @@ ghost use Rattle.nest_array.specs.SeenKeys.{keys_layout};
 ghost use Rattle.nest_memory.specs.TypeOf.{type_of};
 ghost use Rattle.nest_model.specs.Fits.{FirstError, Fits};
 ghost use Rattle.nest_model.specs.Layout as layouts;
-ghost use Rattle.promises_arrays.specs.Dictionaries.{default_dictionary};
+ghost use Rattle.nest_array.specs.Types.{default_dictionary};
 
 use nest_array::{
     AnyArray, AnyKeys, DictionaryArray, FixedSizeBinaryArray, FixedSizeListArray, LargeListArray,

@@ -44,8 +44,8 @@ pub fn primitive_from_options<T: NativeType>(
     alloc: Global,
     items: &[Option<T>],
 ) -> Result<PrimitiveArray<T>, Error>
-    ensures parts { IfOk result (λ a. a ≡ layouts.primitive T.PRIMITIVE (primitive_tree T.PRIMITIVE)
-        (map (λ x. unwrap_or (option_map T.numbers x) (zeros T.PRIMITIVE)) items.now) (option_bits items.now)) }
+    ensures parts { let p = T.PRIMITIVE in IfOk result (λ a. a ≡ layouts.primitive p (primitive_tree p)
+        (map (λ x. unwrap_or (option_map T.numbers x) (zeros p)) items.now) (option_bits items.now)) }
     ensures slots { IfOk result (λ a. slots_of a ≡ map (optional (λ x. slots.number (T.numbers x))) items.now) }
     ensures memory { IsOkUnless result (Memory alloc_error) }
 {

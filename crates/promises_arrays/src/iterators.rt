@@ -7,8 +7,6 @@ ghost use Rattle.nest_array.specs.ScalarParts.{IsPickOf, child_types, scalar_par
 ghost use Rattle.nest_array.specs.Seen.{layout_of};
 ghost use Rattle.nest_memory.specs.Sublist.{sublist};
 ghost use Rattle.nest_memory.specs.TypeTree.{size_of};
-ghost use Rattle.nest_memory.specs.declared.error.ArgumentError.TheVariants.{ValuesType};
-ghost use Rattle.nest_memory.specs.declared.error.Error.TheVariants.{InvalidArgumentError};
 ghost use Rattle.nest_model.specs.Accessors.{bytes_of, child_of, children_of, key_at, keys_of, offsets_of, raw_keys, validity_of};
 ghost use Rattle.nest_model.specs.Slice.{slice_layout};
 ghost use Rattle.nest_model.specs.Fits.{EachNames};
@@ -20,7 +18,7 @@ ghost use Rattle.nest_model.specs.Slot as slots;
 ghost use Rattle.nest_model.specs.Slot.{seal};
 ghost use Rattle.nest_scan.specs.Items.{AreTexts};
 ghost use Rattle.nest_scan.specs.Elements.{ReturnsFirst, ReturnsLast, all_elements, elements};
-ghost use Rattle.promises_arrays.specs.Items.{IsItemOrError, IsNoneOrValue};
+ghost use Rattle.promises_arrays.specs.Items.{HasOtherValues, IsItemOrError, IsNoneOrValue, last_index};
 
 use nest_array::{
     AnyArray, AnyScalar, DictionaryArray, FixedSizeBinaryArray, FixedSizeListArray, LargeListArray,
@@ -121,12 +119,12 @@ pub fn iterate_lists(lists: &ListArray, alloc: Global) -> ListIter<'_, i32>
 /// Returns the next list: the items from its offset to the next offset.
 pub fn next_list_value(lists: &mut ListValuesIter<'_, i32>) -> Option<Result<AnyArray, Error>>
     requires { 0 < lists.old.count }
-    ensures parts { let array = lists.old.array in
+    ensures parts { let a = lists.old.array in
         let i = lists.old.front in
-        IsItemOrError result (λ a. layout_of a ≡ slice_layout (child_of array) (begin (offsets_of array) i) (extent (offsets_of array) i)) }
-    ensures slot { let array = lists.old.array in
+        IsItemOrError result (λ b. layout_of b ≡ slice_layout (child_of a) (begin (offsets_of a) i) (extent (offsets_of a) i)) }
+    ensures slot { let a = lists.old.array in
         let i = lists.old.front in
-        IsItemOrError result (λ a. slot array i ≡ where_valid (validity_of array) i (slots.list (seal (slots_of (layout_of a))))) }
+        IsItemOrError result (λ b. slot a i ≡ where_valid (validity_of a) i (slots.list (seal (slots_of (layout_of b))))) }
 {
     lists.next()
 }
@@ -153,13 +151,12 @@ pub fn last_fixed_size_list_value(
     lists: &mut FixedSizeListValuesIter<'_>,
 ) -> Option<Result<AnyArray, Error>>
     requires { 0 < lists.old.count }
-    ensures parts { let l = lists.old in
-        let i = l.front + (l.count - 1) in
-        let size = size_of (layout_type l.array) in
-        IsItemOrError result (λ a. layout_of a ≡ slice_layout (child_of l.array) (i * size) size) }
-    ensures slot { let l = lists.old.array in
-        let i = lists.old.front + (lists.old.count - 1) in
-        IsItemOrError result (λ a. slot l i ≡ where_valid (validity_of l) i (slots.list (seal (slots_of (layout_of a))))) }
+    ensures parts { let a = lists.old.array in
+        let size = size_of (layout_type a) in
+        IsItemOrError result (λ b. layout_of b ≡ slice_layout (child_of a) (last_index lists.old * size) size) }
+    ensures slot { let a = lists.old.array in
+        let i = last_index lists.old in
+        IsItemOrError result (λ b. slot a i ≡ where_valid (validity_of a) i (slots.list (seal (slots_of (layout_of b))))) }
 {
     lists.next_back()
 }
@@ -330,9 +327,9 @@ pub fn iterate_strings<O: TextOffset>(
     dictionary: &DictionaryArray,
 ) -> Result<DictionaryIterTyped<'_, O>, Error>
     requires { null_count (child_of dictionary.now) ≡ 0 }
-    ensures { let d = dictionary.now in MatchResult result
-        (λ it. AreTexts O.IS_LARGE (child_of d) × (it ≡ all_elements d))
-        (λ e. (AreTexts O.IS_LARGE (child_of d) → ⊥) × (e ≡ InvalidArgumentError ValuesType)) }
+    ensures { MatchResult result
+        (λ it. AreTexts O.IS_LARGE (child_of dictionary.now) × (it ≡ all_elements dictionary.now))
+        (λ e. HasOtherValues O.IS_LARGE dictionary.now e) }
 {
     dictionary.iter_typed::<O>()
 }
@@ -355,9 +352,9 @@ pub fn iterate_string_values<O: TextOffset>(
 ) -> Result<DictionaryValuesIterTyped<'_, O>, Error>
     requires keys { null_count dictionary.now ≡ 0 }
     requires values { null_count (child_of dictionary.now) ≡ 0 }
-    ensures { let d = dictionary.now in MatchResult result
-        (λ it. AreTexts O.IS_LARGE (child_of d) × (it ≡ all_elements d))
-        (λ e. (AreTexts O.IS_LARGE (child_of d) → ⊥) × (e ≡ InvalidArgumentError ValuesType)) }
+    ensures { MatchResult result
+        (λ it. AreTexts O.IS_LARGE (child_of dictionary.now) × (it ≡ all_elements dictionary.now))
+        (λ e. HasOtherValues O.IS_LARGE dictionary.now e) }
 {
     dictionary.values_iter_typed::<O>()
 }

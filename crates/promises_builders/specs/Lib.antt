@@ -1,1 +1,1 @@
-pub mod Dictionaries
+pub mod Refusals

@@ -27,6 +27,7 @@ ghost use Rattle.nest_model.specs.Checks.{FailFirst, Pass};
 ghost use Rattle.nest_model.specs.Layout.{layout_type};
 ghost use Rattle.nest_model.specs.Meaning.{slots_of};
 ghost use Rattle.nest_model.specs.Nullness.{null_count};
+ghost use Rattle.promises_builders.specs.Refusals.{IsRefusal};
 
 use nest_any::{AnyMutableArray, AnyMutableDictionary, ListBuilder, MutableStructArray};
 use nest_array::{AnyArray, StructArray};
@@ -60,9 +61,9 @@ pub fn new_struct_builder(
     validity: Option<MutableBitmap>,
 ) -> Result<MutableStructArray, Error>
     requires { AreEachComplete (trees_of values.items) }
-    ensures { let t = type_of data_type in let cs = trees_of values.items in
-        let all = struct_checks t cs validity in
-        MatchResult result (λ b. Pass all × (b ≡ struct_over t cs validity)) (λ e. FailFirst e all) }
+    ensures { let t = type_of data_type in let c = trees_of values.items in
+        let k = struct_checks t c validity in
+        MatchResult result (λ b. Pass k × (b ≡ struct_over t c validity)) (λ e. FailFirst e k) }
 {
     MutableStructArray::try_new(alloc, data_type, values, validity)
 }
@@ -72,7 +73,7 @@ pub fn push_null_to_any(builder: &mut AnyMutableArray) -> Result<(), Error>
     requires { IsComplete (tree_of builder.old) }
     ensures accepted { OnOk result (Accepted null_item (tree_of builder.old) (tree_of builder.new)) }
     ensures err { OnErr result (tree_of builder.new ≡ tree_of builder.old) }
-    ensures refused { IfErr result (λ e. (e ≡ Memory alloc_error) ⊎ (item_refusal null_item (tree_of builder.old) ≡ Some e)) }
+    ensures refused { IfErr result (IsRefusal (item_refusal null_item (tree_of builder.old))) }
 {
     builder.push_null()
 }

@@ -1,6 +1,6 @@
 //! Builders of dictionaries, and the hash table by which they find the key of a value.
 ghost use Rattle.std.specs.Prelude.{◌≡◌, ◌≢◌, ◌⊎◌, [], IfErr, IfOk, IsOkUnless, Some, alloc_error, ◌≤◌, ◌<◌, ◌↔◌, ◌++◌, ◌∷◌, true, false, ℕ, length, slice_get, take, OnOk, OnErr, IfSome, IfNone, IsNone};
-ghost use Rattle.nest_build.specs.Keys.{dictionary_child};
+ghost use Rattle.nest_build.specs.Keys.{IsKey, default_dictionaries, dictionary_child};
 ghost use Rattle.nest_memory.specs.TypeOf.{type_of};
 ghost use Rattle.nest_memory.specs.TypeTree.{key_type};
 ghost use Rattle.nest_memory.specs.declared.error.ArgumentError.TheVariants.{ChildNotEmpty};
@@ -10,7 +10,6 @@ ghost use Rattle.nest_model.specs.BuilderLevels.{own_slots};
 ghost use Rattle.nest_model.specs.BuilderTree as builders;
 ghost use Rattle.nest_model.specs.BuilderTree.{builder_len};
 ghost use Rattle.nest_model.specs.BuilderComplete.{IsComplete, AreDifferent};
-ghost use Rattle.promises_builders.specs.Dictionaries.{empty_dictionary, IsKey};
 
 use nest_build::array::MutableArray;
 use nest_build::dictionary::{BuilderKey, KeyTable, MutableDictionaryArray};
@@ -27,7 +26,7 @@ pub fn new_dictionary_builder<K: BuilderKey, M: MutableArray>(
     requires complete { IsComplete (M.model values) }
     requires empty { builder_len (M.model values) ≡ 0 }
     ensures ok { let tree = ⟦<MutableDictionaryArray<K, M> as MutableArray>⟧.model in
-        IfOk result (λ b. tree b ≡ empty_dictionary K.KEY_TYPE (M.model values)) }
+        IfOk result (λ b. tree b ≡ default_dictionaries K.KEY_TYPE (M.model values)) }
     ensures memory { IsOkUnless result (Memory alloc_error) }
 {
     MutableDictionaryArray::new(alloc, values)
@@ -40,7 +39,7 @@ pub fn try_new_dictionary_builder<K: BuilderKey, M: MutableArray>(
 ) -> Result<MutableDictionaryArray<K, M>, Error>
     requires { IsComplete (M.model values) }
     ensures ok { let tree = ⟦<MutableDictionaryArray<K, M> as MutableArray>⟧.model in
-        IfOk result (λ b. tree b ≡ empty_dictionary K.KEY_TYPE (M.model values)) }
+        IfOk result (λ b. tree b ≡ default_dictionaries K.KEY_TYPE (M.model values)) }
     ensures empty { IfOk result (λ b. builder_len (M.model values) ≡ 0) }
     ensures refused { IfErr result (λ e. (e ≡ Memory alloc_error) ⊎ ((e ≡ InvalidArgumentError ChildNotEmpty) × (builder_len (M.model values) ≢ 0))) }
 {

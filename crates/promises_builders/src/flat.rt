@@ -146,8 +146,8 @@ pub fn extend_utf8<'a, O: Offset, I: IntoIterator<Item = Option<&'a str>>>(
     ensures ok { OnOk result ((xs : List (Option (Bor (List ℕ)))) × YieldsAll I.into_iter_gives I.IntoIter.next_gives items xs
         × BytesExtended O.largest slots.utf8 xs builder.old builder.new) }
     ensures err { OnErr result (builder.new ≡ builder.old) }
-    ensures cause { IfErr result (λ e. RefusesBeginning I.into_iter_gives I.IntoIter.next_gives
-        (λ a x. pushed_item a (option_copied x)) (λ a x. item_refusal O.largest a (option_copied x)) items builder.old e) }
+    ensures cause { IfErr result (RefusesBeginning I.into_iter_gives I.IntoIter.next_gives
+        (λ a x. pushed_item a (option_copied x)) (λ a x. item_refusal O.largest a (option_copied x)) items builder.old) }
 {
     builder.try_extend(items)
 }

@@ -1,6 +1,6 @@
 //! Builders of lists and fixed-size lists: their child, and rows of the child's items.
 ghost use Rattle.std.specs.Option.{option_copied};
-ghost use Rattle.std.specs.Prelude.{◌≡◌, ◌⊎◌, [], true, OnOk, OnErr, IfOk, IfErr, None, Some, alloc_error};
+ghost use Rattle.std.specs.Prelude.{◌≡◌, ◌⊎◌, [], true, OnOk, OnErr, IfOk, IfErr, None, alloc_error};
 ghost use Rattle.nest_build.specs.Children.{list_child, with_items};
 ghost use Rattle.nest_build.specs.Lists.{new_fixed_checks, new_list_checks};
 ghost use Rattle.nest_build.specs.Slices.{row_item};
@@ -13,6 +13,7 @@ ghost use Rattle.nest_model.specs.BuilderAddRow.{HasCompleteChildren, RowAdded, 
 ghost use Rattle.nest_model.specs.BuilderTree as builders;
 ghost use Rattle.nest_model.specs.BuilderComplete.{IsComplete};
 ghost use Rattle.nest_model.specs.Checks.{FailFirst, Pass};
+ghost use Rattle.promises_builders.specs.Refusals.{IsRefusal};
 
 use nest_build::array::MutableArray;
 use nest_build::fixed_size_list::MutableFixedSizeListArray;
@@ -149,7 +150,7 @@ pub fn push_list_of_values<O: ListWidth, A: AsPlain + Copy + Drop, M: FlatBuilde
     ensures err { let tree = ⟦<MutableListArray<O, M> as MutableArray>⟧.model in
         OnErr result (tree lists.new ≡ tree lists.old) }
     ensures refused { let tree = ⟦<MutableListArray<O, M> as MutableArray>⟧.model in
-        IfErr result (λ e. (e ≡ Memory alloc_error) ⊎ (item_refusal (row_item A.value (option_copied row.entry)) (tree lists.old) ≡ Some e)) }
+        IfErr result (IsRefusal (item_refusal (row_item A.value (option_copied row.entry)) (tree lists.old))) }
 {
     lists.try_push_slice(row)
 }
@@ -166,8 +167,8 @@ pub fn push_fixed_size_list_of_values<A: AsPlain + Copy + Drop, M: FlatBuilder +
         OnOk result (item_refusal (row_item A.value (option_copied row.entry)) (tree lists.old) ≡ None) }
     ensures err { let tree = ⟦<MutableFixedSizeListArray<M> as MutableArray>⟧.model in
         OnErr result (tree lists.new ≡ tree lists.old) }
-    ensures refused { let b = ⟦<MutableFixedSizeListArray<M> as MutableArray>⟧.model lists.old in
-        IfErr result (λ e. (e ≡ Memory alloc_error) ⊎ (item_refusal (row_item A.value (option_copied row.entry)) b ≡ Some e)) }
+    ensures refused { let tree = ⟦<MutableFixedSizeListArray<M> as MutableArray>⟧.model in
+        IfErr result (IsRefusal (item_refusal (row_item A.value (option_copied row.entry)) (tree lists.old))) }
 {
     lists.try_push_slice(row)
 }

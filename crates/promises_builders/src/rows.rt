@@ -4,7 +4,7 @@
 //! yet in a row. An accepted item appends its slots at each level, a refused one changes no level, and a builder freezes to the
 //! slots it began with followed by the accepted ones.
 ghost use Rattle.std.specs.List.{All, items_where_true};
-ghost use Rattle.std.specs.Prelude.{◌≡◌, ◌≢◌, ◌≤◌, ◌<◌, ◌⊎◌, ◌↔◌, ◌++◌, ◌∷◌, [], true, false, length, option_map, IsTrue, OnOk, OnErr, IfOk, IfErr, IsErrOf, IsNone, IsOkUnless, None, Some, alloc_error};
+ghost use Rattle.std.specs.Prelude.{◌≡◌, ◌≢◌, ◌≤◌, ◌<◌, ◌⊎◌, ◌↔◌, ◌++◌, ◌∷◌, [], true, false, length, option_map, IsTrue, OnOk, OnErr, IfOk, IfErr, IsErrOf, IsNone, IsOkUnless, None, alloc_error};
 ghost use Rattle.nest_array.specs.Seen.{layout_of};
 ghost use Rattle.nest_build.specs.Shown.{IsOfOtherKind, ShowsNulls, own_slot, reserve_passes};
 ghost use Rattle.nest_flat.specs.Plain.{plain_value, plain_values};
@@ -24,6 +24,7 @@ ghost use Rattle.nest_model.specs.Checks.{FailFirst, Pass};
 ghost use Rattle.nest_model.specs.Layout.{layout_type};
 ghost use Rattle.nest_model.specs.Meaning.{slots_of};
 ghost use Rattle.nest_model.specs.Slot as slots;
+ghost use Rattle.promises_builders.specs.Refusals.{IsRefusal};
 
 use nest_array::AnyArray;
 use nest_build::array::MutableArray;
@@ -87,7 +88,7 @@ pub fn push_null<B: MutableArray>(builder: &mut B) -> Result<(), Error>
     ensures accepted { OnOk result (Accepted null_item (B.model builder.old) (B.model builder.new)) }
     ensures no_error { OnOk result (item_refusal null_item (B.model builder.old) ≡ None) }
     ensures err { OnErr result (B.model builder.new ≡ B.model builder.old) }
-    ensures refused { IfErr result (λ e. (e ≡ Memory alloc_error) ⊎ (item_refusal null_item (B.model builder.old) ≡ Some e)) }
+    ensures refused { IfErr result (IsRefusal (item_refusal null_item (B.model builder.old))) }
 {
     builder.push_null()
 }
@@ -99,7 +100,7 @@ pub fn push_value<B: MutableArray>(builder: &mut B, value: Option<Plain<'_>>) ->
     ensures no_error { OnOk result (requirement_refusal (plain_values value.entry) (B.model builder.old) ≡ None) }
     ensures err { OnErr result (B.model builder.new ≡ B.model builder.old) }
     ensures kind { IsErrOf result (InvalidArgumentError ItemType) ↔ IsOfOtherKind (plain_values value.entry) (B.model builder.old) }
-    ensures refused { IfErr result (λ e. (e ≡ Memory alloc_error) ⊎ (requirement_refusal (plain_values value.entry) (B.model builder.old) ≡ Some e)) }
+    ensures refused { IfErr result (IsRefusal (requirement_refusal (plain_values value.entry) (B.model builder.old))) }
 {
     builder.try_push_plain(value)
 }
