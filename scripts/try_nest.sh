@@ -26,7 +26,7 @@ printf 'a,b\n1,2\n' >"$room/csv"
 # The messages of the crates of the IPC formats.
 text='not an Arrow IPC file or stream: it looks like CSV or text'
 negative='metadata length of a message is negative'
-compressed='compressed bodies are not supported'
+truncated='compressed buffer is truncated'
 magic='file does not begin and end with ARROW1'
 
 # expect STATUS OUTPUT MESSAGE ARGUMENT ..
@@ -71,10 +71,10 @@ done
 expect 0 '' '' convert "$room/as" "$room/as"
 expect 0 "$all" '' rows "$room/as"
 expect 0 '{"a":true,"b":false}\n{"a":true,"b":true}\n{"a":true,"b":false}\n{"a":true,"b":true}\n{"a":true,"b":true}\n' '' where "$room/truths" a
-expect 2 '' "nest: $room/packed: record batch 0: $compressed; write it without compression" convert "$room/packed" "$room/as"
+expect 2 '' "nest: $room/packed: record batch 0: $truncated" convert "$room/packed" "$room/as"
 expect 0 "$all" '' rows "$room/as"
 expect 2 '' "nest: $room/none/as: output cannot be written: no such directory" convert "$room/file" "$room/none/as"
-expect 2 '' "nest: $room/packed: record batch 0: $compressed; write it without compression" rows "$room/packed"
+expect 2 '' "nest: $room/packed: record batch 0: $truncated" rows "$room/packed"
 expect 0 '' '' rows "$room/packed" --start 0 --count 0
 expect 2 '' "nest: $room/csv: $text" rows "$room/csv"
 expect 2 '' "nest: $room/cut: $magic" schema "$room/cut"
@@ -126,8 +126,8 @@ expect 1 'row 2\n' '' equal "$room/file" "$room/shorter"
 expect 1 'row 2\n' '' equal "$room/shorter" "$room/parts"
 expect 1 'row 2\n' '' equal "$room/parts" "$room/unlike"
 # An error is reported with its record batch if no row before it differs, else the difference is printed.
-expect 2 '' "nest: $room/packed: record batch 0: $compressed; write it without compression" equal "$room/packed" "$room/file"
-expect 2 '' "nest: $room/packed: record batch 0: $compressed; write it without compression" equal "$room/file" "$room/packed"
+expect 2 '' "nest: $room/packed: record batch 0: $truncated" equal "$room/packed" "$room/file"
+expect 2 '' "nest: $room/packed: record batch 0: $truncated" equal "$room/file" "$room/packed"
 expect 2 '' "nest: $room/csv: $text" equal "$room/packed" "$room/csv"
 expect 2 '' "nest: $room/negative: record batch 2: $negative" equal "$room/file" "$room/negative"
 [ "$(cat "$room/stream" | "$program" equal /dev/stdin "$room/unlike")" = 'row 2' ] || { echo 'nest equal: a pipe'; failed=1; }
@@ -160,7 +160,7 @@ expect 0 '' '' concat "$room/parts" "$room/unlike" --columns b -o "$room/b"
 expect 0 'b: string\n' '' schema "$room/b"
 expect 0 '' '' concat "$room/one" "$room/one" -o "$room/one"
 expect 2 '' "nest: $room/truths: the schema differs from that of $room/file" concat "$room/file" "$room/parts" "$room/truths" -o "$room/none"
-expect 2 '' "nest: $room/packed: record batch 0: $compressed; write it without compression" concat "$room/file" "$room/packed" -o "$room/none"
+expect 2 '' "nest: $room/packed: record batch 0: $truncated" concat "$room/file" "$room/packed" -o "$room/none"
 expect 2 '' "nest: $room/negative: record batch 2: $negative" concat "$room/file" "$room/negative" -o "$room/none"
 expect 2 '' "nest: $room/csv: $text" concat "$room/csv" "$room/file" -o "$room/none"
 expect 2 '' "nest: $room/absent: no such file" concat "$room/file" "$room/absent" -o "$room/none"
@@ -170,7 +170,7 @@ expect 2 '' "nest: $room/absent: no such file" concat "$room/file" "$room/absent
 said=$("$program" concat "$room/file" "$room/parts" -o - 2>&1 >/dev/full)
 [ "$? $said" = '2 nest: -: output cannot be written' ] || { echo "nest concat to a full device: $said"; failed=1; }
 expect 0 '' '' concat "$room/file" -o "$room/kept"
-expect 2 '' "nest: $room/packed: record batch 0: $compressed; write it without compression" concat "$room/parts" "$room/packed" -o "$room/kept"
+expect 2 '' "nest: $room/packed: record batch 0: $truncated" concat "$room/parts" "$room/packed" -o "$room/kept"
 expect 0 "$all" '' rows "$room/kept"
 expect 0 '' '' concat "$room/parts" "$room/file" "$room/parts" -o "$room/kept"
 expect 0 "$all$all$all" '' rows "$room/kept"
@@ -218,7 +218,7 @@ expect 0 '' '' equal "$room/two" "$room/other"
 expect 1 'row 2\n' '' equal "$room/two" "$room/bare"
 expect 2 '' "nest: $room/bare: a row index is out of range" take "$room/bare" 3 -o "$room/none"
 expect 2 '' "nest: $room/bare: there is no column of that name" where "$room/bare" a -o "$room/none"
-expect 2 '' "nest: $room/packed: record batch 0: $compressed; write it without compression" cut "$room/packed" 0 1 -o "$room/none"
+expect 2 '' "nest: $room/packed: record batch 0: $truncated" cut "$room/packed" 0 1 -o "$room/none"
 expect 2 '' "nest: $room/csv: $text" take "$room/csv" 0 -o "$room/none"
 expect 2 '' "nest: $room/absent: no such file" where "$room/absent" a -o "$room/none"
 expect 2 '' "nest: $room/no/out: output cannot be written: no such directory" cut "$room/file" 0 1 -o "$room/no/out"

@@ -4,6 +4,7 @@ pub mod Batches
 pub mod Entries
 pub mod Copies
 pub mod Loops
+pub mod Decompression
 pub mod WriteErrors
 pub mod Messages
 pub mod BlockLoops

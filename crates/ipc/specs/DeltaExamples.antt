@@ -13,6 +13,7 @@ use Rattle.ipc_flatbuf.specs.declared.error.IpcReadError.TheVariants.{Delta}
 use Rattle.ipc_flatbuf.specs.Flatbuffers.{spec_offset_at, spec_back_from, spec_table_at, spec_field_position, spec_charge_budget, spec_read_table, spec_read_vector, structs_at, spec_items_at, vector_at}
 use Rattle.ipc_schema.specs.OutermostIds.{outermost_within}
 use Rattle.ipc_schema.specs.ProjectedSchemas.{ProjectedSchemaModel}
+use Rattle.ipc_flatbuf.specs.Compression.{compression_at}
 use Rattle.ipc_flatbuf.specs.Batches.{spec_each_within, spec_all_within, batch_at}
 use Rattle.ipc_arrays.specs.FixedWidth.{decoded_natives as stored_in}
 use Rattle.ipc_arrays.specs.Decoding.{first_counts, buffer_slice, first_buffer, decoded_validity, decoded_node, decoded_buffer, decoded_validity_buffer, decoded_values, checked_offsets, decoded_offsets, decoded_data, are_utf8, decoded_variable_size_head, decoded_binary_parts, decoded_utf8}
@@ -33,11 +34,11 @@ abbrev three : StateTree
 three = record { picked = colors; known = (pos 0, utf8 false types.utf8 (0 ∷ 1 ∷ 2 ∷ 3 ∷ []) (97 ∷ 98 ∷ 99 ∷ []) None) ∷ []; appendable = pos 0 ∷ [] }
 
 is_joined : dictionary_in false (known 97 98) joined_message ≡ Ok three
-unfolding spec_offset_at spec_back_from spec_table_at spec_field_position spec_charge_budget spec_read_table spec_read_vector structs_at spec_items_at vector_at spec_each_within spec_all_within batch_at stored_in first_counts buffer_slice first_buffer decoded_validity decoded_node decoded_buffer decoded_validity_buffer decoded_values are_offsets checked_offsets decoded_offsets decoded_data decoded_variable_size_head decoded_binary_parts decoded_utf8 outermost_within data_in dictionary_in
+unfolding spec_offset_at spec_back_from spec_table_at spec_field_position spec_charge_budget spec_read_table spec_read_vector structs_at spec_items_at vector_at spec_each_within spec_all_within compression_at batch_at stored_in first_counts buffer_slice first_buffer decoded_validity decoded_node decoded_buffer decoded_validity_buffer decoded_values are_offsets checked_offsets decoded_offsets decoded_data decoded_variable_size_head decoded_binary_parts decoded_utf8 outermost_within data_in dictionary_in
 is_joined = rw texts_c refl
 
 joined_once : dictionary_in true (known 97 98) joined_message ≡ Ok three
-unfolding spec_offset_at spec_back_from spec_table_at spec_field_position spec_charge_budget spec_read_table spec_read_vector structs_at spec_items_at vector_at spec_each_within spec_all_within batch_at stored_in first_counts buffer_slice first_buffer decoded_validity decoded_node decoded_buffer decoded_validity_buffer decoded_values are_offsets checked_offsets decoded_offsets decoded_data decoded_variable_size_head decoded_binary_parts decoded_utf8 outermost_within data_in dictionary_in
+unfolding spec_offset_at spec_back_from spec_table_at spec_field_position spec_charge_budget spec_read_table spec_read_vector structs_at spec_items_at vector_at spec_each_within spec_all_within compression_at batch_at stored_in first_counts buffer_slice first_buffer decoded_validity decoded_node decoded_buffer decoded_validity_buffer decoded_values are_offsets checked_offsets decoded_offsets decoded_data decoded_variable_size_head decoded_binary_parts decoded_utf8 outermost_within data_in dictionary_in
 joined_once = rw texts_c refl
 
 -- ---- records: the id 1 is nested in 0

@@ -18,6 +18,7 @@ use Rattle.ipc_flatbuf.specs.declared.message.types.MessageKind.TheVariants.{Dic
 use Rattle.ipc_flatbuf.specs.declared.message.types.MetadataVersion.TheVariants.{V5}
 use Rattle.ipc_schema.specs.OutermostIds.{outermost_within}
 use Rattle.ipc_schema.specs.ProjectedSchemas.{ProjectedSchemaModel}
+use Rattle.ipc_flatbuf.specs.Compression.{compression_at}
 use Rattle.ipc_flatbuf.specs.Batches.{spec_each_within, spec_all_within, batch_at}
 use Rattle.ipc_arrays.specs.DictionaryKeys.{zero_at_nulls}
 use Rattle.ipc_arrays.specs.FixedWidth.{decoded_natives as stored_in}
@@ -104,15 +105,15 @@ texts_cd = rw (text_99, text_100) refl
 -- ---- decoded
 
 comes : dictionary_in false (start colors) (texts_message 97 98) ≡ Ok (known 97 98)
-unfolding spec_offset_at spec_back_from spec_table_at spec_field_position spec_charge_budget spec_read_table spec_read_vector structs_at spec_items_at vector_at spec_each_within spec_all_within batch_at stored_in first_counts buffer_slice first_buffer decoded_validity decoded_node decoded_buffer decoded_validity_buffer decoded_values are_offsets checked_offsets decoded_offsets decoded_data decoded_variable_size_head decoded_binary_parts decoded_utf8 outermost_within data_in dictionary_in
+unfolding spec_offset_at spec_back_from spec_table_at spec_field_position spec_charge_budget spec_read_table spec_read_vector structs_at spec_items_at vector_at spec_each_within spec_all_within compression_at batch_at stored_in first_counts buffer_slice first_buffer decoded_validity decoded_node decoded_buffer decoded_validity_buffer decoded_values are_offsets checked_offsets decoded_offsets decoded_data decoded_variable_size_head decoded_binary_parts decoded_utf8 outermost_within data_in dictionary_in
 comes = rw texts_ab refl
 
 is_replaced : dictionary_in false (known 97 98) (texts_message 99 100) ≡ Ok (known 99 100)
-unfolding spec_offset_at spec_back_from spec_table_at spec_field_position spec_charge_budget spec_read_table spec_read_vector structs_at spec_items_at vector_at spec_each_within spec_all_within batch_at stored_in first_counts buffer_slice first_buffer decoded_validity decoded_node decoded_buffer decoded_validity_buffer decoded_values are_offsets checked_offsets decoded_offsets decoded_data decoded_variable_size_head decoded_binary_parts decoded_utf8 outermost_within data_in dictionary_in
+unfolding spec_offset_at spec_back_from spec_table_at spec_field_position spec_charge_budget spec_read_table spec_read_vector structs_at spec_items_at vector_at spec_each_within spec_all_within compression_at batch_at stored_in first_counts buffer_slice first_buffer decoded_validity decoded_node decoded_buffer decoded_validity_buffer decoded_values are_offsets checked_offsets decoded_offsets decoded_data decoded_variable_size_head decoded_binary_parts decoded_utf8 outermost_within data_in dictionary_in
 is_replaced = rw texts_cd refl
 
 names : record_batch_in (known 97 98) rows_message ≡ Ok (rows 97 98)
-unfolding spec_offset_at spec_back_from spec_table_at spec_field_position spec_charge_budget spec_read_table spec_read_vector structs_at spec_items_at vector_at spec_each_within spec_all_within batch_at stored_in first_counts buffer_slice first_buffer decoded_validity decoded_node decoded_buffer decoded_validity_buffer decoded_values zero_at_nulls decoded_keys_as first_values decoded_dictionary_values keyed_in outermost_within decoded_steps decoded_projection record_batch_in
+unfolding spec_offset_at spec_back_from spec_table_at spec_field_position spec_charge_budget spec_read_table spec_read_vector structs_at spec_items_at vector_at spec_each_within spec_all_within compression_at batch_at stored_in first_counts buffer_slice first_buffer decoded_validity decoded_node decoded_buffer decoded_validity_buffer decoded_values zero_at_nulls decoded_keys_as first_values decoded_dictionary_values keyed_in outermost_within decoded_steps decoded_projection record_batch_in
 names = refl
 
 is_passed : dictionary_in false passed (texts_message 97 98) ≡ Ok passed
@@ -126,7 +127,7 @@ unfolding spec_offset_at spec_back_from spec_table_at spec_field_position spec_c
 once_more = refl
 
 is_missing : record_batch_in (start colors) rows_message ≡ Err MissingDictionary
-unfolding spec_offset_at spec_back_from spec_table_at spec_field_position spec_charge_budget spec_read_table spec_read_vector structs_at spec_items_at vector_at spec_each_within spec_all_within batch_at stored_in first_counts buffer_slice first_buffer decoded_validity decoded_node decoded_buffer decoded_validity_buffer decoded_values zero_at_nulls decoded_keys_as first_values decoded_dictionary_values keyed_in outermost_within decoded_steps decoded_projection record_batch_in
+unfolding spec_offset_at spec_back_from spec_table_at spec_field_position spec_charge_budget spec_read_table spec_read_vector structs_at spec_items_at vector_at spec_each_within spec_all_within compression_at batch_at stored_in first_counts buffer_slice first_buffer decoded_validity decoded_node decoded_buffer decoded_validity_buffer decoded_values zero_at_nulls decoded_keys_as first_values decoded_dictionary_values keyed_in outermost_within decoded_steps decoded_projection record_batch_in
 is_missing = refl
 
 is_unknown : dictionary_in false plain (texts_message 97 98) ≡ Err UnknownDictionary

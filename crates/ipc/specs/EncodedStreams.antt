@@ -33,7 +33,7 @@ use Rattle.ipc.specs.Streams.{RecordBatchTree, StateTree, StreamTree, record_bat
 
 -- the metadata of a record batch
 abbrev pub batch_tree : RecordBatchTree → BatchModel
-batch_tree b = record { rows = b.rows; nodes = map field_node_of (written_arrays b.columns); buffers = buffer_specs 0 (buffers_of (written_arrays b.columns)) }
+batch_tree b = record { rows = b.rows; nodes = map field_node_of (written_arrays b.columns); buffers = buffer_specs 0 (buffers_of (written_arrays b.columns)); compression = None }
 
 -- the message of a record batch, without its body
 abbrev pub batch_head : RecordBatchTree → List ℕ

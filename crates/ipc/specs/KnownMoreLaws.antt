@@ -20,9 +20,11 @@ use Rattle.ipc_flatbuf.specs.Messages.{MessageModel}
 use Rattle.ipc_schema.specs.Dictionaries.{ValueTypeModel}
 use Rattle.ipc_schema.specs.OutermostIds.{spec_outermost_ids}
 use Rattle.ipc_schema.specs.ProjectedSchemas.{ProjectedSchemaModel}
-use Rattle.ipc_flatbuf.specs.Batches.{batch_at}
+use Rattle.ipc_flatbuf.specs.declared.batch.parts.BufferSpec.{BufferSpec}
+use Rattle.ipc_flatbuf.specs.Batches.{BatchModel, batch_at}
 use Rattle.ipc_arrays.specs.Decoding.{Rest, decoded_column, checked_exhausted}
 use Rattle.ipc_arrays.specs.Projection.{decoded_projection}
+use Rattle.ipc_arrays.specs.NeededBuffers.{spec_needed_buffers}
 use Rattle.ipc_arrays.specs.DecodingLaws.{after, found, checked}
 use Rattle.ipc_arrays.specs.ReplacedValues.{IsExtendedBy}
 use Rattle.ipc_arrays.specs.declared.cursor.ExpectedLength.TheVariants.{Rows}
@@ -32,10 +34,11 @@ use Rattle.nest_memory.specs.TypeEq.{same_type, same_type-decides}
 use Rattle.nest_concat.specs.Laid.{joined_layout, joins_past}
 use Rattle.nest_concat.proofs.LaidWholes.{two-joined, two-slots}
 use Rattle.ipc.specs.ExtendedDictionaries.{IsExtended, AllExtended, HasExtendedDictionaries, HoldsArray, AreAllArrays, AreSameArrays, ReadTogether, KnowsMore, HasArrays, IsLater, BatchDecodesAlike}
-use Rattle.ipc.specs.ExtendedColumns.{read_too, AreReadAlike, column_fits, grown_self, picked_next}
+use Rattle.ipc.specs.ExtendedColumns.{read_too, read_weaker, AreReadAlike, column_fits, grown_self, picked_next}
 use Rattle.ipc.specs.ExtendedReads.{Anything, any_read, then_read, then_same}
 use Rattle.ipc.specs.UnionOffsets.{spec_union_offsets_overflow}
-use Rattle.ipc.specs.Streams.{Known, StateTree, RecordBatchTree, known_at, values_at, rest_at, types_of, spec_variadic_counts, record_batch_in, named_in, spec_data_position, spec_check_order, spec_only_column, spec_with_values, column_in_batch, data_in, new_values_in, found_values, found_in, with_found, dictionary_in, spec_contains_id, with_delta, spec_joined_values}
+use Rattle.ipc.specs.PlainBuffers.{plain_buffers, all_needed, with_buffers}
+use Rattle.ipc.specs.Streams.{Known, StateTree, RecordBatchTree, known_at, values_at, rest_at, types_of, spec_variadic_counts, columns_in, record_batch_in, named_in, spec_data_position, spec_check_order, spec_only_column, spec_with_values, column_in_batch, data_in, new_values_in, found_values, found_in, with_found, dictionary_in, spec_contains_id, with_delta, spec_joined_values}
 use Rattle.ipc.specs.EncodedStreams.{IsSameBatch}
 
 -- ---- more is known
@@ -98,25 +101,36 @@ same_slots [] (y ∷ ys) h = absurd h
 same_slots (x ∷ xs) [] h = absurd h
 same_slots (x ∷ xs) (y ∷ ys) h = λ w. sym h.0.1 w ∷ same_slots xs ys h.1 w
 
-batch_over : (p : ProjectedSchemaModel) (m : MessageModel) (known more : Known) → KnowsMore known more
-    → ReadTogether IsSameBatch (batch_at m.metadata m.root.header m.root.left m.root.body_length >>= λ batch. spec_variadic_counts p.steps m >>= λ buffers. decoded_projection p.steps (types_of p.schema) batch.rows m.body (record { rest = rest_at known (spec_outermost_ids p.seen.named p.seen.ids) batch; more = buffers }) >>= λ columns. Ok (record { rows = batch.rows; columns = columns }))
-    (batch_at m.metadata m.root.header m.root.left m.root.body_length >>= λ batch. spec_variadic_counts p.steps m >>= λ buffers. decoded_projection p.steps (types_of p.schema) batch.rows m.body (record { rest = rest_at more (spec_outermost_ids p.seen.named p.seen.ids) batch; more = buffers }) >>= λ columns. Ok (record { rows = batch.rows; columns = columns }))
-batch_over p m known more h =
+-- the columns of a batch, and the batch, over known dictionaries
+abbrev columns_over : ProjectedSchemaModel → MessageModel → List ℤ → BatchModel → Known → Result (List Layout) IpcReadError
+columns_over p m counts batch known = columns_in batch.compression p batch.rows m.body (record { rest = rest_at known (spec_outermost_ids p.seen.named p.seen.ids) batch; more = counts })
+
+abbrev batch_over : ProjectedSchemaModel → MessageModel → Known → Result RecordBatchTree IpcReadError
+batch_over p m known = batch_at m.metadata m.root.header m.root.left m.root.body_length >>= λ batch. spec_variadic_counts p.steps m >>= λ counts. columns_over p m counts batch known >>= λ columns. Ok (record { rows = batch.rows; columns = columns })
+
+columns_later : (p : ProjectedSchemaModel) (m : MessageModel) (counts : List ℤ) (batch : BatchModel) (known more : Known) → KnowsMore known more → ReadTogether AreSameArrays (columns_over p m counts batch known) (columns_over p m counts batch more)
+columns_later p m counts batch known more h =
     let ids : List ℤ = spec_outermost_ids p.seen.named p.seen.ids in
+    let types : List TypeTree = types_of p.schema in
+    let plain : Result (List BufferSpec × List ℕ) IpcReadError = plain_buffers batch.compression m.body batch.buffers (spec_needed_buffers p.steps types counts batch.buffers) in
+    then_same AreSameArrays Anything plain _ _ (any_read plain)
+    (λ x e _.
+    let r : Rest = with_buffers (rest_at known ids batch) x.0 in
+    let s : Rest = with_buffers (rest_at more ids batch) x.0 in
+    let over : HasExtendedDictionaries r s = record { nodes = refl; buffers = refl; dictionaries = values_grow ids known more h } in
+    read_weaker (AreReadAlike r) AreSameArrays (decoded_projection p.steps types batch.rows x.1 (record { rest = r; more = counts })) (decoded_projection p.steps types batch.rows x.1 (record { rest = s; more = counts })) (λ xs ys alike. alike.same)
+    (picked_next p.steps types batch.rows x.1 counts r s over))
+
+batch_grows : (p : ProjectedSchemaModel) (m : MessageModel) (known more : Known) → KnowsMore known more → ReadTogether IsSameBatch (batch_over p m known) (batch_over p m more)
+batch_grows p m known more h =
     then_same IsSameBatch Anything (batch_at m.metadata m.root.header m.root.left m.root.body_length) _ _ (any_read (batch_at m.metadata m.root.header m.root.left m.root.body_length))
     (λ batch e _. then_same IsSameBatch Anything (spec_variadic_counts p.steps m) _ _ (any_read (spec_variadic_counts p.steps m))
-    (λ buffers g _.
-    let over : HasExtendedDictionaries (rest_at known ids batch) (rest_at more ids batch) = record { nodes = refl; buffers = refl; dictionaries = values_grow ids known more h } in
-    then_read (AreReadAlike (rest_at known ids batch)) IsSameBatch
-    (decoded_projection p.steps (types_of p.schema) batch.rows m.body (record { rest = rest_at known ids batch; more = buffers })) (decoded_projection p.steps (types_of p.schema) batch.rows m.body (record { rest = rest_at more ids batch; more = buffers })) _ _
-    (picked_next p.steps (types_of p.schema) batch.rows m.body buffers (rest_at known ids batch) (rest_at more ids batch) over)
-    (λ xs ys k alike. record { rows = refl; types = same_types xs ys alike.same; slots = same_slots xs ys alike.same })))
+    (λ counts g _. then_read AreSameArrays IsSameBatch (columns_over p m counts batch known) (columns_over p m counts batch more) _ _ (columns_later p m counts batch known more h)
+    (λ xs ys k same. record { rows = refl; types = same_types xs ys same; slots = same_slots xs ys same })))
 
 pub batch_later : (s t : StateTree) (m : MessageModel) → IsLater s t → ReadTogether IsSameBatch (record_batch_in s m) (record_batch_in t m)
 unfolding record_batch_in
-batch_later s t m h =
-    let read : ProjectedSchemaModel → Known → Result RecordBatchTree IpcReadError = λ p known. batch_at m.metadata m.root.header m.root.left m.root.body_length >>= λ batch. spec_variadic_counts p.steps m >>= λ buffers. decoded_projection p.steps (types_of p.schema) batch.rows m.body (record { rest = rest_at known (spec_outermost_ids p.seen.named p.seen.ids) batch; more = buffers }) >>= λ columns. Ok (record { rows = batch.rows; columns = columns }) in
-    subst (λ (p : ProjectedSchemaModel). ReadTogether IsSameBatch (read s.picked s.known) (read p t.known)) (sym h.picked) (batch_over s.picked m s.known t.known h.grows)
+batch_later s t m h = subst (λ (p : ProjectedSchemaModel). ReadTogether IsSameBatch (batch_over s.picked m s.known) (batch_over p m t.known)) (sym h.picked) (batch_grows s.picked m s.known t.known h.grows)
 
 pub batch_again : (s t : StateTree) (m : MessageModel) (b : RecordBatchTree) → IsLater s t → record_batch_in s m ≡ Ok b → BatchDecodesAlike b (record_batch_in t m)
 batch_again s t m b h e =
@@ -200,7 +214,10 @@ new_in s m table left id v all =
     (λ at e. after (IsNew s id) (column_in_batch s m at.0 left v) _
     (λ values g. record {
       apart = λ none. not_there (known_at s.known id) (found (λ (at : ℕ × Bool). at.1 ≡ false → there ≡ false) _ _ e (data_once there m.metadata table) none);
-      fits = λ _. found IsArray _ _ g (after IsArray (batch_at m.metadata at.0 left m.root.body_length) _ (λ batch k. only_fits v.values batch.rows m.body (rest_at s.known (spec_outermost_ids s.picked.seen.named v.inside) batch) (values_fit (spec_outermost_ids s.picked.seen.named v.inside) s.known all)));
+      fits = λ _. found IsArray _ _ g (after IsArray (batch_at m.metadata at.0 left m.root.body_length) _ (λ batch k.
+          let rest : Rest = rest_at s.known (spec_outermost_ids s.picked.seen.named v.inside) batch in
+          after IsArray (plain_buffers batch.compression m.body rest.buffers (Ok (all_needed rest.buffers))) _
+          (λ plain q. only_fits v.values batch.rows plain.1 (with_buffers rest plain.0) (values_fit (spec_outermost_ids s.picked.seen.named v.inside) s.known all))));
     }))
 
 -- a delta appended to values

@@ -17,6 +17,7 @@ pub mod RoundTripLaws
 pub mod FileDictionaryExamples
 -- What contracts cite.
 pub mod UnionOffsets
+pub mod PlainBuffers
 pub mod Streams
 pub mod NamedColumns
 pub mod SliceStreamReaders

@@ -30,11 +30,14 @@ use Rattle.ipc_schema.specs.OutermostIds.{spec_outermost_ids}
 use Rattle.ipc_schema.specs.Projections.{ProjectionModel, all}
 use Rattle.ipc_schema.specs.ProjectedSchemas.{ProjectedSchemaModel, spec_check_projected_version, stream_projected_schema_at, projected_schema_of}
 use Rattle.ipc_schema.specs.Schemas.{SchemaModel, schema_of}
+use Rattle.ipc_flatbuf.specs.declared.compression.codec.CompressionCodec.{CompressionCodec}
 use Rattle.ipc_flatbuf.specs.Batches.{BatchModel, batch_at}
 use Rattle.ipc_flatbuf.specs.VariadicBuffers.{variadic_buffer_counts_at}
 use Rattle.ipc_arrays.specs.Decoding.{Rest, decoded_column, checked_exhausted}
-use Rattle.ipc_arrays.specs.Projection.{decoded_projection}
+use Rattle.ipc_arrays.specs.Projection.{ProjectionState, decoded_projection}
+use Rattle.ipc_arrays.specs.NeededBuffers.{spec_needed_buffers}
 use Rattle.ipc_arrays.specs.declared.cursor.ExpectedLength.TheVariants.{Rows}
+use Rattle.ipc.specs.PlainBuffers.{plain_buffers, all_needed, with_buffers, ahead_with_buffers}
 use Rattle.ipc.specs.UnionOffsets.{spec_union_offsets_overflow}
 use Rattle.ipc.specs.declared.batch.Batch.{Batch}
 use Rattle.ipc.specs.declared.state.KnownDictionaries.{KnownDictionaries}
@@ -88,12 +91,17 @@ spec_has_dictionary (Skip s) = s.has_dictionary
 abbrev pub spec_variadic_counts : List FieldAction → MessageModel → Result (List ℤ) IpcReadError
 spec_variadic_counts steps m = if list_any spec_has_views steps then variadic_buffer_counts_at m.metadata m.root.header m.root.left else Ok []
 
+-- the projected columns of nodes and buffers, which are decompressed first where the batch is compressed
+abbrev pub columns_in : Option CompressionCodec → ProjectedSchemaModel → ℕ → List ℕ → ProjectionState → Result (List Layout) IpcReadError
+columns_in compression p rows body ahead =
+    plain_buffers compression body ahead.rest.buffers (spec_needed_buffers p.steps (types_of p.schema) ahead.more ahead.rest.buffers) >>= λ plain. decoded_projection p.steps (types_of p.schema) rows plain.1 (ahead_with_buffers ahead plain.0)
+
 -- the projected columns of a record batch, over the dictionaries read so far
 unfoldable pub record_batch_in : StateTree → MessageModel → Result RecordBatchTree IpcReadError
 record_batch_in s m = do
   batch ← batch_at m.metadata m.root.header m.root.left m.root.body_length
   more ← spec_variadic_counts s.picked.steps m
-  columns ← decoded_projection s.picked.steps (types_of s.picked.schema) batch.rows m.body (record { rest = rest_at s.known (spec_outermost_ids s.picked.seen.named s.picked.seen.ids) batch; more = more })
+  columns ← columns_in batch.compression s.picked batch.rows m.body (record { rest = rest_at s.known (spec_outermost_ids s.picked.seen.named s.picked.seen.ids) batch; more = more })
   Ok (record { rows = batch.rows; columns = columns })
 
 -- ---- dictionary batches: Message.fbs, table DictionaryBatch
@@ -121,6 +129,10 @@ spec_check_order once false there = Ok tt
 -- the only column of a dictionary's record batch
 abbrev pub spec_only_column : TypeTree → ℕ → List ℕ → Rest → Result Layout IpcReadError
 spec_only_column t rows body rest = decoded_column t (Rows rows) body rest >>= λ column. checked_exhausted column.1 >>= λ all. Ok column.0
+
+-- the same, of a batch that may be compressed
+abbrev pub only_column_in : Option CompressionCodec → TypeTree → ℕ → List ℕ → Rest → Result Layout IpcReadError
+only_column_in compression t rows body rest = plain_buffers compression body rest.buffers (Ok (all_needed rest.buffers)) >>= λ plain. spec_only_column t rows plain.1 (with_buffers rest plain.0)
 
 -- whether these ids contain an id
 abbrev pub spec_contains_id : List ℤ → ℤ → Bool
@@ -164,7 +176,7 @@ spec_with_values true s id more = check (spec_contains_id s.appendable id) Delta
 
 -- the values in the record batch at a position, over the dictionaries nested in them
 abbrev pub column_in_batch : StateTree → MessageModel → ℕ → ℕ → ValueTypeModel → Result Layout IpcReadError
-column_in_batch s m position left v = batch_at m.metadata position left m.root.body_length >>= λ batch. spec_only_column v.values batch.rows m.body (rest_at s.known (spec_outermost_ids s.picked.seen.named v.inside) batch)
+column_in_batch s m position left v = batch_at m.metadata position left m.root.body_length >>= λ batch. only_column_in batch.compression v.values batch.rows m.body (rest_at s.known (spec_outermost_ids s.picked.seen.named v.inside) batch)
 
 -- the position of the record batch in a dictionary batch, and whether it is a delta
 unfoldable pub data_in : Bool → Bool → List ℕ → Table → Result (ℕ × Bool) IpcReadError

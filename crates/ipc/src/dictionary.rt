@@ -9,15 +9,17 @@ ghost use Rattle.nest_array.specs.Seen.{layout_of};
 ghost use Rattle.ipc_arrays.specs.Decoding.{rest_of};
 ghost use Rattle.ipc_schema.specs.ProjectedSchemas.{projected_schema_of};
 ghost use Rattle.ipc_schema.specs.DictionaryModels.{value_type_of};
-ghost use Rattle.ipc.specs.Streams.{spec_has_dictionary, named_in, spec_data_position, spec_check_order, spec_only_column, spec_with_values, column_in_batch, data_in, new_values_in, found_in, dictionary_in, known_at, state_of};
+ghost use Rattle.ipc.specs.Streams.{spec_has_dictionary, named_in, spec_data_position, spec_check_order, spec_only_column, only_column_in, spec_with_values, column_in_batch, data_in, new_values_in, found_in, dictionary_in, known_at, state_of};
 
 use crate::deltas::more_values;
+use crate::plain_buffers::{decompress_buffers, need_all, replace_buffers};
 use crate::state::{DictionaryState, values_of as known_values};
 use ipc_arrays::{BatchCursor, ExpectedLength, check_exhausted, read_column};
 use ipc_flatbuf::batch::read_batch;
 use ipc_flatbuf::message::Message;
 use ipc_flatbuf::{
-    FieldAction, IpcReadError, Table, i64_field, offset_field, read_table, u8_field,
+    CompressionCodec, FieldAction, IpcReadError, Table, i64_field, offset_field, read_table,
+    u8_field,
 };
 use ipc_schema::{DictionaryValueType, ProjectedSchema, outermost_ids};
 use nest_array::any::AnyArray;
@@ -97,6 +99,28 @@ fn only_column(
     }
 }
 
+// Reads the same column, whose buffers may be compressed.
+fn only_column_in_batch(
+    alloc: Global,
+    data_type: &DataType,
+    compression: Option<CompressionCodec>,
+    rows: usize,
+    body: &[u8],
+    left: BatchCursor<'_>,
+) -> Result<AnyArray, IpcReadError>
+    ensures { ReturnsOrRunsOut layout_of result (only_column_in compression (type_of data_type.now) rows body.now (rest_of left.entry)) }
+{
+    match compression {
+        None => only_column(alloc, data_type, rows, body, left),
+        Some(codec) => {
+            let needed = need_all(alloc, left.buffers)?;
+            let (buffers, bytes) = decompress_buffers(alloc, codec, body, left.buffers, &needed)?;
+            let plain = replace_buffers(left, &buffers);
+            only_column(alloc, data_type, rows, &bytes, plain)
+        }
+    }
+}
+
 // Reads the values of a dictionary over the dictionaries nested in them.
 fn read_column_over(
     alloc: Global,
@@ -118,7 +142,15 @@ fn read_column_over(
         buffers: &batch.buffers,
         dictionaries: &dictionaries,
     };
-    only_column(alloc, &values.data_type, batch.rows, message.body, left)
+    let compression = batch.compression;
+    only_column_in_batch(
+        alloc,
+        &values.data_type,
+        compression,
+        batch.rows,
+        message.body,
+        left,
+    )
 }
 
 // Returns whether an id has values.

@@ -16,6 +16,7 @@ mod dictionary;
 mod file;
 pub mod file_laws;
 pub mod laws;
+mod plain_buffers;
 mod reader;
 mod reading;
 mod state;

@@ -7,17 +7,20 @@ ghost use Rattle.ipc_flatbuf.specs.Messages.{model_of};
 ghost use Rattle.nest_memory.specs.TypeOf.{field_of};
 ghost use Rattle.nest_memory.specs.TypeTree.{field_type};
 ghost use Rattle.nest_array.specs.Seen.{layout_of};
+ghost use Rattle.ipc_schema.specs.ProjectedSchemas.{projected_schema_of};
 ghost use Rattle.ipc_arrays.specs.Projection.{decoded_projection, projection_state};
-ghost use Rattle.ipc.specs.Streams.{spec_has_views, spec_variadic_counts, record_batch_in, message_by_kind, message_in, next_in, record_batch_of, state_of};
+ghost use Rattle.ipc_arrays.specs.NeededBuffers.{spec_needed_buffers};
+ghost use Rattle.ipc.specs.Streams.{spec_has_views, spec_variadic_counts, columns_in, record_batch_in, message_by_kind, message_in, next_in, record_batch_of, state_of};
 
 use crate::batch::Batch;
 use crate::dictionary::read_dictionary;
+use crate::plain_buffers::{decompress_buffers, replace_buffers};
 use crate::state::{DictionaryState, values_of};
-use ipc_arrays::{BatchCursor, ProjectionCursor, read_projected};
+use ipc_arrays::{BatchCursor, ProjectionCursor, needed_buffers, read_projected};
 use ipc_flatbuf::batch::{read_batch, read_variadic_buffer_counts};
 use ipc_flatbuf::message::{Message, MessageKind, next_message};
-use ipc_flatbuf::{FieldAction, IpcReadError};
-use ipc_schema::{check_projected_version, outermost_ids};
+use ipc_flatbuf::{BufferSpec, CompressionCodec, FieldAction, IpcReadError};
+use ipc_schema::{ProjectedSchema, check_projected_version, outermost_ids};
 use nest_array::any::AnyArray;
 use nest_memory::datatypes::Field;
 use std::alloc::Global;
@@ -70,6 +73,57 @@ fn columns_of(
     read_projected(alloc, steps, fields, rows, body, ahead)
 }
 
+// Returns for each buffer whether a projected column has it.
+fn needed_of(
+    alloc: Global,
+    steps: &[FieldAction],
+    fields: &[Field],
+    more: &[i64],
+    buffers: &[BufferSpec],
+) -> Result<Vec<bool>, IpcReadError>
+    ensures { ReturnsOrRunsOut (λ v. v.items) result (spec_needed_buffers steps.now (map field_type (map field_of fields.now)) more.now buffers.now) }
+{
+    needed_buffers(alloc, steps, fields, more, buffers)
+}
+
+// Reads the projected columns of a record batch, whose buffers may be compressed.
+fn columns_in_batch(
+    alloc: Global,
+    picked: &ProjectedSchema,
+    compression: Option<CompressionCodec>,
+    rows: usize,
+    body: &[u8],
+    ahead: ProjectionCursor<'_>,
+) -> Result<Vec<AnyArray>, IpcReadError>
+    ensures { ReturnsOrRunsOut (λ v. map layout_of v.items) result (columns_in compression (projected_schema_of picked.now) rows body.now (projection_state ahead.entry)) }
+{
+    let steps = &picked.steps;
+    let fields = &picked.schema.fields;
+    match compression {
+        None => columns_of(alloc, steps, fields, rows, body, ahead),
+        Some(codec) => {
+            let more = ahead.more;
+            let needed = needed_of(alloc, steps, fields, more, ahead.left.buffers)?;
+            let (buffers, bytes) = decompress_buffers(
+                alloc,
+                codec,
+                body,
+                ahead.left.buffers,
+                &needed,
+            )?;
+            let left = replace_buffers(ahead.left, &buffers);
+            columns_of(
+                alloc,
+                steps,
+                fields,
+                rows,
+                &bytes,
+                ProjectionCursor { left, more },
+            )
+        }
+    }
+}
+
 /// Reads the projected columns of a record batch message.
 #[tactic(auto, unfolding(crate::specs::Streams::record_batch_in))]
 pub(crate) fn read_record_batch(
@@ -99,8 +153,8 @@ pub(crate) fn read_record_batch(
     };
     let ahead = ProjectionCursor { left, more: &more };
     let rows = batch.rows;
-    let fields = &picked.schema.fields;
-    let columns = columns_of(alloc, &picked.steps, fields, rows, message.body, ahead)?;
+    let compression = batch.compression;
+    let columns = columns_in_batch(alloc, picked, compression, rows, message.body, ahead)?;
     Ok(Batch { rows, columns })
 }
 

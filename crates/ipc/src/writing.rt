@@ -62,6 +62,7 @@ fn metadata_of(
         rows,
         nodes: placed.nodes,
         buffers: placed.buffers,
+        compression: None,
     };
     Ok((metadata, placed.length))
 }

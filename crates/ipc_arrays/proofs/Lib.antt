@@ -12,6 +12,8 @@ pub mod Nested
 pub mod Fields
 pub mod Marks
 pub mod Passing
+pub mod Skipping
+pub mod Needed
 pub mod Keyed
 pub mod Dictionaries
 pub mod PlainBodies

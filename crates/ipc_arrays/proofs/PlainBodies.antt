@@ -5,8 +5,8 @@ use Rattle.std.proofs.lemmas.List.{append-nil, length-append, drop_more, drop_al
 use Rattle.ipc_flatbuf.specs.FlatbufferLaws.{From}
 use Rattle.ipc_flatbuf.specs.MessageBytes.{padding}
 use Rattle.ipc_flatbuf.specs.declared.batch.parts.BufferSpec.{BufferSpec}
-use Rattle.ipc_arrays.specs.declared.compression.codec.CompressionCodec.{CompressionCodec}
-use Rattle.ipc_arrays.specs.declared.compression.error.CompressionError.{CompressionError}
+use Rattle.ipc_flatbuf.specs.declared.compression.codec.CompressionCodec.{CompressionCodec}
+use Rattle.ipc_flatbuf.specs.declared.compression.error.CompressionError.{CompressionError}
 use Rattle.ipc_arrays.specs.CompressionResults.{◌>>=◌, FailsOrRunsOut}
 use Rattle.ipc_arrays.specs.CompressedBuffers.{appended}
 use Rattle.ipc_arrays.specs.BodyBuffers.{padded, body_of, buffer_specs}

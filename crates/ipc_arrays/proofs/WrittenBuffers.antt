@@ -7,7 +7,7 @@ use Rattle.std.proofs.lemmas.Int.{to_z_pos}
 use Rattle.std.proofs.lemmas.List.{append-nil}
 use Rattle.std.proofs.lemmas.Nat.{from_le_bytes-to_le_bytes_8}
 use Rattle.lz4_frame.specs.FrameEncodings.{RoundTrips, IsWrittenFrame}
-use Rattle.ipc_arrays.specs.declared.compression.codec.CompressionCodec.TheVariants.{Lz4Frame}
+use Rattle.ipc_flatbuf.specs.declared.compression.codec.CompressionCodec.TheVariants.{Lz4Frame}
 use Rattle.ipc_arrays.specs.CompressedBuffers.{spec_decoded, spec_content_of_size, spec_next_size, content_of, decompressed}
 use Rattle.ipc_arrays.specs.WrittenBuffers.{after_length, AppendsBuffer}
 

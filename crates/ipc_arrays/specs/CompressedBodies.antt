@@ -1,6 +1,6 @@
 -- The body of compressed buffers, laid out as a body without compression.
 use Rattle.std.specs.Prelude.{◌≡◌, ℕ, ◌+◌, Bool, List, [], ◌∷◌, Ok, if◌then◌else◌}
-use Rattle.ipc_arrays.specs.declared.compression.codec.CompressionCodec.{CompressionCodec}
+use Rattle.ipc_flatbuf.specs.declared.compression.codec.CompressionCodec.{CompressionCodec}
 use Rattle.ipc_arrays.specs.CompressedBuffers.{decompressed}
 use Rattle.ipc_arrays.specs.BodyBuffers.{body_of, buffer_specs}
 use Rattle.ipc_arrays.specs.PlainBodies.{is_needed_at, spec_plain_body}

@@ -3,10 +3,10 @@ use Rattle.std.specs.Prelude.{ℕ, zero, suc, ℤ, pos, negsuc, List, [], ◌++�
 use Rattle.std.specs.Int.{w64, from_le_bytes, cast_signed}
 use Rattle.lz4_frame.specs.Frames.{decoded_frame}
 use Rattle.zstd_decode.specs.Frames.{decoded_frames}
-use Rattle.ipc_arrays.specs.declared.compression.codec.CompressionCodec.{CompressionCodec}
-use Rattle.ipc_arrays.specs.declared.compression.codec.CompressionCodec.TheVariants.{Lz4Frame, Zstd}
-use Rattle.ipc_arrays.specs.declared.compression.error.CompressionError.{CompressionError}
-use Rattle.ipc_arrays.specs.declared.compression.error.CompressionError.TheVariants.{Truncated, Length}
+use Rattle.ipc_flatbuf.specs.declared.compression.codec.CompressionCodec.{CompressionCodec}
+use Rattle.ipc_flatbuf.specs.declared.compression.codec.CompressionCodec.TheVariants.{Lz4Frame, Zstd}
+use Rattle.ipc_flatbuf.specs.declared.compression.error.CompressionError.{CompressionError}
+use Rattle.ipc_flatbuf.specs.declared.compression.error.CompressionError.TheVariants.{Truncated, Length}
 use Rattle.ipc_arrays.specs.CompressionResults.{◌>>=◌, check, with_error}
 use Rattle.ipc_arrays.specs.CompressionCodecs.{error_of_lz4, error_of_zstd}
 

@@ -1,17 +1,10 @@
--- The codecs, and the error of a buffer for each error of a codec.
-use Rattle.std.specs.Prelude.{ℕ, Option, Some, None, ◌==◌, if◌then◌else◌}
+-- The error of a buffer for each error of a codec.
 use Rattle.lz4_frame.specs.declared.error.Lz4Error.{Lz4Error}
 use Rattle.lz4_frame.specs.declared.error.Lz4Error.TheVariants as lz4
 use Rattle.zstd_decode.specs.declared.error.ZstdError.{ZstdError}
 use Rattle.zstd_decode.specs.declared.error.ZstdError.TheVariants as zstandard
-use Rattle.ipc_arrays.specs.declared.compression.codec.CompressionCodec.{CompressionCodec}
-use Rattle.ipc_arrays.specs.declared.compression.codec.CompressionCodec.TheVariants.{Lz4Frame, Zstd}
-use Rattle.ipc_arrays.specs.declared.compression.error.CompressionError.{CompressionError}
-use Rattle.ipc_arrays.specs.declared.compression.error.CompressionError.TheVariants.{Truncated, Magic, Block, Checksum, Unsupported, Length, Memory}
-
--- the codec of a number (Message.fbs, enum CompressionType)
-abbrev pub codec_of_number : ℕ → Option CompressionCodec
-codec_of_number number = if number == 0 then Some Lz4Frame else if number == 1 then Some Zstd else None
+use Rattle.ipc_flatbuf.specs.declared.compression.error.CompressionError.{CompressionError}
+use Rattle.ipc_flatbuf.specs.declared.compression.error.CompressionError.TheVariants.{Truncated, Magic, Block, Checksum, Unsupported, Length, Memory}
 
 abbrev pub error_of_lz4 : Lz4Error → CompressionError
 error_of_lz4 lz4.Truncated = Truncated

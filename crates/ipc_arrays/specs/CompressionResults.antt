@@ -1,7 +1,7 @@
 -- The result of decoding: a value, or the first error in the order of the buffers and of their bytes.
 use Rattle.std.specs.Prelude.{◌≡◌, Bool, true, false, Result, Ok, Err}
-use Rattle.ipc_arrays.specs.declared.compression.error.CompressionError.{CompressionError}
-use Rattle.ipc_arrays.specs.declared.compression.error.CompressionError.TheVariants.{Memory}
+use Rattle.ipc_flatbuf.specs.declared.compression.error.CompressionError.{CompressionError}
+use Rattle.ipc_flatbuf.specs.declared.compression.error.CompressionError.TheVariants.{Memory}
 
 -- continues after a success
 infixl 10 ◌>>=◌

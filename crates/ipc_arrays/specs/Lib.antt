@@ -5,11 +5,14 @@ pub mod EachSlot
 pub mod PackedStrings
 pub mod Decoding
 pub mod Projection
+pub mod BufferCounts
+pub mod NeededBuffers
 pub mod UnionTypeIds
 pub mod NestedDecoding
 pub mod DictionaryKeyLaws
 pub mod DictionaryLaws
 pub mod DecodingLaws
+pub mod NeededBufferLaws
 pub mod Bitmaps
 pub mod BodyBuffers
 pub mod Encoding

@@ -3,8 +3,8 @@ use Rattle.std.specs.Prelude.{◌≡◌, ℕ, List, [], ◌∷◌, ◌++◌, Ok,
 use Rattle.lz4_frame.specs.XxHash.{spec_word_at, spec_word_round, spec_word_rounds, spec_byte_round, spec_byte_rounds, spec_avalanche, spec_initial_sum, spec_remaining_rounds, spec_xxh32}
 use Rattle.lz4_frame.specs.Blocks.{spec_extended_length, spec_next_length, with_match, with_checked_match, with_literals, with_match_of, sequences}
 use Rattle.lz4_frame.specs.Frames.{spec_next_content_size, spec_max_block_size, spec_next_descriptor, spec_after_checksum, with_block_data, with_next_block, with_blocks, spec_is_size, spec_magic_error, decoded_frame}
-use Rattle.ipc_arrays.specs.declared.compression.codec.CompressionCodec.TheVariants.{Lz4Frame}
-use Rattle.ipc_arrays.specs.declared.compression.error.CompressionError.TheVariants.{Truncated, Magic, Block, Checksum, Unsupported, Length}
+use Rattle.ipc_flatbuf.specs.declared.compression.codec.CompressionCodec.TheVariants.{Lz4Frame}
+use Rattle.ipc_flatbuf.specs.declared.compression.error.CompressionError.TheVariants.{Truncated, Magic, Block, Checksum, Unsupported, Length}
 use Rattle.ipc_arrays.specs.CompressedBuffers.{spec_decoded, spec_content_of_size, spec_next_size, content_of, decompressed}
 
 -- a length below 256, and one of -1 - n

@@ -1,9 +1,9 @@
 -- The plain body of a compressed body: what its buffers decode to, one after the other (Columnar format, RecordBatch message).
 use Rattle.std.specs.Prelude.{◌≡◌, ℕ, ◌+◌, ℤ, pos, negsuc, Bool, true, false, List, [], ◌∷◌, ◌++◌, length, take, drop, slice_get, slice_index_or, Some, Result, Ok, Err, nat_le, if◌then◌else◌}
 use Rattle.ipc_flatbuf.specs.declared.batch.parts.BufferSpec.{BufferSpec}
-use Rattle.ipc_arrays.specs.declared.compression.codec.CompressionCodec.{CompressionCodec}
-use Rattle.ipc_arrays.specs.declared.compression.error.CompressionError.{CompressionError}
-use Rattle.ipc_arrays.specs.declared.compression.error.CompressionError.TheVariants.{BufferRange}
+use Rattle.ipc_flatbuf.specs.declared.compression.codec.CompressionCodec.{CompressionCodec}
+use Rattle.ipc_flatbuf.specs.declared.compression.error.CompressionError.{CompressionError}
+use Rattle.ipc_flatbuf.specs.declared.compression.error.CompressionError.TheVariants.{BufferRange}
 use Rattle.ipc_arrays.specs.BodyBuffers.{padded, body_of, buffer_specs}
 use Rattle.ipc_arrays.specs.CompressionResults.{◌>>=◌}
 use Rattle.ipc_arrays.specs.CompressedBuffers.{decompressed}

@@ -7,7 +7,7 @@ use Rattle.std.proofs.lemmas.List.Concat.{flat_map-cons, flat_map-append}
 use Rattle.ipc_flatbuf.specs.FlatbufferLaws.{From, From-length, From_next}
 use Rattle.ipc_flatbuf.specs.MessageBytes.{padding}
 use Rattle.ipc_flatbuf.specs.declared.batch.parts.BufferSpec.{BufferSpec}
-use Rattle.ipc_arrays.specs.declared.compression.codec.CompressionCodec.{CompressionCodec}
+use Rattle.ipc_flatbuf.specs.declared.compression.codec.CompressionCodec.{CompressionCodec}
 use Rattle.ipc_arrays.specs.CompressedBuffers.{decompressed}
 use Rattle.ipc_arrays.specs.BodyBuffers.{padded, body_of, buffer_specs}
 use Rattle.ipc_arrays.specs.PlainBodies.{buffer_slice, buffer_spec, is_needed_at, needed_slice, decompressed_buffer, decompressed_buffers, spec_plain_body}

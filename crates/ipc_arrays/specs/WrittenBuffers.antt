@@ -2,7 +2,7 @@
 use Rattle.std.specs.Prelude.{◌≡◌, ◌⊎◌, ℕ, ◌<◌, ℤ, pos, negsuc, List, [], ◌++◌, length, Ok}
 use Rattle.std.specs.Int.{w64, to_le_bytes, cast_unsigned}
 use Rattle.lz4_frame.specs.FrameEncodings.{IsWrittenFrame}
-use Rattle.ipc_arrays.specs.declared.compression.codec.CompressionCodec.TheVariants.{Lz4Frame}
+use Rattle.ipc_flatbuf.specs.declared.compression.codec.CompressionCodec.TheVariants.{Lz4Frame}
 use Rattle.ipc_arrays.specs.CompressedBuffers.{decompressed}
 
 -- a stated length, and the bytes after it

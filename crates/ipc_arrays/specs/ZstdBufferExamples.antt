@@ -4,8 +4,8 @@ use Rattle.zstd_decode.specs.ReadResults.{parts}
 use Rattle.zstd_decode.specs.FrameHeaders.{spec_window_size, spec_next_window, spec_next_dictionary_id, spec_next_content_size, spec_frame_window, spec_next_frame_header}
 use Rattle.zstd_decode.specs.Blocks.{with_raw_block, with_rle_block, with_block_content, with_next_block}
 use Rattle.zstd_decode.specs.Frames.{spec_is_size, spec_after_checksum, with_frame_content, spec_after_skippable, with_magic, with_next_frame}
-use Rattle.ipc_arrays.specs.declared.compression.codec.CompressionCodec.TheVariants.{Zstd}
-use Rattle.ipc_arrays.specs.declared.compression.error.CompressionError.TheVariants.{Truncated, Magic, Block, Unsupported, Length}
+use Rattle.ipc_flatbuf.specs.declared.compression.codec.CompressionCodec.TheVariants.{Zstd}
+use Rattle.ipc_flatbuf.specs.declared.compression.error.CompressionError.TheVariants.{Truncated, Magic, Block, Unsupported, Length}
 use Rattle.ipc_arrays.specs.CompressedBuffers.{spec_decoded, spec_content_of_size, spec_next_size, content_of, decompressed}
 
 -- a length below 256

@@ -11,6 +11,7 @@ ghost use Rattle.ipc_arrays.specs.ReplacedValues.{AreSameUpToValues, AreEncodedA
 ghost use Rattle.ipc_arrays.specs.Encoding.{field_node_of, normalized, written_arrays, buffers_of, columns_body, dictionaries_of};
 ghost use Rattle.ipc_arrays.specs.Examples.{worked_type, worked_body, worked_rest, worked_column, nothing, DecodesAsStated, EncodesAsStated, null_column, boolean_column, int128_column, int256_column, days_ms_column, months_days_ns_column, fixed_size_binary_column, binary_column, large_utf8_column, sliced_binary_column};
 ghost use Rattle.ipc_arrays.specs.Projection.{ProjectionState, decoded_projection, every_column};
+ghost use Rattle.ipc_arrays.specs.NeededBufferLaws.{ColumnsUseTheirBuffers, UnneededBuffersDoNotMatter};
 ghost use Rattle.ipc_arrays.specs.ProjectionExamples.{SkippedColumnsAreChecked, ColumnsAroundAreRead};
 
 /// The body of another writer, byte by byte, decodes to an `Int32` column of 7 and null.
@@ -110,4 +111,14 @@ pub fn skipped_columns_are_checked()
 /// A projection of every column returns the result of `read_columns`, be it the columns or the error.
 pub fn full_projection_reads_every_column()
     ensures { (types : List TypeTree) (rows : ℕ) (body : List ℕ) (ahead : ProjectionState) → decoded_projection (every_column types) types rows body ahead ≡ decoded_columns types rows body ahead.rest }
+{}
+
+/// A column that is read leaves the buffers after those of its data type, so it uses each of these and no other.
+pub fn columns_use_their_buffers()
+    ensures { ColumnsUseTheirBuffers }
+{}
+
+/// The projected columns do not depend on the buffers that [`crate::needed_buffers`] leaves out: other bytes there make no difference.
+pub fn unneeded_buffers_do_not_matter()
+    ensures { UnneededBuffersDoNotMatter }
 {}

@@ -7,6 +7,7 @@
 
 mod bits;
 mod boolean;
+mod buffer_counts;
 mod bytes;
 mod columns;
 pub mod compression;
@@ -24,6 +25,7 @@ mod no_dictionaries;
 pub mod other_writers;
 mod packed;
 mod projected;
+mod projected_buffers;
 pub mod read_examples;
 mod reading;
 mod strings;
@@ -41,5 +43,6 @@ pub use fixed_width::{FixedWidth, FixedWidthOffset};
 pub use layout::{BodyLayout, layout_columns};
 pub use no_dictionaries::have_no_dictionaries;
 pub use projected::{ProjectionCursor, read_projected};
+pub use projected_buffers::needed_buffers;
 pub use reading::read_column;
 pub use writing::write_columns;

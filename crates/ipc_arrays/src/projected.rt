@@ -33,8 +33,12 @@ fn skip_nodes(count: usize, nodes: &[FieldNode]) -> Result<&[FieldNode], IpcRead
     }
 }
 
+/// Skips this number of buffers.
 #[tactic(auto, unfolding(crate::specs::Projection::skip_first))]
-fn skip_buffers(count: usize, buffers: &[BufferSpec]) -> Result<&[BufferSpec], IpcReadError>
+pub(crate) fn skip_buffers(
+    count: usize,
+    buffers: &[BufferSpec],
+) -> Result<&[BufferSpec], IpcReadError>
     ensures { Returns (λ s. s.now) result (skip_first BufferCount count buffers.now) }
 {
     if count <= buffers.len() {
@@ -61,8 +65,8 @@ fn skip_view<'a>(
     }
 }
 
-// Skips the variadic buffers of `views` view arrays.
-fn skip_views<'a>(
+/// Skips the variadic buffers of `views` view arrays.
+pub(crate) fn skip_views<'a>(
     views: usize,
     more: &'a [i64],
     buffers: &'a [BufferSpec],

@@ -126,8 +126,8 @@ fn read_flat<'a>(
     }
 }
 
-// Returns whether the type is neither an extension nor nested.
-fn is_flat(data_type: &DataType) -> bool
+/// Returns whether the type is neither an extension nor nested.
+pub(crate) fn is_flat(data_type: &DataType) -> bool
     ensures { result ≡ is_flat_type (type_of data_type.now) }
 {
     match data_type {

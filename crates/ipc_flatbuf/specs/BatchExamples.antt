@@ -1,6 +1,6 @@
 -- Worked examples: the bytes of a record batch of another writer (two 32-bit rows, the second null, a body of 16 bytes),
 -- and those of a dictionary batch.
-use Rattle.std.specs.Prelude.{◌≡◌, ℕ, pos, true, false, List, [], ◌∷◌, ◌++◌, Some, Ok, refl}
+use Rattle.std.specs.Prelude.{◌≡◌, ℕ, pos, true, false, List, [], ◌∷◌, ◌++◌, Some, None, Ok, refl}
 use Rattle.std.specs.Int.{w8, w64}
 use Rattle.ipc_flatbuf.specs.Flatbuffers.{number_at, signed_at, field, spec_offset_field, spec_offset_at, spec_back_from, spec_table_at, spec_field_position, spec_charge_budget, spec_read_table, spec_read_vector, structs_at, spec_items_at, vector_at}
 use Rattle.ipc_flatbuf.specs.PartBytes.{i64_bytes, u32_bytes, vector_bytes}
@@ -10,8 +10,9 @@ use Rattle.ipc_flatbuf.specs.Messages.{MessageModel, root_at, spec_first_bytes, 
 use Rattle.ipc_flatbuf.specs.declared.message.types.MessageKind.TheVariants.{DictionaryBatch, RecordBatch}
 use Rattle.ipc_flatbuf.specs.declared.message.types.MetadataVersion.TheVariants.{V5}
 use Rattle.ipc_flatbuf.specs.declared.message.types.MessageRoot.{MessageRoot}
+use Rattle.ipc_flatbuf.specs.Compression.{compression_at}
 use Rattle.ipc_flatbuf.specs.Batches.{BatchModel, spec_each_within, spec_all_within, batch_at}
-use Rattle.ipc_flatbuf.specs.BatchBytes.{node_bytes, buffer_bytes, batch_part_head, batch_part_bytes}
+use Rattle.ipc_flatbuf.specs.BatchBytes.{node_bytes, buffer_bytes, plain_head, batch_part_bytes}
 use Rattle.ipc_flatbuf.specs.DictionaryBytes.{dictionary_part_head, dictionary_part_bytes, dictionary_message}
 
 abbrev pub worked_message : List ℕ
@@ -26,6 +27,7 @@ worked_tree = record {
   rows = 2;
   nodes = record { length = pos 2; null_count = pos 1 } ∷ [];
   buffers = record { offset = pos 0; length = pos 1 } ∷ record { offset = pos 8; length = pos 8 } ∷ [];
+  compression = None;
 }
 
 -- its metadata
@@ -44,7 +46,7 @@ unfolding spec_offset_at spec_back_from spec_table_at spec_field_position spec_c
 worked_parts = refl
 
 pub worked_batch : batch_at worked_metadata 52 8696 16 ≡ Ok worked_tree
-unfolding spec_offset_at spec_back_from spec_table_at spec_field_position spec_charge_budget spec_read_table spec_read_vector structs_at spec_items_at vector_at spec_each_within spec_all_within batch_at
+unfolding spec_offset_at spec_back_from spec_table_at spec_field_position spec_charge_budget spec_read_table spec_read_vector structs_at spec_items_at vector_at compression_at spec_each_within spec_all_within batch_at
 worked_batch = refl
 
 -- ---- a dictionary batch of two 32-bit values with a body of 8 bytes; its id is 515 (bytes 3 and 2), flag is isDelta
@@ -61,6 +63,7 @@ values_tree = record {
   rows = 2;
   nodes = record { length = pos 2; null_count = pos 0 } ∷ [];
   buffers = record { offset = pos 0; length = pos 0 } ∷ record { offset = pos 0; length = pos 8 } ∷ [];
+  compression = None;
 }
 
 -- its metadata
@@ -78,7 +81,7 @@ abbrev pub values_table : Table
 values_table = record { at = 60; vtable = 48; size = 10 }
 
 pub values_written : dictionary_message false (pos 515) values_tree 8 ≡ values_message 0
-unfolding i64_bytes u32_bytes vector_bytes root_bytes framed_bytes message_bytes node_bytes buffer_bytes batch_part_head batch_part_bytes dictionary_part_head dictionary_part_bytes dictionary_message
+unfolding i64_bytes u32_bytes vector_bytes root_bytes framed_bytes message_bytes node_bytes buffer_bytes plain_head batch_part_bytes dictionary_part_head dictionary_part_bytes dictionary_message
 values_written = refl
 
 pub values_parts : message_at (values_message 0 ++ values_body) ≡ Ok (Some (values_of 0), [])
@@ -102,13 +105,13 @@ unfolding spec_field_position
 values_whole = refl
 
 pub values_batch : batch_at (values_metadata 0) 96 11248 8 ≡ Ok values_tree
-unfolding spec_offset_at spec_back_from spec_table_at spec_field_position spec_charge_budget spec_read_table spec_read_vector structs_at spec_items_at vector_at spec_each_within spec_all_within batch_at
+unfolding spec_offset_at spec_back_from spec_table_at spec_field_position spec_charge_budget spec_read_table spec_read_vector structs_at spec_items_at vector_at compression_at spec_each_within spec_all_within batch_at
 values_batch = refl
 
 -- ---- the same values as a delta
 
 pub delta_written : dictionary_message true (pos 515) values_tree 8 ≡ values_message 1
-unfolding i64_bytes u32_bytes vector_bytes root_bytes framed_bytes message_bytes node_bytes buffer_bytes batch_part_head batch_part_bytes dictionary_part_head dictionary_part_bytes dictionary_message
+unfolding i64_bytes u32_bytes vector_bytes root_bytes framed_bytes message_bytes node_bytes buffer_bytes plain_head batch_part_bytes dictionary_part_head dictionary_part_bytes dictionary_message
 delta_written = refl
 
 pub delta_parts : message_at (values_message 1 ++ values_body) ≡ Ok (Some (values_of 1), [])

@@ -1,12 +1,14 @@
 -- The record batch that metadata decodes to (Message.fbs: table RecordBatch, structs FieldNode and Buffer).
-use Rattle.std.specs.Prelude.{ℕ, ◌+◌, ℤ, pos, negsuc, Bool, false, List, [], ◌∷◌, map, sum, Option, Some, None, Result, Ok, Err, nat_le}
+use Rattle.std.specs.Prelude.{ℕ, ◌+◌, ℤ, pos, negsuc, Bool, false, List, [], ◌∷◌, map, sum, Option, Result, Ok, nat_le}
 use Rattle.std.specs.Int.{w64}
 use Rattle.ipc_flatbuf.specs.ReadResults.{◌>>=◌, check}
 use Rattle.ipc_flatbuf.specs.declared.error.IpcReadError.{IpcReadError}
-use Rattle.ipc_flatbuf.specs.declared.error.IpcReadError.TheVariants.{RowCount, Compressed, BufferRange, BufferSum}
+use Rattle.ipc_flatbuf.specs.declared.error.IpcReadError.TheVariants.{RowCount, BufferRange, BufferSum}
 use Rattle.ipc_flatbuf.specs.declared.batch.parts.FieldNode.{FieldNode}
 use Rattle.ipc_flatbuf.specs.declared.batch.parts.BufferSpec.{BufferSpec}
-use Rattle.ipc_flatbuf.specs.Flatbuffers.{spec_non_negative, signed_at, field, spec_field_position, spec_offset_field, spec_read_table, vector_at}
+use Rattle.ipc_flatbuf.specs.declared.compression.codec.CompressionCodec.{CompressionCodec}
+use Rattle.ipc_flatbuf.specs.Compression.{compression_at}
+use Rattle.ipc_flatbuf.specs.Flatbuffers.{spec_non_negative, signed_at, field, spec_offset_field, spec_read_table, vector_at}
 use Rattle.ipc_flatbuf.specs.declared.batch.metadata.BatchMetadata.{BatchMetadata}
 
 -- the value of a BatchMetadata
@@ -14,6 +16,7 @@ pub record BatchModel : Type 0 where
   pub rows : ℕ
   pub nodes : List FieldNode
   pub buffers : List BufferSpec
+  pub compression : Option CompressionCodec
 
 abbrev pub spec_node_at : List ℕ → ℕ → Result FieldNode IpcReadError
 spec_node_at bytes position = do
@@ -49,25 +52,21 @@ spec_each_within body (r ∷ rs) = check (spec_is_within body r.offset r.length)
 unfoldable pub spec_all_within : ℕ → List BufferSpec → Result (Unit {0}) IpcReadError
 spec_all_within body rs = spec_each_within body rs >>= λ each. check (nat_le (sum (map length_of rs)) body) BufferSum
 
-abbrev pub spec_uncompressed : Option ℕ → Result (Unit {0}) IpcReadError
-spec_uncompressed None = Ok tt
-spec_uncompressed (Some position) = Err Compressed
-
 -- the record batch whose table is at a position, and whose body has body bytes
 unfoldable pub batch_at : List ℕ → ℕ → ℕ → ℕ → Result BatchModel IpcReadError
 batch_at bytes position left body = do
   table ← spec_read_table bytes position left
   long ← field (signed_at w64 bytes) (pos 0) bytes table.0 0
   rows ← spec_non_negative RowCount long
-  compression ← spec_field_position bytes table.0 3
-  plain ← spec_uncompressed compression
+  to ← spec_offset_field bytes table.0 3
+  compression ← compression_at bytes to table.1
   to ← spec_offset_field bytes table.0 1
-  nodes ← vector_at (spec_node_at bytes) 16 bytes to table.1
+  nodes ← vector_at (spec_node_at bytes) 16 bytes to compression.1
   to ← spec_offset_field bytes table.0 2
   buffers ← vector_at (spec_buffer_at bytes) 16 bytes to nodes.1
   inside ← spec_all_within body buffers.0
-  Ok (record { rows = rows; nodes = nodes.0; buffers = buffers.0 })
+  Ok (record { rows = rows; nodes = nodes.0; buffers = buffers.0; compression = compression.0 })
 
 -- the value of a Rust BatchMetadata
 abbrev pub batch_of : BatchMetadata → BatchModel
-batch_of b = record { rows = b.rows; nodes = b.nodes.items; buffers = b.buffers.items }
+batch_of b = record { rows = b.rows; nodes = b.nodes.items; buffers = b.buffers.items; compression = b.compression }

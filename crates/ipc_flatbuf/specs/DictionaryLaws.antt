@@ -15,7 +15,7 @@ use Rattle.ipc_flatbuf.specs.declared.message.types.MessageKind.TheVariants.{Dic
 use Rattle.ipc_flatbuf.specs.declared.message.types.MetadataVersion.TheVariants.{V5}
 use Rattle.ipc_flatbuf.specs.Batches.{BatchModel, spec_all_within, batch_at}
 use Rattle.ipc_flatbuf.specs.BatchBytes.{batch_part_bytes}
-use Rattle.ipc_flatbuf.specs.BatchLaws.{BatchFits, batch_long, batch_part_round_trips}
+use Rattle.ipc_flatbuf.specs.BatchLaws.{BatchFits, least_head, batch_long, batch_part_round_trips}
 use Rattle.ipc_flatbuf.specs.DictionaryBytes.{delta_byte, dictionary_part_head, dictionary_part_bytes, dictionary_message}
 
 pub dictionary_long : (delta : Bool) (id : ℤ) (b : BatchModel) → length (dictionary_part_bytes delta id b) ≡ 32 + length (batch_part_bytes b)
@@ -98,7 +98,7 @@ dictionary_round_trips delta id b body named fits short inside small =
     let framed : length (message_bytes DictionaryBatch (length body) 12 part) ≡ length (framed_bytes metadata) = unfold message_bytes in refl in
     let few : length whole < 2 ^ 31 = omega (arith, framed, framed_long metadata, padding_long (length metadata), padded_long metadata) in
     let h : From whole 48 (part ++ after) = written_part DictionaryBatch (length body) 12 part in
-    let enough : 128 + 16 * length b.nodes + 16 * length b.buffers ≤ length whole = omega (arith, batch_long b, dictionary_long delta id b, root_long DictionaryBatch (length body) 12 part, padded_long metadata) in
+    let enough : 128 + 16 * length b.nodes + 16 * length b.buffers ≤ length whole = omega (arith, least_head b.compression, batch_long b, dictionary_long delta id b, root_long DictionaryBatch (length body) 12 part, padded_long metadata) in
     record {
       parts = written_parts DictionaryBatch 12 part body;
       table = table_in 48 12 10;

@@ -14,6 +14,7 @@ pub mod MessageBytes
 pub mod MessageLaws
 pub mod MessageExamples
 -- record batches and dictionary batches
+pub mod Compression
 pub mod Batches
 pub mod VariadicBuffers
 pub mod BatchBytes
@@ -21,3 +22,4 @@ pub mod BatchLaws
 pub mod DictionaryBytes
 pub mod DictionaryLaws
 pub mod BatchExamples
+pub mod CompressionExamples

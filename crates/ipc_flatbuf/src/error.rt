@@ -1,6 +1,7 @@
 //! The errors of reading and of writing Arrow IPC data.
 ghost use Rattle.std.specs.Prelude.{◌≡◌};
 
+use crate::CompressionError;
 use std::alloc::{AllocError, AllocFailed};
 
 /// Why bytes were not read: the first error in the order of reading, or `Memory` in place of it or of a later one.
@@ -88,9 +89,9 @@ pub enum IpcReadError {
     /// The number of rows of a batch is negative, or the length of a column differs from it.
     #[error("number of rows is negative or differs from the length of a column")]
     RowCount,
-    /// The body is compressed, which is not supported.
-    #[error("compressed bodies are not supported")]
-    Compressed,
+    /// The codec or the method of the compression of a body is unknown.
+    #[error("compression of a message body is neither LZ4 nor Zstandard of its buffers")]
+    UnsupportedCompression,
     /// The offset or length of a buffer is negative, or the buffer ends after the body.
     #[error("buffer is outside of the message body")]
     BufferRange,
@@ -109,6 +110,9 @@ pub enum IpcReadError {
     /// The length of a child of a struct, fixed-size list or sparse union does not match its parent.
     #[error("length of a child does not match its parent")]
     ChildLength,
+    /// A compressed buffer is not decoded.
+    #[error("{0}")]
+    Compression(CompressionError),
     /// A buffer is shorter than the length of the array requires.
     #[error("buffer is shorter than the length of the array requires")]
     BufferTooShort,
@@ -167,6 +171,20 @@ impl<T: Drop> From<AllocFailed<T>> for IpcReadError {
 
     fn from(_refused: AllocFailed<T>) -> IpcReadError {
         IpcReadError::Memory
+    }
+}
+
+impl From<CompressionError> for IpcReadError {
+    ghost use Rattle.ipc_flatbuf.specs.Compression.{read_error_of};
+
+    ghost from_gives = { λ error e. e ≡ read_error_of error };
+
+    fn from(error: CompressionError) -> IpcReadError {
+        match error {
+            CompressionError::BufferRange => IpcReadError::BufferRange,
+            CompressionError::Memory => IpcReadError::Memory,
+            _ => IpcReadError::Compression(error),
+        }
     }
 }
 

@@ -6,6 +6,7 @@
 #![tactic(auto)]
 
 pub mod batch;
+mod compression;
 mod error;
 pub mod message;
 mod numbers;
@@ -15,6 +16,7 @@ mod vectors;
 mod writers;
 
 pub use batch::{BufferSpec, FieldNode};
+pub use compression::{CompressionCodec, CompressionError};
 pub use error::{IpcReadError, IpcWriteError};
 pub use numbers::{i16_at, i32_at, i64_at, non_negative, offset_at, u8_at, u16_at, u32_at, u64_at};
 pub use projection::{FieldAction, SkippedField};

@@ -3,7 +3,6 @@ use crate::input::OpenError;
 use crate::output::StandardOutput;
 use cli_read::CompareError;
 use cli_rows::{BatchError, CliError, Difference, difference_text, write_output};
-use ipc_flatbuf::IpcReadError;
 use std::fmt::Display;
 use std::io;
 use std::io::ErrorKind;
@@ -55,18 +54,9 @@ pub fn report_input(rt: &HostRuntime, file: &str, error: InputError) -> ExitCode
     }
 }
 
-/// Returns what the user can do about an error, where that is known.
-fn advice(error: CliError) -> &'static str {
-    match error {
-        CliError::Read(IpcReadError::Compressed) => "; write it without compression",
-        _ => "",
-    }
-}
-
 /// Reports an error of a file and its record batch.
 pub fn report_batch(rt: &HostRuntime, file: &str, error: BatchError) -> ExitCode {
-    let advice = advice(error.error);
-    let _ = eprintln!(rt; "nest: {file}: {error}{advice}");
+    let _ = eprintln!(rt; "nest: {file}: {error}");
     failed()
 }
 

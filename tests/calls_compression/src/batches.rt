@@ -1,8 +1,8 @@
 //! The record batches of streams of Arrow C++, as they are stored.
 
-use ipc_arrays::compression::CompressionCodec;
+use ipc_flatbuf::batch::read_batch;
 use ipc_flatbuf::message::{Message, MessageKind, next_message};
-use ipc_flatbuf::{BufferSpec, IpcReadError, i64_at, items_at, offset_field, read_table, u8_field};
+use ipc_flatbuf::{BufferSpec, CompressionCodec, IpcReadError};
 use std::alloc::Global;
 
 /// A record batch: its codec, its buffers and its body.
@@ -13,27 +13,13 @@ pub struct StoredBatch<'a> {
     pub body: &'a [u8],
 }
 
-/// Returns the record batch of a message (Message.fbs, tables `RecordBatch` and `BodyCompression`).
+/// Returns the record batch of a message.
 fn batch_of<'a>(alloc: Global, message: Message<'a>) -> Result<StoredBatch<'a>, IpcReadError> {
-    let bytes = message.metadata;
-    let (table, left) = read_table(bytes, message.root.header, message.root.left)?;
-    let codec = match offset_field(bytes, table, 3)? {
-        None => None,
-        Some(position) => {
-            let (compression, _) = read_table(bytes, position, left)?;
-            CompressionCodec::from_number(u8_field(bytes, compression, 0)?)
-        }
-    };
-    let (items, _) = items_at(16, bytes, offset_field(bytes, table, 2)?, left)?;
-    let mut buffers = Vec::new(alloc);
-    for i in 0..items.count {
-        let offset = i64_at(bytes, items.first + 16 * i)?;
-        let length = i64_at(bytes, items.first + 16 * i + 8)?;
-        buffers.push(BufferSpec { offset, length })?;
-    }
+    let (header, left) = (message.root.header, message.root.left);
+    let batch = read_batch(alloc, message.metadata, header, left, message.body.len())?;
     Ok(StoredBatch {
-        codec,
-        buffers,
+        codec: batch.compression,
+        buffers: batch.buffers,
         body: message.body,
     })
 }

@@ -1,8 +1,8 @@
 //! The plain bodies of record batches that Arrow C++ compressed: those of the same batch without compression, and those of the other codec.
 
 use crate::batches::{StoredBatch, first_batch};
-use ipc_arrays::compression::{CompressionCodec, CompressionError, plain_body};
-use ipc_flatbuf::BufferSpec;
+use ipc_arrays::compression::plain_body;
+use ipc_flatbuf::{BufferSpec, CompressionCodec, CompressionError};
 use std::alloc::Global;
 use std::process::Abort;
 

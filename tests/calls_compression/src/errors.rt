@@ -1,6 +1,7 @@
 //! Each error of a buffer, by the smallest change of one that decodes. After an error the output is unchanged.
 
-use ipc_arrays::compression::{CompressionCodec, CompressionError, decompress_buffer};
+use ipc_arrays::compression::decompress_buffer;
+use ipc_flatbuf::{CompressionCodec, CompressionError};
 use std::process::Abort;
 
 /// `abc` as an LZ4 frame of an uncompressed block, as Arrow C++ writes it.
@@ -74,10 +75,8 @@ fn buffers_of_zstd(rt: HostRuntime) {
 /// A buffer of the other codec.
 #[test]
 fn codecs(rt: HostRuntime) {
-    assert!(rt; CompressionCodec::from_number(0) == Some(CompressionCodec::Lz4Frame));
-    assert!(rt; CompressionCodec::from_number(1) == Some(CompressionCodec::Zstd));
-    assert!(rt; CompressionCodec::from_number(2) == None);
-    assert!(rt; CompressionCodec::from_number(255) == None);
+    assert!(rt; CompressionCodec::Lz4Frame.number() == 0);
+    assert!(rt; CompressionCodec::Zstd.number() == 1);
     expect(
         &rt,
         CompressionCodec::Lz4Frame,

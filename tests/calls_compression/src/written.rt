@@ -1,6 +1,7 @@
 //! What is written: it decodes to its content, and it is the shorter of two forms.
 
-use ipc_arrays::compression::{CompressionCodec, compress_buffer, decompress_buffer};
+use ipc_arrays::compression::{compress_buffer, decompress_buffer};
+use ipc_flatbuf::CompressionCodec;
 use lz4_frame::decode_frame;
 use std::process::Abort;
 

@@ -19,6 +19,7 @@ fn placed(
         rows,
         nodes: placed.nodes,
         buffers: placed.buffers,
+        compression: None,
     };
     Ok((metadata, placed.length))
 }

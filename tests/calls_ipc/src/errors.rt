@@ -28,7 +28,7 @@ fn one_byte_or_two_changed(rt: HostRuntime) {
         (167, 128, 167, 128, IpcReadError::BodyLength),
         (161, 16, 161, 16, IpcReadError::Truncated),
         (199, 128, 199, 128, IpcReadError::RowCount),
-        (176, 12, 186, 4, IpcReadError::Compressed),
+        (176, 12, 186, 4, IpcReadError::Flatbuffer),
         (240, 16, 240, 16, IpcReadError::BufferRange),
         (247, 128, 247, 128, IpcReadError::BufferRange),
         (255, 128, 255, 128, IpcReadError::BufferRange),

@@ -6,6 +6,7 @@ mod bodies;
 mod changed_delta_files;
 mod columns;
 mod columns_read;
+mod compressed;
 mod delta_files;
 mod delta_messages;
 mod deltas;

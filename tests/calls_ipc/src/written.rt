@@ -4,7 +4,8 @@
 use ipc_flatbuf::batch::{BatchMetadata, read_batch, write_batch, write_dictionary};
 use ipc_flatbuf::message::{MessageKind, next_message};
 use ipc_flatbuf::{
-    BufferSpec, FieldNode, IpcWriteError, i64_field, offset_field, read_table, u8_field,
+    BufferSpec, CompressionCodec, FieldNode, IpcWriteError, i64_field, offset_field, read_table,
+    u8_field,
 };
 use ipc_schema::{Schema, read_schema, write_schema};
 use nest_memory::datatypes::{DataType, Field, Metadata};
@@ -84,7 +85,17 @@ fn rejected_schemas(rt: HostRuntime) {
     assert!(rt; write_schema(alloc, &schema).err() == Some(IpcWriteError::Extension));
 }
 
-fn three_rows(alloc: Global) -> Result<BatchMetadata, IpcWriteError> {
+/// Each compression of a record batch.
+const COMPRESSIONS: [Option<CompressionCodec>; 3] = [
+    None,
+    Some(CompressionCodec::Lz4Frame),
+    Some(CompressionCodec::Zstd),
+];
+
+fn three_rows(
+    alloc: Global,
+    compression: Option<CompressionCodec>,
+) -> Result<BatchMetadata, IpcWriteError> {
     let mut nodes = Vec::new(alloc);
     nodes.push(FieldNode {
         length: 3,
@@ -103,38 +114,42 @@ fn three_rows(alloc: Global) -> Result<BatchMetadata, IpcWriteError> {
         rows: 3,
         nodes,
         buffers,
+        compression,
     })
 }
 
 #[test]
 fn a_batch(rt: HostRuntime) {
     let alloc = rt.alloc();
-    let batch = three_rows(alloc).expect(&rt, "no rows");
-    let mut bytes = Vec::new(alloc);
-    assert!(rt; write_batch(alloc, &mut bytes, &batch, 16).is_ok());
-    assert!(rt; bytes.len() % 8 == 0);
-    assert!(rt; bytes.extend_from_slice(&[7; 16]).is_ok());
-    let (message, rest) = next_message(&bytes).expect(&rt, "no message");
-    let message = message.expect(&rt, "the end");
-    assert!(rt; rest.is_empty());
-    let root = message.root;
-    let read = read_batch(
-        alloc,
-        message.metadata,
-        root.header,
-        root.left,
-        root.body_length,
-    )
-    .expect(&rt, "no batch");
-    assert!(rt; read.rows == 3);
-    assert!(rt; read.nodes == batch.nodes);
-    assert!(rt; read.buffers == batch.buffers);
+    for compression in COMPRESSIONS {
+        let batch = three_rows(alloc, compression).expect(&rt, "no rows");
+        let mut bytes = Vec::new(alloc);
+        assert!(rt; write_batch(alloc, &mut bytes, &batch, 16).is_ok());
+        assert!(rt; bytes.len() % 8 == 0);
+        assert!(rt; bytes.extend_from_slice(&[7; 16]).is_ok());
+        let (message, rest) = next_message(&bytes).expect(&rt, "no message");
+        let message = message.expect(&rt, "the end");
+        assert!(rt; rest.is_empty());
+        let root = message.root;
+        let read = read_batch(
+            alloc,
+            message.metadata,
+            root.header,
+            root.left,
+            root.body_length,
+        )
+        .expect(&rt, "no batch");
+        assert!(rt; read.rows == 3);
+        assert!(rt; read.nodes == batch.nodes);
+        assert!(rt; read.buffers == batch.buffers);
+        assert!(rt; read.compression == compression);
+    }
 }
 
 #[test]
 fn a_dictionary(rt: HostRuntime) {
     let alloc = rt.alloc();
-    let batch = three_rows(alloc).expect(&rt, "no rows");
+    let batch = three_rows(alloc, None).expect(&rt, "no rows");
     for delta in [false, true] {
         let mut bytes = Vec::new(alloc);
         assert!(rt; write_dictionary(alloc, &mut bytes, delta, 515, &batch, 16).is_ok());

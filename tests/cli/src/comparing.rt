@@ -5,7 +5,7 @@ use cli_args::Format;
 use cli_read::{CompareError, compare};
 use cli_rows::{BatchError, CliError, Difference};
 use ipc::{Batch, write_file, write_stream};
-use ipc_flatbuf::{IpcReadError, IpcWriteError};
+use ipc_flatbuf::{CompressionError, IpcReadError, IpcWriteError};
 use ipc_schema::{Projection, Schema};
 use nest_array::AnyArray;
 use nest_flat::boolean::BooleanArray;
@@ -63,7 +63,8 @@ fn samples_are_compared(rt: HostRuntime) -> Result<(), Fail> {
     assert!(rt; rows == Ok(Some(Difference::Row(0))));
     let rows = samples_compared(rt.alloc(), Projection::Names(&["a"]), FILE, EMPTY);
     assert!(rt; rows == Ok(Some(Difference::Row(0))));
-    let compressed = read_error(Some(0), IpcReadError::Compressed);
+    let truncated = IpcReadError::Compression(CompressionError::Truncated);
+    let compressed = read_error(Some(0), truncated);
     let error = samples_compared(rt.alloc(), Projection::All, COMPRESSED, STREAM);
     assert!(rt; error == Err(CompareError::First(compressed)));
     let error = samples_compared(rt.alloc(), Projection::All, STREAM, COMPRESSED);

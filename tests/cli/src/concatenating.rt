@@ -6,7 +6,7 @@ use crate::samples::{BOOLEANS, COLUMNLESS, COMPRESSED, EMPTY, FILE, STREAM, byte
 use cli_args::Format;
 use cli_rows::{BatchError, CliError};
 use cli_write::{AppendError, append, begin_concat};
-use ipc_flatbuf::IpcReadError;
+use ipc_flatbuf::{CompressionError, IpcReadError};
 use ipc_schema::Projection;
 use std::alloc::Global;
 use std::test::*;
@@ -81,7 +81,8 @@ fn errors_name_the_input(rt: HostRuntime) -> Result<(), Fail> {
     // The metadata length of the third record batch is negative.
     broken[632] = 0;
     let negative = AppendError::Batch(read_error(Some(2), IpcReadError::MetadataLength));
-    let compressed = AppendError::Batch(read_error(Some(0), IpcReadError::Compressed));
+    let truncated = IpcReadError::Compression(CompressionError::Truncated);
+    let compressed = AppendError::Batch(read_error(Some(0), truncated));
     let unread = AppendError::Batch(read_error(None, IpcReadError::Truncated));
     let mut none = Vec::new(alloc);
     none.extend_from_slice(b"a,b\n1,2\n")?;

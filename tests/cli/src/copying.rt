@@ -7,7 +7,7 @@ use cli_args::{Column, Format, Selection};
 use cli_read::open;
 use cli_rows::{BatchError, CliError, in_row_order};
 use cli_write::copy;
-use ipc_flatbuf::IpcReadError;
+use ipc_flatbuf::{CompressionError, IpcReadError};
 use ipc_schema::Projection;
 use std::alloc::Global;
 use std::test::*;
@@ -170,7 +170,8 @@ fn errors_end_a_copy(rt: HostRuntime) -> Result<(), Fail> {
         lines_of(alloc, &made).expect(&rt, "lines").as_str() == "{\"a\":null,\"b\":\"b\"}\n"
     );
     let compressed = bytes_of(alloc, COMPRESSED)?;
-    let error = read_error(Some(0), IpcReadError::Compressed);
+    let truncated = IpcReadError::Compression(CompressionError::Truncated);
+    let error = read_error(Some(0), truncated);
     let found = copied(
         alloc,
         &compressed,

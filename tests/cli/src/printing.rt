@@ -5,7 +5,7 @@ use crate::samples::{BOOLEANS, COLUMNLESS, COMPRESSED, EMPTY, FILE, STREAM, byte
 use cli_args::Request;
 use cli_read::{is_file, print, read_first_bytes};
 use cli_rows::{BatchError, CliError, in_row_order};
-use ipc_flatbuf::IpcReadError;
+use ipc_flatbuf::{CompressionError, IpcReadError};
 use ipc_schema::Projection;
 use std::alloc::Global;
 use std::test::*;
@@ -149,7 +149,7 @@ fn unselected_batches_are_not_read(rt: HostRuntime) -> Result<(), Fail> {
     let (done, out) = printed(alloc, &["schema"], &compressed, NEVER, NEVER)?;
     assert!(rt; done == Ok(()) && !out.is_empty());
     let (done, out) = printed(alloc, &["rows"], &compressed, NEVER, NEVER)?;
-    let error = CliError::Read(IpcReadError::Compressed);
+    let error = CliError::Read(IpcReadError::Compression(CompressionError::Truncated));
     assert!(rt;
         done == Err(BatchError {
             batch: Some(0),

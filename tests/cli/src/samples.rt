@@ -13,7 +13,7 @@ pub const BOOLEANS: &[u8] = include_bytes!("flat/valid/boolean.arrows");
 /// A stream of three rows without a column.
 pub const COLUMNLESS: &[u8] = include_bytes!("streams/valid/no_columns.arrows");
 
-/// A stream whose record batch is compressed.
+/// A stream whose record batch is compressed, with a truncated buffer.
 pub const COMPRESSED: &[u8] = include_bytes!("cli/compressed.arrows");
 
 /// A file of a column `a` without a record batch.

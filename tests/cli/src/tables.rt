@@ -7,7 +7,7 @@ use cli_rows::{
     window_difference, write_output,
 };
 use ipc::Batch;
-use ipc_flatbuf::{IpcReadError, IpcWriteError};
+use ipc_flatbuf::{CompressionError, IpcReadError, IpcWriteError};
 use ipc_schema::{Projection, Schema};
 use nest_array::{AnyArray, Window};
 use nest_flat::any_primitive::NativeArray;
@@ -340,7 +340,7 @@ fn errors_are_printed(rt: HostRuntime) -> Result<(), Fail> {
         assert!(rt; text.as_str() == want, "{text}");
     }
     // The messages of the formats are printed as they are.
-    let read = IpcReadError::Compressed;
+    let read = IpcReadError::Compression(CompressionError::Truncated);
     let text = format!(in rt.alloc(); "{}", CliError::Read(read))?;
     assert!(rt; text == format!(in rt.alloc(); "{read}")?, "{text}");
     let write = IpcWriteError::Float;
@@ -412,12 +412,24 @@ fn rows_of_samples_are_printed(rt: HostRuntime) -> Result<(), Fail> {
 #[test]
 fn invalid_bytes_are_errors(rt: HostRuntime) {
     for (sample, want) in [
-        (COMPRESSED, CliError::Read(IpcReadError::Compressed)),
+        (
+            COMPRESSED,
+            CliError::Read(IpcReadError::Compression(CompressionError::Truncated)),
+        ),
         (b"".as_slice(), CliError::Read(IpcReadError::MissingSchema)),
-        (b"\xff\xff".as_slice(), CliError::Read(IpcReadError::Truncated)),
-        (b"ARROW1".as_slice(), CliError::Read(IpcReadError::Truncated)),
+        (
+            b"\xff\xff".as_slice(),
+            CliError::Read(IpcReadError::Truncated),
+        ),
+        (
+            b"ARROW1".as_slice(),
+            CliError::Read(IpcReadError::Truncated),
+        ),
         (b",".as_slice(), CliError::Read(IpcReadError::Truncated)),
-        (b",,,,,,,,".as_slice(), CliError::Read(IpcReadError::Truncated)),
+        (
+            b",,,,,,,,".as_slice(),
+            CliError::Read(IpcReadError::Truncated),
+        ),
         (COLUMNLESS, CliError::MismatchedColumns),
     ] {
         let error = said(rt.alloc(), &["rows"], sample).err();

@@ -9,7 +9,7 @@ use cli_read::{take, take_encoded, take_lines};
 use cli_rows::{
     BatchError, CliError, Table, batches_of_arrays, copy_schema, encode_table, take_rows,
 };
-use ipc_flatbuf::IpcReadError;
+use ipc_flatbuf::{CompressionError, IpcReadError};
 use ipc_schema::Projection;
 use std::alloc::Global;
 use std::test::*;
@@ -216,7 +216,8 @@ fn errors_are_returned_before_missing_rows(rt: HostRuntime) -> Result<(), Fail> 
     let compressed = bytes_of(alloc, COMPRESSED)?;
     assert!(rt; taken(alloc, &compressed, &[], NEVER).is_ok());
     let found = taken(alloc, &compressed, &[0], NEVER).err();
-    assert!(rt; found == Some(read_error(Some(0), IpcReadError::Compressed)));
+    let truncated = IpcReadError::Compression(CompressionError::Truncated);
+    assert!(rt; found == Some(read_error(Some(0), truncated)));
     let found = taken(alloc, b"a,b\n1,2\n", &[0], NEVER).err();
     assert!(rt; found == Some(read_error(None, IpcReadError::Truncated)));
     Ok(())

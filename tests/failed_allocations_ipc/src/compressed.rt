@@ -1,10 +1,8 @@
 //! Buffers that are compressed and decoded, and the plain body of a record batch of them. A failed call leaves the output unchanged.
 
 use failed_allocations::failures::{Failure, Failures, expect};
-use ipc_arrays::compression::{
-    CompressionCodec, CompressionError, compress_buffer, decompress_buffer, plain_body,
-};
-use ipc_flatbuf::BufferSpec;
+use ipc_arrays::compression::{compress_buffer, decompress_buffer, plain_body};
+use ipc_flatbuf::{BufferSpec, CompressionCodec, CompressionError};
 use nest_memory::error::Error;
 use std::alloc::{AllocError, Global};
 

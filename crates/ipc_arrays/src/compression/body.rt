@@ -5,9 +5,7 @@ ghost use Rattle.ipc_arrays.specs.CompressedBuffers.{decompressed};
 ghost use Rattle.ipc_arrays.specs.PlainBodies.{buffer_slice, needed_slice, laid_out, is_needed_at, decompressed_buffer, spec_plain_body, DecodesEachBuffer};
 
 use crate::compression::buffer::decompress_buffer;
-use crate::compression::codec::CompressionCodec;
-use crate::compression::error::CompressionError;
-use ipc_flatbuf::{BufferSpec, write_zeros};
+use ipc_flatbuf::{BufferSpec, CompressionCodec, CompressionError, write_zeros};
 use std::alloc::Global;
 
 #[tactic(auto, unfolding(crate::specs::PlainBodies::buffer_slice))]

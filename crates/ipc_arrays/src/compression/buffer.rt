@@ -3,8 +3,8 @@ ghost use Rattle.std.specs.Prelude.{◌≡◌, OnErr};
 ghost use Rattle.ipc_arrays.specs.CompressionResults.{ReturnsOrRunsOut, Returns};
 ghost use Rattle.ipc_arrays.specs.CompressedBuffers.{appended, spec_decoded, spec_stated_size, spec_next_size, spec_content_of_size, content_of, decompressed};
 
-use crate::compression::codec::CompressionCodec;
-use crate::compression::error::CompressionError;
+use crate::compression::error::{lz4_error, zstd_error};
+use ipc_flatbuf::{CompressionCodec, CompressionError};
 use lz4_frame::decode_frame;
 use std::alloc::Global;
 use zstd_decode::decode_frames;
@@ -20,8 +20,14 @@ fn decoded(
     ensures { ReturnsOrRunsOut (λ v. v.items) result (spec_decoded codec limit bytes.now) }
 {
     match codec {
-        CompressionCodec::Lz4Frame => Ok(decode_frame(alloc, bytes, limit)?),
-        CompressionCodec::Zstd => Ok(decode_frames(alloc, bytes, limit)?),
+        CompressionCodec::Lz4Frame => match decode_frame(alloc, bytes, limit) {
+            Ok(content) => Ok(content),
+            Err(error) => Err(lz4_error(error)),
+        },
+        CompressionCodec::Zstd => match decode_frames(alloc, bytes, limit) {
+            Ok(content) => Ok(content),
+            Err(error) => Err(zstd_error(error)),
+        },
     }
 }
 

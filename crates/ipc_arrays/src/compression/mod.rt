@@ -2,13 +2,10 @@
 
 mod body;
 mod buffer;
-mod codec;
 mod compress;
 mod error;
 pub mod laws;
 
 pub use body::plain_body;
 pub use buffer::decompress_buffer;
-pub use codec::CompressionCodec;
 pub use compress::compress_buffer;
-pub use error::CompressionError;

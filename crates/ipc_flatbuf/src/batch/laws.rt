@@ -1,11 +1,13 @@
 //! Theorems and worked examples about record batches and dictionary batches, as functions with empty bodies.
-ghost use Rattle.std.specs.Prelude.{◌≡◌, ◌<◌, ◌^◌, ◌++◌, List, ℕ, ℤ, pos, Bool, true, false, [], Some, Ok};
+ghost use Rattle.std.specs.Prelude.{◌≡◌, ◌<◌, ◌^◌, ◌++◌, List, ℕ, ℤ, pos, Bool, true, false, [], Some, Ok, Err};
 ghost use Rattle.std.specs.Int.{w8, w64};
 ghost use Rattle.std.specs.Int.RustNames.{FitsSigned};
 ghost use Rattle.ipc_flatbuf.specs.Flatbuffers.{number_at, signed_at, field, spec_offset_field, spec_read_table};
 ghost use Rattle.ipc_flatbuf.specs.Messages.{message_at};
 ghost use Rattle.ipc_flatbuf.specs.Batches.{BatchModel, batch_at};
 ghost use Rattle.ipc_flatbuf.specs.BatchExamples.{worked_message, worked_body, worked_of, worked_tree, values_message, values_body, values_of, values_table, values_tree};
+ghost use Rattle.ipc_flatbuf.specs.declared.error.IpcReadError.TheVariants.{UnsupportedCompression};
+ghost use Rattle.ipc_flatbuf.specs.CompressionExamples.{lz4_metadata, lz4_tree, metadata_with, zstd_tree};
 ghost use Rattle.ipc_flatbuf.specs.BatchLaws.{BatchFits, BatchRoundTripsWithBodies};
 ghost use Rattle.ipc_flatbuf.specs.DictionaryBytes.{dictionary_message};
 ghost use Rattle.ipc_flatbuf.specs.DictionaryLaws.{DictionaryRoundTripsWithBodies};
@@ -19,6 +21,13 @@ pub fn batches_round_trip()
 pub fn batch_is_read()
     ensures message { message_at (worked_message ++ worked_body) ≡ Ok (Some worked_of, []) }
     ensures batch { batch_at worked_of.metadata worked_of.root.header worked_of.root.left worked_of.root.body_length ≡ Ok worked_tree }
+{}
+
+/// The metadata of another writer decodes to compressed record batches. An absent codec is LZ4, 1 is Zstandard, and 2 is an error.
+pub fn compression_is_read()
+    ensures lz4 { batch_at lz4_metadata 56 9720 56 ≡ Ok lz4_tree }
+    ensures zstd { batch_at (metadata_with 1) 56 10232 56 ≡ Ok zstd_tree }
+    ensures unknown { batch_at (metadata_with 2) 56 10232 56 ≡ Err UnsupportedCompression }
 {}
 
 /// A dictionary batch whose buffers are within its body round-trips, with its id and `isDelta`.

@@ -1,5 +1,5 @@
 //! The metadata of record batches.
-use crate::{BufferSpec, FieldNode};
+use crate::{BufferSpec, CompressionCodec, FieldNode};
 
 /// The metadata of a record batch (Message.fbs, table `RecordBatch`).
 #[derive(Drop)]
@@ -10,4 +10,6 @@ pub struct BatchMetadata {
     pub nodes: Vec<FieldNode>,
     /// The buffers of the arrays in the message body, in the order of the field nodes.
     pub buffers: Vec<BufferSpec>,
+    /// The codec of the buffers, `None` where they are not compressed.
+    pub compression: Option<CompressionCodec>,
 }

@@ -2,13 +2,14 @@
 ghost use Rattle.std.specs.Prelude.{◌≡◌, ◌<◌, ◌≤◌, ◌^◌, ◌+◌, ◌*◌, length, IfOk, Ok};
 ghost use Rattle.ipc_flatbuf.specs.ReadResults.{ReturnsOrRunsOut};
 ghost use Rattle.ipc_flatbuf.specs.Flatbuffers.{structs_at, vector_at};
-ghost use Rattle.ipc_flatbuf.specs.Batches.{spec_node_at, spec_buffer_at, spec_uncompressed, spec_all_within, batch_at, batch_of};
+ghost use Rattle.ipc_flatbuf.specs.Batches.{spec_node_at, spec_buffer_at, spec_all_within, batch_at, batch_of};
 
 use crate::batch::bounds::all_within;
 use crate::batch::metadata::BatchMetadata;
+use crate::compression::read_compression;
 use crate::{
-    BufferSpec, FieldNode, IpcReadError, VectorItems, field_position, i64_at, i64_field, items_at,
-    non_negative, offset_field, read_table,
+    BufferSpec, FieldNode, IpcReadError, VectorItems, i64_at, i64_field, items_at, non_negative,
+    offset_field, read_table,
 };
 use std::alloc::Global;
 
@@ -90,22 +91,13 @@ fn buffers_at(
     Ok((buffers, left))
 }
 
-fn uncompressed(compression: Option<usize>) -> Result<(), IpcReadError>
-    ensures { result ≡ spec_uncompressed compression }
-{
-    match compression {
-        None => Ok(()),
-        Some(_) => Err(IpcReadError::Compressed),
-    }
-}
-
 /// Returns the record batch whose table is at a position of the metadata, and whose body has `body` bytes.
 ///
 /// # Errors
 /// [`IpcReadError::Flatbuffer`] and [`IpcReadError::ApparentSize`], [`IpcReadError::RowCount`] where the length is
-/// negative, [`IpcReadError::Compressed`] where `compression` is present, [`IpcReadError::BufferRange`] and
-/// [`IpcReadError::BufferSum`] where the buffers are not within the body, [`IpcReadError::Memory`] where an
-/// allocation fails.
+/// negative, [`IpcReadError::UnsupportedCompression`] where the codec or the method of `compression` is unknown,
+/// [`IpcReadError::BufferRange`] and [`IpcReadError::BufferSum`] where the buffers are not within the body,
+/// [`IpcReadError::Memory`] where an allocation fails.
 #[tactic(auto, unfolding(crate::specs::Batches::batch_at))]
 pub fn read_batch(
     alloc: Global,
@@ -120,7 +112,8 @@ pub fn read_batch(
 {
     let (table, left) = read_table(bytes, position, left)?;
     let rows = non_negative(IpcReadError::RowCount, i64_field(bytes, table, 0, 0)?)?;
-    uncompressed(field_position(bytes, table, 3)?)?;
+    let to = offset_field(bytes, table, 3)?;
+    let (compression, left) = read_compression(bytes, to, left)?;
     let to = offset_field(bytes, table, 1)?;
     let (nodes, left) = nodes_at(alloc, bytes, to, left)?;
     let to = offset_field(bytes, table, 2)?;
@@ -130,5 +123,6 @@ pub fn read_batch(
         rows,
         nodes,
         buffers,
+        compression,
     })
 }

@@ -4,12 +4,12 @@ ghost use Rattle.std.specs.List.{flat_map, AllByRecursion};
 ghost use Rattle.ipc_flatbuf.specs.WriteErrors.{IsSizeError};
 ghost use Rattle.ipc_flatbuf.specs.MessageBytes.{metadata_size};
 ghost use Rattle.ipc_flatbuf.specs.Batches.{batch_of};
-ghost use Rattle.ipc_flatbuf.specs.BatchBytes.{node_bytes, buffer_bytes, batch_part_head, batch_part_bytes, batch_message, IsBatchWriteError};
+ghost use Rattle.ipc_flatbuf.specs.BatchBytes.{node_bytes, buffer_bytes, plain_head, compressed_head, batch_part_head, batch_part_bytes, batch_message, IsBatchWriteError};
 ghost use Rattle.ipc_flatbuf.specs.BatchLaws.{NodeFits, BufferFits, BatchFits, BatchRoundTripsWithBodies};
 
 use crate::batch::metadata::BatchMetadata;
 use crate::message::{MessageKind, write_message};
-use crate::{BufferSpec, FieldNode, IpcWriteError, write_i64, write_u32};
+use crate::{BufferSpec, CompressionCodec, FieldNode, IpcWriteError, write_i64, write_u32};
 use std::alloc::{AllocError, Global};
 
 #[tactic(auto, unfolding(crate::specs::BatchBytes::node_bytes))]
@@ -52,11 +52,11 @@ fn write_buffers(out: &mut Vec<u8>, buffers: &[BufferSpec]) -> Result<(), AllocE
     Ok(())
 }
 
-#[tactic(auto, unfolding(crate::specs::BatchBytes::batch_part_head))]
-fn write_head(out: &mut Vec<u8>, rows: usize, count: usize) -> Result<(), AllocError>
+#[tactic(auto, unfolding(crate::specs::BatchBytes::plain_head))]
+fn write_plain_head(out: &mut Vec<u8>, rows: usize, count: usize) -> Result<(), AllocError>
     requires rows { rows < 2 ^ 63 }
     requires count { count < 2 ^ 27 }
-    ensures { OnOk result (out.new.items ≡ out.old.items ++ batch_part_head rows count) }
+    ensures { OnOk result (out.new.items ≡ out.old.items ++ plain_head rows count) }
 {
     out.extend_from_slice(&[
         10, 0, 20, 0, 8, 0, 4, 0, 16, 0, 0, 0, 0, 0, 0, 0, 16, 0, 0, 0, 16, 0, 0, 0,
@@ -64,6 +64,47 @@ fn write_head(out: &mut Vec<u8>, rows: usize, count: usize) -> Result<(), AllocE
     write_i64(out, rows as i64)?;
     write_u32(out, (12 + 16 * count) as u32)?;
     Ok(())
+}
+
+// The table `BodyCompression` follows the table of the batch.
+#[tactic(auto, unfolding(crate::specs::BatchBytes::compressed_head))]
+fn write_compressed_head(
+    out: &mut Vec<u8>,
+    codec: CompressionCodec,
+    rows: usize,
+    count: usize,
+) -> Result<(), AllocError>
+    requires rows { rows < 2 ^ 63 }
+    requires count { count < 2 ^ 27 }
+    ensures { OnOk result (out.new.items ≡ out.old.items ++ compressed_head codec rows count) }
+{
+    let number = codec.number();
+    out.extend_from_slice(&[
+        12, 0, 24, 0, 8, 0, 4, 0, 16, 0, 20, 0, 0, 0, 0, 0, 16, 0, 0, 0, 40, 0, 0, 0,
+    ])?;
+    write_i64(out, rows as i64)?;
+    write_u32(out, (36 + 16 * count) as u32)?;
+    out.extend_from_slice(&[
+        12, 0, 0, 0, 8, 0, 6, 0, 4, 0, 5, 0, 8, 0, 0, 0, number, 0, 0, 0, 0, 0, 0, 0,
+    ])?;
+    Ok(())
+}
+
+// Appends what precedes the vector of the nodes, of which there are `count`.
+fn write_head(
+    out: &mut Vec<u8>,
+    compression: Option<CompressionCodec>,
+    rows: usize,
+    count: usize,
+) -> Result<(), AllocError>
+    requires rows { rows < 2 ^ 63 }
+    requires count { count < 2 ^ 27 }
+    ensures { OnOk result (out.new.items ≡ out.old.items ++ batch_part_head compression rows count) }
+{
+    match compression {
+        None => write_plain_head(out, rows, count),
+        Some(codec) => write_compressed_head(out, codec, rows, count),
+    }
 }
 
 /// Checks that the numbers of rows, nodes and buffers fit the types of the format.
@@ -89,7 +130,7 @@ pub(crate) fn write_batch_part(out: &mut Vec<u8>, batch: &BatchMetadata) -> Resu
     ensures ok { OnOk result (out.new.items ≡ out.old.items ++ batch_part_bytes (batch_of batch.now)) }
     ensures fits { OnOk result (BatchFits (batch_of batch.now)) }
 {
-    write_head(out, batch.rows, batch.nodes.len())?;
+    write_head(out, batch.compression, batch.rows, batch.nodes.len())?;
     write_u32(out, batch.nodes.len() as u32)?;
     write_nodes(out, &batch.nodes)?;
     out.extend_from_slice(&[0, 0, 0, 0])?;
