@@ -45,3 +45,4 @@ pub mod PlainBodies
 pub mod WrittenBuffers
 pub mod CompressedBodies
 pub mod PlainBodyLaws
+pub mod FlatErrorExamples

@@ -1,6 +1,8 @@
-//! Worked examples of nested and dictionary-encoded columns that are read, stated as contracts.
-ghost use Rattle.ipc_flatbuf.specs.declared.error.IpcReadError.TheVariants.{BufferCount, BufferTooShort, ChildLength, KeyRange, MissingDictionary, NodeCount, OffsetPastChild, TypeRange, UnionOffset, UnionType};
-ghost use Rattle.ipc_arrays.specs.ReadExamples.{IsRead, IsRejected, lists, lists_read, short_lists, bare_lists, no_lists, no_lists_read, large_lists, large_lists_read, sized_list, sized_list_read, long_sized_list, no_sized_list, structs, structs_read, first_long, second_long, no_structs, maps, maps_read, short_maps, no_maps, sparse_union, sparse_union_read, short_sparse_union, odd_sparse_union, unnamed_sparse_union, negative_sparse_union, dense_union, dense_union_read, past_dense_union, other_dense_union, negative_dense_union, odd_dense_union, bare_dense_union, dictionary_column, dictionary_read, wide_dictionary, wide_dictionary_read, null_dictionary, null_dictionary_read, both_dictionary, both_dictionary_read, past_dictionary, negative_dictionary, missing_dictionary, bare_dictionary, unlike_dictionary, short_dictionary};
+//! Worked examples of columns that are read or rejected, stated as contracts.
+ghost use Rattle.std.specs.Prelude.{pos, negsuc, [], ◌∷◌};
+ghost use Rattle.ipc_flatbuf.specs.declared.error.IpcReadError.TheVariants.{BufferCount, BufferRange, BufferTooShort, ChildLength, KeyRange, MissingDictionary, NodeCount, NodeRange, NullCount, OffsetPastChild, Offsets, RowCount, TypeRange, UnionOffset, UnionType};
+ghost use Rattle.ipc_arrays.specs.FlatErrorExamples.{binary_column, int_column};
+ghost use Rattle.ipc_arrays.specs.ReadExamples.{at, node, IsRead, IsRejected, lists, lists_read, short_lists, bare_lists, no_lists, no_lists_read, large_lists, large_lists_read, sized_list, sized_list_read, long_sized_list, no_sized_list, structs, structs_read, first_long, second_long, no_structs, maps, maps_read, short_maps, no_maps, sparse_union, sparse_union_read, short_sparse_union, odd_sparse_union, unnamed_sparse_union, negative_sparse_union, dense_union, dense_union_read, past_dense_union, other_dense_union, negative_dense_union, odd_dense_union, bare_dense_union, dictionary_column, dictionary_read, wide_dictionary, wide_dictionary_read, null_dictionary, null_dictionary_read, both_dictionary, both_dictionary_read, past_dictionary, negative_dictionary, missing_dictionary, bare_dictionary, unlike_dictionary, short_dictionary};
 
 /// A list is read whose items come before its offsets, which begin at 1 and leave the last item unused. It is rejected if an item
 /// is missing, or the field node of the items.
@@ -77,4 +79,20 @@ pub fn invalid_dictionary_is_rejected()
     ensures bare { IsRejected bare_dictionary MissingDictionary }
     ensures unlike { IsRejected unlike_dictionary MissingDictionary }
     ensures short { IsRejected short_dictionary BufferTooShort }
+{}
+
+/// The first error of a column without children, where all that is read after it is wrong or absent too: the field node, the number of rows,
+/// the validity buffer, the buffer of values or of offsets, and the data.
+pub fn invalid_flat_columns_fail()
+    ensures negative_slots { IsRejected (int_column (record { length = negsuc 0; null_count = pos 0 }) []) NodeRange }
+    ensures more_nulls { IsRejected (int_column (node 3 4) []) NodeRange }
+    ensures other_rows { IsRejected (int_column (node 3 0) []) RowCount }
+    ensures no_validity { IsRejected (int_column (node 2 0) []) BufferCount }
+    ensures validity_outside { IsRejected (int_column (node 2 1) (at 0 17 ∷ [])) BufferRange }
+    ensures other_nulls { IsRejected (int_column (node 2 1) (at 0 1 ∷ [])) NullCount }
+    ensures no_values { IsRejected (int_column (node 2 0) (at 0 0 ∷ [])) BufferCount }
+    ensures short_values { IsRejected (int_column (node 2 0) (at 0 0 ∷ at 8 7 ∷ [])) BufferTooShort }
+    ensures negative_offset { IsRejected (binary_column 255 (at 0 0 ∷ at 0 12 ∷ [])) Offsets }
+    ensures falling_offset { IsRejected (binary_column 0 (at 0 0 ∷ at 4 12 ∷ [])) Offsets }
+    ensures data_outside { IsRejected (binary_column 0 (at 0 0 ∷ at 0 12 ∷ at 12 3 ∷ [])) OffsetPastChild }
 {}

@@ -23,3 +23,5 @@ pub mod DictionaryBytes
 pub mod DictionaryLaws
 pub mod BatchExamples
 pub mod CompressionExamples
+pub mod RootExamples
+pub mod BatchErrorExamples

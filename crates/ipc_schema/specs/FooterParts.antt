@@ -1,5 +1,5 @@
 -- The footer of a file by the length of the file, its first and last bytes, and the bytes of the footer.
-use Rattle.std.specs.Prelude.{◌≡◌, ℕ, ◌+◌, ◌-◌, ◌<◌, ◌≤◌, nat_eq, nat_le, Bool, true, false, ◌&&◌, List, length, take, drop, Result, Ok, Err, refl}
+use Rattle.std.specs.Prelude.{◌≡◌, ℕ, ◌+◌, ◌-◌, ◌≤◌, nat_eq, nat_le, Bool, true, false, ◌&&◌, List, length, take, drop, Result, Ok, Err, refl}
 use Rattle.std.specs.Int.{w32, from_le_bytes, cast_signed}
 use Rattle.std.specs.List.{starts_with, ends_with}
 use Rattle.std.specs.Cmp.Lexicographic.{pointwise}

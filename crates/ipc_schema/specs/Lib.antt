@@ -45,3 +45,5 @@ pub mod FooterParts
 pub mod FooterBytes
 pub mod FooterLaws
 pub mod FooterExamples
+pub mod SchemaErrorExamples
+pub mod FileEndExamples

@@ -1,8 +1,14 @@
 //! Theorems and worked examples about schemas, as functions with empty bodies.
-ghost use Rattle.std.specs.Prelude.{◌≡◌, ◌<◌, ◌^◌, ◌++◌, List, ℕ, ℤ, false, [], ◌∷◌, drop, Ok};
+ghost use Rattle.std.specs.Prelude.{◌≡◌, ◌<◌, ◌^◌, ◌++◌, List, ℕ, ℤ, false, [], ◌∷◌, drop, None, Some, Ok, Err};
+ghost use Rattle.nest_memory.specs.TypeTree as types;
+ghost use Rattle.nest_memory.specs.TypeTree.{field};
+ghost use Rattle.ipc_flatbuf.specs.declared.error.IpcReadError.TheVariants.{BodyLength, ChildCount, Depth, Endianness, Flatbuffer, Metadata, MissingSchema, UnionIds};
+ghost use Rattle.ipc_flatbuf.specs.declared.message.types.MessageKind.TheVariants as kinds;
 ghost use Rattle.ipc_flatbuf.specs.MessageBytes.{metadata_size};
 ghost use Rattle.ipc_schema.specs.Examples.{worked_message, worked_tree};
-ghost use Rattle.ipc_schema.specs.NestedExamples.{AreNested, AreMaps, AreUnions};
+ghost use Rattle.ipc_schema.specs.NestedExamples.{AreNested, AreMaps, AreUnions, union_ids_metadata, union_sparse_metadata};
+ghost use Rattle.ipc_schema.specs.SchemaErrorExamples.{field_bytes, message_of, schema_bytes};
+ghost use Rattle.ipc_schema.specs.Types.{spec_union_at};
 ghost use Rattle.ipc_schema.specs.ExtensionExamples.{AreExtended, ArePlain};
 ghost use Rattle.ipc_schema.specs.BodyLayoutExamples.{AreLayouts};
 ghost use Rattle.ipc_schema.specs.UnsupportedExamples.{IsFirstUnsupported, IsUnsupportedItem, IsSupportedColumn};
@@ -10,11 +16,11 @@ ghost use Rattle.ipc_schema.specs.FloatExamples.{AreFloats, IsReserved, AreSingl
 ghost use Rattle.ipc_schema.specs.DictionaryExamples.{AreKeyed, AreOuter, AreOfOneId, AreLookedAt};
 ghost use Rattle.ipc_schema.specs.DictionaryWriteExamples.{AreWritten, AreNumbered, AreRefused};
 ghost use Rattle.ipc_schema.specs.TypeExamples.{AreDecimals, AreMostDigits, ArePrecisions, AreTimes, AreZones, AreIntervals, AreSizes};
-ghost use Rattle.ipc_schema.specs.Dictionaries.{no_dictionaries};
+ghost use Rattle.ipc_schema.specs.Dictionaries.{no_dictionaries, progress};
 ghost use Rattle.ipc_schema.specs.DictionaryIds.{have_dictionary};
 ghost use Rattle.ipc_schema.specs.OutermostIds.{ValueTypes, spec_count_nested, spec_outermost_ids};
 ghost use Rattle.ipc_schema.specs.OutermostIdLaws.{column_ids};
-ghost use Rattle.ipc_schema.specs.Schemas.{SchemaModel, stream_schema_at};
+ghost use Rattle.ipc_schema.specs.Schemas.{SchemaModel, schema_parts, spec_field_at, spec_schema_at, stream_schema_at};
 ghost use Rattle.ipc_schema.specs.SchemaBytes.{schema_message};
 ghost use Rattle.ipc_schema.specs.SchemaLaws.{SchemaFits, with_dictionary_ids};
 ghost use Rattle.ipc_schema.specs.Projections.{all};
@@ -129,4 +135,25 @@ pub fn nested_ids_are_skipped()
 /// The projection of all columns returns the schema of the stream, or the same error.
 pub fn projection_of_all_is_the_schema()
     ensures { (bytes : List ℕ) → stream_projected_schema_at all bytes ≡ all_of_stream bytes }
+{}
+
+/// The first error of a field: a number of children that its type does not have, more levels than are read, and type ids that are not one for
+/// each of at most 127 fields.
+pub fn invalid_fields_fail()
+    ensures no_children { spec_field_at 64 (field_bytes 1 0) 20 (progress 200 no_dictionaries) ≡ Ok (field [] types.null false [], progress 176 no_dictionaries) }
+    ensures null_with_child { spec_field_at 64 (field_bytes 1 1) 20 (progress 200 no_dictionaries) ≡ Err ChildCount }
+    ensures list_without_child { spec_field_at 64 (field_bytes 12 0) 20 (progress 200 no_dictionaries) ≡ Err ChildCount }
+    ensures too_deep { spec_field_at 0 (field_bytes 1 0) 20 (progress 200 no_dictionaries) ≡ Err Depth }
+    ensures two_ids { spec_union_at 3 union_ids_metadata 108 20 ≡ Err UnionIds }
+    ensures many_fields { spec_union_at 128 union_sparse_metadata 100 20 ≡ Err UnionIds }
+{}
+
+/// The first error of a schema, where what is read after it is invalid too, and of a message that is no schema or has a body.
+pub fn invalid_schemas_fail()
+    ensures big_endian { spec_schema_at (schema_bytes 1 100) 12 200 ≡ Err Endianness }
+    ensures fields_outside { spec_schema_at (schema_bytes 0 100) 12 200 ≡ Err Flatbuffer }
+    ensures no_pair { spec_schema_at (schema_bytes 0 8) 12 200 ≡ Err Metadata }
+    ensures no_message { schema_parts None ≡ Err MissingSchema }
+    ensures batch_first { schema_parts (Some (message_of kinds.RecordBatch)) ≡ Err MissingSchema }
+    ensures schema_with_body { schema_parts (Some (message_of kinds.Schema)) ≡ Err BodyLength }
 {}

@@ -1,12 +1,14 @@
 //! Theorems and worked examples about record batches and dictionary batches, as functions with empty bodies.
-ghost use Rattle.std.specs.Prelude.{◌≡◌, ◌<◌, ◌^◌, ◌++◌, List, ℕ, ℤ, pos, Bool, true, false, [], Some, Ok, Err};
+ghost use Rattle.std.specs.Prelude.{◌≡◌, ◌<◌, ◌^◌, ◌++◌, List, ℕ, ℤ, pos, Bool, true, false, [], ◌∷◌, Some, Ok, Err};
 ghost use Rattle.std.specs.Int.{w8, w64};
 ghost use Rattle.std.specs.Int.RustNames.{FitsSigned};
 ghost use Rattle.ipc_flatbuf.specs.Flatbuffers.{number_at, signed_at, field, spec_offset_field, spec_read_table};
 ghost use Rattle.ipc_flatbuf.specs.Messages.{message_at};
 ghost use Rattle.ipc_flatbuf.specs.Batches.{BatchModel, batch_at};
 ghost use Rattle.ipc_flatbuf.specs.BatchExamples.{worked_message, worked_body, worked_of, worked_tree, values_message, values_body, values_of, values_table, values_tree};
-ghost use Rattle.ipc_flatbuf.specs.declared.error.IpcReadError.TheVariants.{UnsupportedCompression};
+ghost use Rattle.ipc_flatbuf.specs.declared.error.IpcReadError.TheVariants.{BufferRange, BufferSum, RowCount, UnsupportedCompression};
+ghost use Rattle.ipc_flatbuf.specs.BatchErrorExamples.{batch_bytes, no_rows};
+ghost use Rattle.ipc_flatbuf.specs.VariadicBuffers.{variadic_buffer_counts_at};
 ghost use Rattle.ipc_flatbuf.specs.CompressionExamples.{lz4_metadata, lz4_tree, metadata_with, zstd_tree};
 ghost use Rattle.ipc_flatbuf.specs.BatchLaws.{BatchFits, BatchRoundTripsWithBodies};
 ghost use Rattle.ipc_flatbuf.specs.DictionaryBytes.{dictionary_message};
@@ -52,4 +54,16 @@ pub fn delta_is_written()
     ensures message { message_at (values_message 1 ++ values_body) ≡ Ok (Some (values_of 1), []) }
     ensures table { spec_read_table (values_of 1).metadata (values_of 1).root.header (values_of 1).root.left ≡ Ok (values_table, 11248) }
     ensures delta { field (number_at w8 (values_of 1).metadata) 0 (values_of 1).metadata values_table 2 ≡ Ok 1 }
+{}
+
+/// The first error of the metadata of a record batch, with errors in all that is read after it: the number of rows, the codec, and the buffers.
+/// An absent number of rows is 0.
+pub fn invalid_batches_fail()
+    ensures read { batch_at (batch_bytes 16 0 1 0) 16 1000 8 ≡ Ok no_rows }
+    ensures absent { batch_at (batch_bytes 0 255 1 0) 16 1000 8 ≡ Ok no_rows }
+    ensures rows { batch_at (batch_bytes 16 255 2 9) 16 1000 8 ≡ Err RowCount }
+    ensures codec { batch_at (batch_bytes 16 0 2 9) 16 1000 8 ≡ Err UnsupportedCompression }
+    ensures range { batch_at (batch_bytes 16 0 1 9) 16 1000 8 ≡ Err BufferRange }
+    ensures sum { batch_at (batch_bytes 16 0 1 8) 16 1000 8 ≡ Err BufferSum }
+    ensures counts { variadic_buffer_counts_at (batch_bytes 16 0 1 0) 16 1000 ≡ Ok (pos 0 ∷ pos 8 ∷ []) }
 {}
