@@ -12,3 +12,4 @@ pub mod AppendableLaws
 pub mod DeltaParts
 pub mod UnionOffsets
 pub mod NamedColumns
+mod AtEnd

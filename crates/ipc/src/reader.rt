@@ -1,5 +1,5 @@
 //! Reads a stream in memory one record batch at a time.
-ghost use Rattle.std.specs.Prelude.{◌≡◌, [], IfErr};
+ghost use Rattle.std.specs.Prelude.{◌≡◌, [], None, Ok, IfErr, IfOk};
 ghost use Rattle.std.specs.Option.{option_map};
 ghost use Rattle.ipc_flatbuf.specs.ReadResults.{ReturnsOrRunsOut};
 ghost use Rattle.ipc_schema.specs.Projections.{all, projection_of};
@@ -78,12 +78,17 @@ impl<'a> SliceStreamReader<'a> {
     ///
     /// # Errors
     /// The first error of the messages up to the batch, or `Memory`.
-    #[tactic(auto, unfolding(crate::specs::SliceStreamReaders::next_of))]
+    #[tactic(auto, using(crate::proofs::AtEnd::at_end), unfolding(crate::specs::SliceStreamReaders::next_of))]
     pub fn next_batch(&mut self, alloc: Global) -> Result<Option<Batch>, IpcReadError>
         ensures next { ReturnsOrRunsOut (λ b. (option_map record_batch_of b, self.new)) result (next_of self.old) }
+        ensures end { IfOk result (λ next. next ≡ None → self.new.left ≡ []) }
         ensures over { IfErr result (λ _. self.new.left ≡ []) }
+        ensures still { self.old.left ≡ [] → (result ≡ Ok None) × (self.new ≡ self.old) }
         ensures schema { self.new.state.picked ≡ self.old.state.picked }
     {
+        if self.left.is_empty() {
+            return Ok(None);
+        }
         match next_batch(alloc, &mut self.state, self.left) {
             Err(error) => {
                 self.left = &[];

@@ -1,3 +1,2 @@
-pub mod AtEnd
 pub mod RoundTrips
 mod SameBatches

@@ -53,13 +53,14 @@ pub fn stream_reader_of_columns<'a>(
     SliceStreamReader::with_projection(alloc, bytes, columns)
 }
 
-/// Returns the next batch, or its first error. The projection stays the same; after an error nothing remains.
+/// Returns the next batch, or its first error. The projection stays the same; after the last batch and after an error nothing remains.
 pub fn next_batch(
     alloc: Global,
     reader: &mut SliceStreamReader<'_>,
 ) -> Result<Option<Batch>, IpcReadError>
     ensures next { ReturnsOrRunsOut (λ b. (option_map record_batch_of b, reader.new)) result (next_of reader.old) }
-    ensures at_end { IfErr result (λ _. reader.new.left ≡ []) }
+    ensures at_end { IfOk result (λ next. next ≡ None → reader.new.left ≡ []) }
+    ensures at_error { IfErr result (λ _. reader.new.left ≡ []) }
     ensures projection { reader.new.state.picked ≡ reader.old.state.picked }
 {
     reader.next_batch(alloc)
@@ -77,29 +78,16 @@ pub fn next_two_batches(
     Ok((first, second))
 }
 
-// Where nothing remains there is no batch, and nothing remains after the call.
-fn next_at_end(
+/// Returns what a reader returns where nothing remains, as after the last batch or an error: no batch and no error. The reader stays the same.
+pub fn next_after_end(
     alloc: Global,
     reader: &mut SliceStreamReader<'_>,
 ) -> Result<Option<Batch>, IpcReadError>
     requires { reader.old.left ≡ [] }
-    ensures none { IfOk result (λ next. next ≡ None) }
-    ensures remaining { reader.new.left ≡ [] }
+    ensures none { result ≡ Ok None }
+    ensures same { reader.new ≡ reader.old }
 {
     reader.next_batch(alloc)
-}
-
-/// Returns what a reader returns after an error: no batch.
-pub fn next_after_error(alloc: Global, reader: &mut SliceStreamReader<'_>) -> Option<Batch>
-    ensures none { result ≡ None }
-{
-    match reader.next_batch(alloc) {
-        Ok(_) => None,
-        Err(_) => match next_at_end(alloc, reader) {
-            Ok(next) => next,
-            Err(_) => None,
-        },
-    }
 }
 
 /// Returns the bytes of a schema and batches, which encode both whatever bytes follow. Fails exactly where they cannot be written.
