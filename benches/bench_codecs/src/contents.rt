@@ -4,12 +4,10 @@ use std::alloc::{AllocError, Global};
 /// Returns lines of text, at least so many bytes.
 pub fn rows(alloc: Global, length: usize) -> Result<Vec<u8>, AllocError> {
     let mut out = Vec::new(alloc);
-    let mut i = 0usize;
-    while out.len() < length {
+    for i in 0..=length / 6 {
         out.extend_from_slice(b"row ")?;
         out.push((i % 10) as u8 + 48)?;
         out.push(10)?;
-        i = i.wrapping_add(1);
     }
     Ok(out)
 }
