@@ -7,6 +7,4 @@ pub mod Skipped
 pub mod Chosen
 pub mod Sought
 pub mod Passed
-pub mod BodyLayoutLoops
-pub mod UnsupportedLoops
 pub mod FooterLoops

@@ -13,8 +13,6 @@ pub mod Schemas
 pub mod SchemaEq
 pub mod ProjectedSchemas
 pub mod SkippedFields
-pub mod BodyLayouts
-pub mod UnsupportedFields
 pub mod Projections
 pub mod DictionaryIds
 pub mod WriteChecks
@@ -34,8 +32,6 @@ pub mod NestedExamples
 pub mod ExtensionExamples
 pub mod FloatExamples
 pub mod DictionaryExamples
-pub mod BodyLayoutExamples
-pub mod UnsupportedExamples
 pub mod ProjectionExamples
 pub mod DictionaryWriteExamples
 -- The same of file footers.

@@ -10,8 +10,6 @@ ghost use Rattle.ipc_schema.specs.NestedExamples.{AreNested, AreMaps, AreUnions,
 ghost use Rattle.ipc_schema.specs.SchemaErrorExamples.{field_bytes, message_of, schema_bytes};
 ghost use Rattle.ipc_schema.specs.Types.{spec_union_at};
 ghost use Rattle.ipc_schema.specs.ExtensionExamples.{AreExtended, ArePlain};
-ghost use Rattle.ipc_schema.specs.BodyLayoutExamples.{AreLayouts};
-ghost use Rattle.ipc_schema.specs.UnsupportedExamples.{IsFirstUnsupported, IsUnsupportedItem, IsSupportedColumn};
 ghost use Rattle.ipc_schema.specs.FloatExamples.{AreFloats, IsReserved, AreSingleBytes, AreCheckedFloats};
 ghost use Rattle.ipc_schema.specs.DictionaryExamples.{AreKeyed, AreOuter, AreOfOneId, AreLookedAt};
 ghost use Rattle.ipc_schema.specs.DictionaryWriteExamples.{AreWritten, AreNumbered, AreRefused};
@@ -52,18 +50,6 @@ pub fn nested_types_are_read()
     ensures fields { AreNested }
     ensures maps { AreMaps }
     ensures unions { AreUnions }
-{}
-
-/// The bytes of another writer decode to layouts that data types do not determine, also of dictionary values.
-pub fn layouts_are_read()
-    ensures { AreLayouts }
-{}
-
-/// The first field of a type that is not read is found in the bytes of another writer, with its path.
-pub fn unsupported_fields_are_found()
-    ensures schema { IsFirstUnsupported }
-    ensures item { IsUnsupportedItem }
-    ensures other { IsSupportedColumn }
 {}
 
 /// Custom metadata decodes to extension types at any depth.

@@ -4,7 +4,6 @@
 //! [`write_schema_with_dictionaries`] writes the schema message, [`footer`] reads and writes the footer of a file.
 #![tactic(auto)]
 
-pub mod body_layouts;
 mod columns;
 mod dictionaries;
 mod dictionary_ids;
@@ -24,7 +23,6 @@ mod type_tags;
 mod type_writing;
 mod types;
 mod unions;
-pub mod unsupported_fields;
 mod writing;
 
 pub use columns::{ColumnSet, Projection};

@@ -65,11 +65,8 @@ fn plus(a: SkippedField, b: SkippedField) -> SkippedField
     }
 }
 
-/// Returns the position of a type table, which is present and has a tag.
-///
-/// # Errors
-/// [`IpcReadError::MissingType`] or [`IpcReadError::UnknownType`].
-pub fn table_position(tag: u8, to: Option<usize>) -> Result<usize, IpcReadError>
+// The position of a type table, which is present and has a tag.
+fn table_position(tag: u8, to: Option<usize>) -> Result<usize, IpcReadError>
     ensures { result ≡ spec_table_position tag to }
 {
     match to {

@@ -38,7 +38,6 @@ mod samples;
 mod samples_read;
 mod schema_equality;
 mod schema_text;
-mod schema_walks;
 mod schemas;
 mod states;
 mod stream_text;
