@@ -2,12 +2,9 @@
 use Rattle.std.specs.Prelude.{ℕ, ◌+◌, ◌-◌, ◌*◌, ◌/◌, ◌%◌, ℤ, List, [], ◌∷◌, ◌++◌, length, take, map}
 use Rattle.std.specs.Global.{Vec}
 use Rattle.std.specs.List.{flat_map}
-use Rattle.std.specs.Int.{w16, w32, w64, to_le_bytes, cast_unsigned}
+use Rattle.std.specs.Int.{w32, w64, to_le_bytes, cast_unsigned}
 
 -- little-endian integers; unfoldable, so that a goal does not list their bytes
-unfoldable pub i16_bytes : ℤ → List ℕ
-i16_bytes z = to_le_bytes w16 (cast_unsigned w16 z)
-
 unfoldable pub i32_bytes : ℤ → List ℕ
 i32_bytes z = to_le_bytes w32 (cast_unsigned w32 z)
 

@@ -24,9 +24,9 @@ pub use tables::{
     Table, field_position, i16_field, i32_field, i64_field, offset_field, table_at, u8_field,
 };
 pub use vectors::{
-    VectorItems, charge_budget, items_at, read_string, read_table, read_vector, str_at, string_at,
+    VectorItems, charge_budget, items_at, read_string, read_table, read_vector, str_at,
 };
 pub use writers::{
-    write_each, write_i16, write_i32, write_i64, write_offset, write_string, write_tables,
-    write_u32, write_zeros,
+    write_each, write_i32, write_i64, write_offset, write_string, write_tables, write_u32,
+    write_zeros,
 };

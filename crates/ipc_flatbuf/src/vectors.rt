@@ -1,14 +1,12 @@
 //! Tables, vectors and strings, which are charged to the budget of the metadata.
 ghost use Rattle.std.specs.Prelude.{◌≡◌, ◌+◌, ◌*◌, ◌<◌, ◌≤◌, ◌^◌, length, IfOk, Ok, Result, ℕ, ◌-◌};
 ghost use Rattle.std.specs.Int.{w8, w16, w32, w64};
-ghost use Rattle.ipc_flatbuf.specs.ReadResults.{Returns, ReturnsOrRunsOut};
-ghost use Rattle.std.specs.String.{string_bytes};
+ghost use Rattle.ipc_flatbuf.specs.ReadResults.{Returns};
 ghost use Rattle.ipc_flatbuf.specs.Flatbuffers.{spec_charge_budget, spec_read_table, spec_read_vector, spec_read_string, spec_utf8_of, spec_str_at, spec_items_at};
 
 use crate::IpcReadError;
 use crate::numbers::u32_at;
 use crate::tables::{Table, table_at};
-use std::alloc::Global;
 
 /// The position of the first item of a flatbuffer vector, and the number of items.
 #[derive(Clone, Copy, Debug, PartialEq, Eq)]
@@ -126,21 +124,6 @@ pub fn str_at(
         None => Ok(("", left)),
         Some(position) => read_string(bytes, position, left),
     }
-}
-
-/// Returns the string at a position as a `String`, empty where it is absent, and the budget left.
-pub fn string_at(
-    alloc: Global,
-    bytes: &[u8],
-    position: Option<usize>,
-    left: usize,
-) -> Result<(String, usize), IpcReadError>
-    requires { length bytes.now < 2 ^ 32 }
-    ensures { ReturnsOrRunsOut (λ x. (string_bytes x.0, x.1)) result (spec_str_at bytes.now position left) }
-{
-    let (text, left) = str_at(bytes, position, left)?;
-    let text = String::from_str(alloc, text)?;
-    Ok((text, left))
 }
 
 /// Returns the vector at a position, an empty one where it is absent, and the budget left.

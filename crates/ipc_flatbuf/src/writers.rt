@@ -1,19 +1,11 @@
 //! Writers of the parts of flatbuffers.
 ghost use Rattle.std.specs.Prelude.{◌≡◌, ◌<◌, ◌≤◌, ◌^◌, ◌+◌, ◌*◌, ◌++◌, length, OnOk, IfErr, true};
-ghost use Rattle.ipc_flatbuf.specs.PartBytes.{i16_bytes, i32_bytes, i64_bytes, u32_bytes, zeros, string_bytes, offsets_size, offsets, concatenated, table_vector_bytes, bytes_of_each};
+ghost use Rattle.ipc_flatbuf.specs.PartBytes.{i32_bytes, i64_bytes, u32_bytes, zeros, string_bytes, offsets_size, offsets, concatenated, table_vector_bytes, bytes_of_each};
 ghost use Rattle.std.specs.Str.{is_utf8};
 ghost use Rattle.ipc_flatbuf.specs.WriteErrors.{IsSizeError};
 
 use crate::IpcWriteError;
 use std::alloc::AllocError;
-
-/// Appends an `i16`, little-endian.
-#[tactic(auto, unfolding(crate::specs::PartBytes::i16_bytes))]
-pub fn write_i16(out: &mut Vec<u8>, n: i16) -> Result<(), AllocError>
-    ensures { OnOk result (out.new.items ≡ out.old.items ++ i16_bytes n) }
-{
-    out.extend_from_slice(&n.to_le_bytes())
-}
 
 /// Appends an `i32`, little-endian.
 #[tactic(auto, unfolding(crate::specs::PartBytes::i32_bytes))]
