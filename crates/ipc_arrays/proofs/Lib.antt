@@ -15,6 +15,5 @@ pub mod Passing
 pub mod Skipping
 pub mod Needed
 pub mod Keyed
-pub mod Dictionaries
 pub mod PlainBodies
 pub mod WrittenBuffers

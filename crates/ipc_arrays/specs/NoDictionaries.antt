@@ -1,13 +1,11 @@
 -- Columns without dictionary-encoded arrays, which need no dictionary batches.
-use Rattle.std.specs.Prelude.{◌≡◌, ℕ, ◌+◌, ◌-◌, ◌*◌, Bool, true, false, ◌&&◌, List, [], ◌∷◌, map, None, Some, refl}
+use Rattle.std.specs.Prelude.{◌≡◌, ℕ, ◌+◌, ◌-◌, ◌*◌, Bool, true, false, ◌&&◌, List, [], ◌∷◌, None, Some, refl}
 use Rattle.std.specs.List.{list_all}
-use Rattle.std.proofs.Common.{sym, ap, ◌∙◌}
+use Rattle.std.proofs.Common.{sym, ◌∙◌}
 use Rattle.nest_memory.specs.TypeTree.{size_of}
 use Rattle.nest_model.specs.Layout.{Layout, Layouts, fixed_size_list, list as list_of, map as map_of, struct, union, dictionary, no_layouts, more_layouts}
 use Rattle.nest_model.specs.Meaning.{len}
 use Rattle.nest_model.specs.Part.{begin}
-use Rattle.nest_array.specs.Seen.{layout_of, layouts_of}
-use Rattle.nest_array.specs.declared.any.AnyArray.{AnyArray}
 use Rattle.ipc_arrays.specs.NormalizedLaws.{pass_append}
 use Rattle.ipc_arrays.specs.Encoding.{normalized_slice, normalized, normalized_each, normalized_all, sparse_begin, preorder, preorder_all, dictionaries_of, written_arrays}
 
@@ -64,9 +62,3 @@ no_keys_named (a ∷ arrays) h = no_keys_named arrays h
 -- so none are looked up when they are read
 pub none_named : (columns : List Layout) → are_dictionary_free columns ≡ true → dictionaries_of (written_arrays columns) ≡ []
 none_named columns h = no_keys_named (written_arrays columns) (written_dictionary_free columns ∙ h)
-
--- ---- the traversal of the code
-
-pub columns_dictionary_free : (xs : List AnyArray) → list_all is_not_dictionary (preorder_all (layouts_of xs)) ≡ are_dictionary_free (map layout_of xs)
-columns_dictionary_free [] = refl
-columns_dictionary_free (x ∷ xs) = pass_append is_not_dictionary (preorder (layout_of x)) (preorder_all (layouts_of xs)) ∙ ap (λ (b : Bool). is_dictionary_free (layout_of x) && b) (columns_dictionary_free xs)

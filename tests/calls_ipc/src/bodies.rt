@@ -1,10 +1,7 @@
 //! Columns that are written, byte by byte, and round-trip.
 //!
 //! Columns that are written, byte by byte, of windows too, and round-trip; of dictionaries the keys.
-use ipc_arrays::{
-    BatchCursor, BodyLayout, FixedWidth, have_no_dictionaries, layout_columns, read_columns,
-    write_columns,
-};
+use ipc_arrays::{BatchCursor, BodyLayout, FixedWidth, layout_columns, read_columns, write_columns};
 use ipc_flatbuf::IpcWriteError;
 use nest_array::any::AnyArray;
 use nest_array::dictionary::DictionaryArray;
@@ -209,7 +206,6 @@ fn keys_are_written_and_no_values(rt: HostRuntime) {
         .expect(&rt, "memory")
         .expect(&rt, "columns");
     assert!(rt; read[0] == columns[0]);
-    assert!(rt; !have_no_dictionaries(&columns) && have_no_dictionaries(&[]));
 }
 
 #[test]

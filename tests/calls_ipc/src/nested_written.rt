@@ -2,9 +2,7 @@
 //!
 //! Arrays of every nesting, random and cut, are written and round-trip, over the values of their dictionaries; columns are one
 //! after the other.
-use ipc_arrays::{
-    BatchCursor, BodyLayout, have_no_dictionaries, layout_columns, read_columns, write_columns,
-};
+use ipc_arrays::{BatchCursor, BodyLayout, layout_columns, read_columns, write_columns};
 use ipc_flatbuf::IpcWriteError;
 use nest_array::AnyArray;
 use nest_memory::datatypes::DataType;
@@ -122,12 +120,7 @@ fn random_windows_are_read_back(rt: HostRuntime) -> Result<(), Fail> {
         let depth = rng.between(0, 4);
         let data_type = random_type(alloc, &mut rng, depth)?;
         let column = random_array(alloc, &mut rng, &data_type)?;
-        let is_keyless = have_no_dictionaries(&[column.clone(alloc)?]);
-        assert!(rt;
-            is_keyless != has_dictionary(&data_type),
-            "start {START}, case {case}"
-        );
-        if !is_keyless {
+        if has_dictionary(&data_type) {
             count += 1;
         }
         let same = is_again(alloc, column, data_type)?;
