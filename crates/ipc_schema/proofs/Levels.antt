@@ -1,6 +1,6 @@
 -- One level of a field.
 use Rattle.std.proofs.Common.{◌≡◌, ℕ, zero, suc, ◌+◌, ◌-◌, ◌<◌, ◌≤◌, true, false, length, List, Ok, Err, refl, sym, ap, ◌∙◌, subst, arith}
-use Rattle.std.specs.Prelude.{◌||◌, Option, is_some}
+use Rattle.std.specs.Prelude.{◌||◌, Option}
 use Rattle.std.specs.List.{AllByRecursion, list_any}
 use Rattle.std.specs.Str.{is_utf8}
 use Rattle.nest_memory.specs.TypeTree.{FieldTree, field_type}
@@ -18,7 +18,7 @@ use Rattle.ipc_schema.specs.MetadataLaws.{AreUtf8, AreSorted}
 use Rattle.ipc_schema.specs.TypeLaws.{TypeFits, both}
 use Rattle.ipc_schema.specs.FieldLaws.{FieldFits, name_of, nullable_of, own_type, all_of, table_bytes, bytes_are, fits_are, count_is, field_parts_long}
 use Rattle.ipc_schema.specs.declared.dictionaries.Encoding.{Encoding}
-use Rattle.ipc_schema.specs.DictionaryIds.{keys_of, spec_encoding_of, next_after_own, total, count_dictionaries, spec_has_dictionary}
+use Rattle.ipc_schema.specs.DictionaryIds.{keys_of, spec_encoding_of, next_after_own, total, count_dictionaries}
 use Rattle.ipc_schema.specs.DictionaryIdLaws.{behind_counts, behind_at_most}
 use Rattle.ipc_schema.specs.Schemas.{spec_field_over, spec_field_at}
 
@@ -98,19 +98,3 @@ union_here depth f deep here = union_level depth f deep ∙ rw here refl
 
 pub union_below : (depth : ℕ) (f : FieldTree) → 0 < depth → spec_is_union (spec_table_type (field_type f)) ≡ false → spec_field_has_union depth f ≡ list_any (spec_field_has_union (depth - 1)) (spec_children_of (spec_table_type (field_type f)))
 union_below depth f deep none = union_level depth f deep ∙ rw none refl
-
--- ---- dictionaries
-
-pub no_dictionary : (depth : ℕ) (f : FieldTree) → depth ≡ 0 → spec_has_dictionary depth f ≡ false
-unfolding spec_has_dictionary
-no_dictionary depth f none = ap (λ (n : ℕ). spec_has_dictionary n f) none
-
-dictionary_level : (depth : ℕ) (f : FieldTree) → 0 < depth → spec_has_dictionary depth f ≡ (is_some (keys_of (spec_storage_type (field_type f))) || list_any (spec_has_dictionary (depth - 1)) (spec_children_of (spec_table_type (field_type f))))
-unfolding spec_has_dictionary
-dictionary_level depth f deep = let k : depth ≡ suc (depth - 1) = omega arith in ap (λ (n : ℕ). spec_has_dictionary n f) k
-
-pub dictionary_here : (depth : ℕ) (f : FieldTree) → 0 < depth → is_some (keys_of (spec_storage_type (field_type f))) ≡ true → spec_has_dictionary depth f ≡ true
-dictionary_here depth f deep here = dictionary_level depth f deep ∙ rw here refl
-
-pub dictionary_below : (depth : ℕ) (f : FieldTree) → 0 < depth → is_some (keys_of (spec_storage_type (field_type f))) ≡ false → spec_has_dictionary depth f ≡ list_any (spec_has_dictionary (depth - 1)) (spec_children_of (spec_table_type (field_type f)))
-dictionary_below depth f deep none = dictionary_level depth f deep ∙ rw none refl

@@ -8,8 +8,8 @@ use Rattle.ipc_flatbuf.specs.PartBytes.{u32_bytes, i64_bytes, string_bytes, offs
 use Rattle.ipc_schema.specs.Dictionaries.{ValueTypeModel}
 use Rattle.ipc_schema.specs.DictionaryExamples.{colors, inside, outside}
 use Rattle.ipc_schema.specs.Extensions.{extension_name}
-use Rattle.ipc_schema.specs.DictionaryIds.{total, each_from, count_dictionaries, spec_has_dictionary, ids_from, flattened, value_types_from}
-use Rattle.ipc_schema.specs.WriteChecks.{spec_check_own, spec_check_each, spec_check_field, check_plain_fields}
+use Rattle.ipc_schema.specs.DictionaryIds.{total, each_from, count_dictionaries, ids_from, flattened, value_types_from}
+use Rattle.ipc_schema.specs.WriteChecks.{spec_check_own, spec_check_each, spec_check_field}
 use Rattle.ipc_schema.specs.SchemaBytes.{pair_bytes, no_field, two_fields, type_bytes, spec_type_number, encoding_head, encoding_part, field_vtable, field_head, field_parts, field_bytes}
 
 -- ---- bytes
@@ -131,11 +131,6 @@ outside_is : spec_check_field 64 outside ≡ Ok tt
 unfolding spec_check_own spec_check_each spec_check_field
 outside_is = refl
 
--- an error where no field can be dictionary-encoded
-plain_is : check_plain_fields (outside ∷ []) ≡ Err reasons.Type
-unfolding spec_check_own spec_check_each spec_check_field spec_has_dictionary
-plain_is = refl
-
 -- the children of a value type are one level deeper
 shallow_is : spec_check_field 1 outside ≡ Err reasons.Depth
 unfolding spec_check_own spec_check_each spec_check_field
@@ -143,7 +138,7 @@ shallow_is = refl
 
 abbrev pub AreRefused : Type 0
 AreRefused = (spec_check_field 64 twice ≡ Err reasons.Dictionary) × (spec_check_field 64 around ≡ Err reasons.Dictionary) × (spec_check_field 64 deeper ≡ Err reasons.Extension) × (spec_check_field 64 spelled ≡ Err reasons.Extension)
-    × (spec_check_field 64 floats ≡ Err reasons.Float) × (spec_check_field 64 outside ≡ Ok tt) × (check_plain_fields (outside ∷ []) ≡ Err reasons.Type) × (spec_check_field 1 outside ≡ Err reasons.Depth)
+    × (spec_check_field 64 floats ≡ Err reasons.Float) × (spec_check_field 64 outside ≡ Ok tt) × (spec_check_field 1 outside ≡ Err reasons.Depth)
 
 pub are_refused : AreRefused
-are_refused = (twice_is, around_is, deeper_is, spelled_is, floats_are, outside_is, plain_is, shallow_is)
+are_refused = (twice_is, around_is, deeper_is, spelled_is, floats_are, outside_is, shallow_is)

@@ -1,7 +1,5 @@
 -- Schemas round-trip.
-use Rattle.std.proofs.Common.{◌≡◌, ℕ, ◌+◌, ◌-◌, ◌*◌, ◌^◌, ◌<◌, ◌≤◌, Bool, true, false, List, [], ◌++◌, length, Some, None, Ok, refl, ap, ◌∙◌, subst, append_assoc, arith}
-use Rattle.std.specs.Prelude.{not}
-use Rattle.ipc_flatbuf.specs.declared.error.IpcWriteError.TheVariants as reasons
+use Rattle.std.proofs.Common.{◌≡◌, ℕ, ◌+◌, ◌-◌, ◌*◌, ◌^◌, ◌<◌, ◌≤◌, List, [], ◌++◌, length, Some, None, Ok, refl, append_assoc, arith}
 use Rattle.std.proofs.lemmas.List.{length-append}
 use Rattle.ipc_flatbuf.specs.Flatbuffers.{spec_offset_at, spec_field_position, spec_read_table, spec_items_at}
 use Rattle.ipc_flatbuf.specs.PartBytes.{u32_bytes}
@@ -10,15 +8,13 @@ use Rattle.ipc_flatbuf.specs.TemplateLaws.{From_at, offset_in, table_in, visit_i
 use Rattle.ipc_flatbuf.specs.VectorLaws.{ReadsBackAs, table_vector_is_long}
 use Rattle.ipc_schema.specs.FieldVectors.{table_vector_is_read, tables_are_read}
 use Rattle.ipc_schema.specs.Dictionaries.{DictionaryTypesModel, no_dictionaries, progress}
-use Rattle.ipc_schema.specs.DictionaryIds.{total, count_all, have_dictionary, types_after_all}
-use Rattle.ipc_schema.specs.DictionaryIdLaws.{none_seen}
+use Rattle.ipc_schema.specs.DictionaryIds.{total, count_all, types_after_all}
 use Rattle.ipc_flatbuf.specs.Messages.{message_at}
 use Rattle.ipc_flatbuf.specs.MessageBytes.{root_bytes, message_bytes, metadata_size, framed_bytes, padding}
 use Rattle.ipc_flatbuf.specs.MessageLaws.{padded, padded_long, padding_long, framed_long, root_long, written_parts, message_round_trips, written_part}
 use Rattle.ipc_flatbuf.specs.declared.message.types.MessageKind.TheVariants as kinds
 use Rattle.ipc_schema.specs.Schemas.{SchemaModel, spec_metadata_at, spec_field_at, spec_schema_at, stream_schema_at}
-use Rattle.ipc_schema.specs.WriteChecks.{spec_require, check_fields, check_plain_fields}
-use Rattle.ipc_schema.specs.TypeLaws.{both}
+use Rattle.ipc_schema.specs.WriteChecks.{check_fields}
 use Rattle.ipc_schema.specs.SchemaBytes.{each_bytes, fields_bytes, entries_bytes, schema_bytes, schema_message}
 use Rattle.ipc_schema.specs.MetadataLaws.{AreUtf8, AreSorted, entries_cost, entries_pay, metadata_round_trips}
 use Rattle.ipc_schema.specs.FieldLaws.{AllFit, field_cost, fields_round_trip, fields_pay, fields_count}
@@ -29,11 +25,6 @@ pub record SchemaFits (s : SchemaModel) : Type 0 where
   pub fields : AllFit s.fields
   pub texts : AreUtf8 s.metadata
   pub rising : AreSorted s.metadata
-
--- the same where no field is dictionary-encoded
-pub record PlainSchemaFits (s : SchemaModel) : Type 0 where
-  pub form : check_plain_fields s.fields ≡ Ok tt
-  pub keyed : SchemaFits s
 
 -- a schema, and its dictionaries with the ids that are written
 abbrev pub with_dictionary_ids : SchemaModel → SchemaModel × DictionaryTypesModel
@@ -123,19 +114,3 @@ module _ (s : SchemaModel) (fits : SchemaFits s) where
 pub stream_round_trips : (s : SchemaModel) (rest : List ℕ) → SchemaFits s → metadata_size (schema_message s) < 2 ^ 31 → stream_schema_at (schema_message s ++ rest) ≡ Ok (with_dictionary_ids s, rest)
 unfolding stream_schema_at schema_message
 stream_round_trips s rest fits small = rw (message_is s fits rest small, table_is_read s fits small) refl
-
--- ---- where no field is dictionary-encoded
-
-none_has : (b : Bool) → spec_require (not b) reasons.Type ≡ Ok tt → b ≡ false
-none_has true h = absurd (cc h)
-none_has false h = refl
-
--- there are no dictionaries
-pub plain_ids : (s : SchemaModel) → check_plain_fields s.fields ≡ Ok tt → with_dictionary_ids s ≡ (s, no_dictionaries)
-plain_ids s form = ap (λ (seen : DictionaryTypesModel). (s, seen)) (none_seen s.fields (none_has (have_dictionary s.fields) (both (check_fields s.fields) (spec_require (not (have_dictionary s.fields)) reasons.Type) form).1))
-
-pub plain_table_round_trips : (s : SchemaModel) → PlainSchemaFits s → ReadsBackAs spec_schema_at 16 (part_of s) (s, no_dictionaries) (schema_cost s)
-plain_table_round_trips s fits = subst (λ (x : SchemaModel × DictionaryTypesModel). ReadsBackAs spec_schema_at 16 (part_of s) x (schema_cost s)) (plain_ids s fits.form) (table_round_trips s fits.keyed)
-
-pub plain_stream_round_trips : (s : SchemaModel) (rest : List ℕ) → PlainSchemaFits s → metadata_size (schema_message s) < 2 ^ 31 → stream_schema_at (schema_message s ++ rest) ≡ Ok ((s, no_dictionaries), rest)
-plain_stream_round_trips s rest fits small = stream_round_trips s rest fits.keyed small ∙ ap (λ (x : SchemaModel × DictionaryTypesModel). Ok (x, rest)) (plain_ids s fits.form)

@@ -9,7 +9,6 @@ use Rattle.ipc_flatbuf.specs.WriteErrors.{IsSizeError}
 use Rattle.ipc_schema.specs.Types.{spec_is_precision, most_digits, most_digits256, spec_is_coarse, spec_are_union_ids, spec_children_of}
 use Rattle.ipc_schema.specs.Floats.{spec_is_float_name, spec_is_float}
 use Rattle.ipc_schema.specs.Extensions.{extension_name, extension_metadata, spec_has_key, spec_storage_type, spec_table_type, spec_is_extension}
-use Rattle.ipc_schema.specs.DictionaryIds.{have_dictionary}
 
 abbrev pub and_then_check : {A B : Type 0} → Result A IpcWriteError → Result B IpcWriteError → Result B IpcWriteError
 and_then_check (Ok x) next = next
@@ -112,25 +111,15 @@ spec_check_field (suc depth) f = and_then_check (spec_check_own f) (spec_check_e
 abbrev pub check_fields : List FieldTree → Result (Unit {0}) IpcWriteError
 check_fields fs = spec_check_each (spec_check_field 64) fs
 
--- the same where no field can be dictionary-encoded
-abbrev pub check_plain_fields : List FieldTree → Result (Unit {0}) IpcWriteError
-check_plain_fields fs = and_then_check (check_fields fs) (spec_require (not (have_dictionary fs)) reasons.Type)
-
 -- the error of writing a schema: Memory, that of its fields, or Size where it has 2^31 bytes or more
 abbrev pub IsSchemaWriteError : Result (Unit {0}) IpcWriteError → ℕ → IpcWriteError → Type 0
 IsSchemaWriteError form long why = (why ≡ reasons.Memory) ⊎ ((form ≡ Err why) ⊎ ((form ≡ Ok tt) × (why ≡ reasons.Size) × (2 ^ 31 ≤ long)))
-
-abbrev pub IsPlainSchemaWriteError : List FieldTree → ℕ → IpcWriteError → Type 0
-IsPlainSchemaWriteError fields long why = IsSchemaWriteError (check_plain_fields fields) long why
 
 -- an error of a part is an error of what contains it
 pub schema_error_of_whole : (form : Result (Unit {0}) IpcWriteError) (part whole : ℕ) (why : IpcWriteError) → part ≤ whole → IsSchemaWriteError form part why → IsSchemaWriteError form whole why
 schema_error_of_whole form part whole why le (inl memory) = inl memory
 schema_error_of_whole form part whole why le (inr (inl reason)) = inr (inl reason)
 schema_error_of_whole form part whole why le (inr (inr (ok, size, long))) = inr (inr (ok, size, omega arith))
-
-pub plain_schema_error_of_whole : (fields : List FieldTree) (part whole : ℕ) (why : IpcWriteError) → part ≤ whole → IsPlainSchemaWriteError fields part why → IsPlainSchemaWriteError fields whole why
-plain_schema_error_of_whole fields part whole why le is = schema_error_of_whole (check_plain_fields fields) part whole why le is
 
 -- a size error is an error of a schema whose fields can be written
 pub size_error_of_schema : (form : Result (Unit {0}) IpcWriteError) (long : ℕ) (why : IpcWriteError) → form ≡ Ok tt → IsSizeError why long → IsSchemaWriteError form long why

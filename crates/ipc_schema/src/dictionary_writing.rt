@@ -1,19 +1,18 @@
 //! Writers of dictionary encodings.
-ghost use Rattle.std.specs.Prelude.{◌≡◌, ◌≤◌, ◌++◌, length, map, IfOk, OnOk, IfErr, is_some};
-ghost use Rattle.std.specs.List.{list_any};
+ghost use Rattle.std.specs.Prelude.{◌≡◌, ◌≤◌, ◌++◌, length, IfOk, OnOk, IfErr};
 ghost use Rattle.nest_memory.specs.Physical.{integer_tree};
-ghost use Rattle.nest_memory.specs.TypeOf.{type_of, field_of};
+ghost use Rattle.nest_memory.specs.TypeOf.{type_of};
 ghost use Rattle.ipc_flatbuf.specs.WriteErrors.{IsSizeError};
 ghost use Rattle.ipc_schema.specs.Extensions.{spec_storage_type};
 ghost use Rattle.ipc_schema.specs.WriteChecks.{spec_is_plain_value_type, spec_can_encode};
-ghost use Rattle.ipc_schema.specs.DictionaryIds.{keys_of, spec_encoding_of, next_after_own, spec_has_dictionary};
+ghost use Rattle.ipc_schema.specs.DictionaryIds.{spec_encoding_of, next_after_own};
 ghost use Rattle.ipc_schema.specs.SchemaBytes.{type_bytes, encoding_head, encoding_part, encoding_bytes, spec_table_len, spec_dictionary_slot};
 
 use crate::dictionaries::Encoding;
 use crate::floats::is_float;
-use crate::type_writing::{children_of, storage_type, table_type, write_two_fields};
+use crate::type_writing::{storage_type, write_two_fields};
 use ipc_flatbuf::{IpcWriteError, write_i64};
-use nest_memory::datatypes::{DataType, Field, IntegerType};
+use nest_memory::datatypes::{DataType, IntegerType};
 use std::alloc::AllocError;
 
 fn is_plain_value_type(values: &DataType) -> bool
@@ -34,41 +33,6 @@ pub fn can_encode(data_type: &DataType) -> bool
         DataType::Dictionary(_, values, _) => is_plain_value_type(values),
         _ => true,
     }
-}
-
-fn is_dictionary(data_type: &DataType) -> bool
-    ensures { result ≡ is_some (keys_of (type_of data_type.now)) }
-{
-    match data_type {
-        DataType::Dictionary(_, _, _) => true,
-        _ => false,
-    }
-}
-
-// Whether a field or a descendant is dictionary-encoded, to a depth.
-#[cycle(dictionaries)]
-fn has_dictionary(depth: u8, field: &Field) -> bool
-    ensures { result ≡ spec_has_dictionary depth (field_of field.now) }
-{
-    if depth == 0 {
-        return false;
-    }
-    let data_type = field.data_type();
-    is_dictionary(storage_type(data_type))
-        || any_has_dictionary(depth - 1, children_of(table_type(data_type)))
-}
-
-/// Returns whether a field or a descendant is dictionary-encoded, to a depth.
-#[cycle(dictionaries)]
-pub fn any_has_dictionary(depth: u8, fields: &[Field]) -> bool
-    ensures { result ≡ list_any (spec_has_dictionary depth) (map field_of fields.now) }
-{
-    for field in fields {
-        if has_dictionary(depth, field) {
-            return true;
-        }
-    }
-    false
 }
 
 /// Returns the dictionary encoding of a field with the next id, and the next id after it.

@@ -35,8 +35,6 @@ pub use projected::{
 pub use reading::{read_schema, schema_at};
 pub use schema::{Schema, SchemaWithDictionaries};
 pub use unions::check_version;
-pub use writing::{
-    schema_table, schema_with_dictionaries_table, write_schema, write_schema_with_dictionaries,
-};
+pub use writing::{schema_with_dictionaries_table, write_schema_with_dictionaries};
 
 pub mod footer;

@@ -11,20 +11,18 @@ ghost use Rattle.ipc_flatbuf.specs.VectorLaws.{ReadsBackAs};
 ghost use Rattle.ipc_flatbuf.specs.MessageBytes.{message_bytes, metadata_size};
 ghost use Rattle.ipc_flatbuf.specs.declared.message.types.MessageKind.TheVariants.{Schema as SchemaKind};
 ghost use Rattle.ipc_schema.specs.Schemas.{schema_of, spec_schema_at, stream_schema_at};
-ghost use Rattle.ipc_schema.specs.Dictionaries.{no_dictionaries};
 ghost use Rattle.ipc_schema.specs.DictionaryIds.{total, count_dictionaries};
-ghost use Rattle.ipc_schema.specs.WriteChecks.{spec_check_type, spec_has_free_name, spec_has_no_reserved_key, spec_check_own, spec_check_each, spec_check_field, check_fields, check_plain_fields, IsSchemaWriteError, IsPlainSchemaWriteError};
+ghost use Rattle.ipc_schema.specs.WriteChecks.{spec_check_type, spec_has_free_name, spec_has_no_reserved_key, spec_check_own, spec_check_each, spec_check_field, check_fields, IsSchemaWriteError};
 ghost use Rattle.ipc_schema.specs.SchemaBytes.{field_vtable, field_head, entries_bytes, parts_of_field, field_bytes, each_bytes, field_parts, schema_bytes, schema_message};
 ghost use Rattle.ipc_schema.specs.MetadataLaws.{AreUtf8};
 ghost use Rattle.ipc_schema.specs.TypeLaws.{TypeFits};
 ghost use Rattle.ipc_schema.specs.FieldLaws.{FieldFits, TableFits, name_of, nullable_of, own_entries, own_type, table_bytes};
 ghost use Rattle.ipc_schema.specs.Extensions.{all_metadata_of};
-ghost use Rattle.ipc_schema.specs.SchemaLaws.{SchemaFits, PlainSchemaFits, part_of, with_dictionary_ids, schema_cost};
+ghost use Rattle.ipc_schema.specs.SchemaLaws.{SchemaFits, part_of, with_dictionary_ids, schema_cost};
 
 use crate::dictionaries::Encoding;
 use crate::dictionary_writing::{
-    any_has_dictionary, can_encode, dictionary_len, dictionary_slot, encoding_of, table_len,
-    write_dictionary,
+    can_encode, dictionary_len, dictionary_slot, encoding_of, table_len, write_dictionary,
 };
 use crate::floats::{is_float, is_float_name};
 use crate::metadata::{has_key, with_extension, write_metadata};
@@ -92,17 +90,6 @@ fn check_each(depth: u8, fields: &[Field]) -> Result<(), IpcWriteError>
 {
     for field in fields {
         check_field(depth, field)?;
-    }
-    Ok(())
-}
-
-// Checks that each field can be written and none is dictionary-encoded.
-fn check_plain(fields: &[Field]) -> Result<(), IpcWriteError>
-    ensures { result ≡ check_plain_fields (map field_of fields.now) }
-{
-    check_each(64, fields)?;
-    if any_has_dictionary(64, fields) {
-        return Err(IpcWriteError::Type);
     }
     Ok(())
 }
@@ -386,21 +373,6 @@ pub fn schema_with_dictionaries_table(
     Ok(part)
 }
 
-/// Returns the part that holds the table of a schema without dictionaries, 16 bytes into it.
-///
-/// # Errors
-/// As [`schema_with_dictionaries_table`], then [`IpcWriteError::Type`] where a field is dictionary-encoded.
-pub fn schema_table(alloc: Global, schema: &Schema) -> Result<Vec<u8>, IpcWriteError>
-    ensures again { OnOk result (ReadsBackAs spec_schema_at 16 (part_of (schema_of schema.now)) (schema_of schema.now, no_dictionaries) (schema_cost (schema_of schema.now))) }
-    ensures bytes { IfOk result (λ part. part.items ≡ part_of (schema_of schema.now)) }
-    ensures fits { OnOk result (PlainSchemaFits (schema_of schema.now)) }
-    ensures err { IfErr result (IsPlainSchemaWriteError (schema_of schema.now).fields (length (part_of (schema_of schema.now)))) }
-{
-    check_plain(&schema.fields)?;
-    let part = schema_bytes_of(alloc, schema)?;
-    Ok(part)
-}
-
 // The schema message of a part.
 fn message_of(alloc: Global, part: &[u8]) -> Result<Vec<u8>, IpcWriteError>
     ensures bytes { IfOk result (λ out. out.items ≡ message_bytes SchemaKind 0 16 part.now) }
@@ -430,22 +402,6 @@ pub fn write_schema_with_dictionaries(
     ensures err { IfErr result (IsSchemaWriteError (check_fields (schema_of schema.now).fields) (metadata_size (schema_message (schema_of schema.now)))) }
 {
     let part = schema_with_dictionaries_table(alloc, schema)?;
-    let message = message_of(alloc, &part)?;
-    Ok(message)
-}
-
-/// Returns the schema message of a schema without dictionaries, which round-trips, whatever bytes follow.
-///
-/// # Errors
-/// As [`write_schema_with_dictionaries`], then the error for a field that is dictionary-encoded.
-pub fn write_schema(alloc: Global, schema: &Schema) -> Result<Vec<u8>, IpcWriteError>
-    ensures again { IfOk result (λ out. (rest : List ℕ) → stream_schema_at (out.items ++ rest) ≡ Ok ((schema_of schema.now, no_dictionaries), rest)) }
-    ensures bytes { IfOk result (λ out. out.items ≡ schema_message (schema_of schema.now)) }
-    ensures form { OnOk result (check_plain_fields (schema_of schema.now).fields ≡ Ok tt) }
-    ensures small { OnOk result (metadata_size (schema_message (schema_of schema.now)) < 2 ^ 31) }
-    ensures err { IfErr result (IsPlainSchemaWriteError (schema_of schema.now).fields (metadata_size (schema_message (schema_of schema.now)))) }
-{
-    let part = schema_table(alloc, schema)?;
     let message = message_of(alloc, &part)?;
     Ok(message)
 }

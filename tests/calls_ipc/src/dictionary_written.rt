@@ -1,14 +1,14 @@
 //! Schemas with dictionaries that are written: round-trip with the ids 0, 1, 2 and so on, or rejected by the first reason.
 //!
 //! Schemas with dictionaries, of another implementation, random, and of each type of keys, are written and round-trip with the
-//! ids 0, 1, 2 and so on, or have the first reason of a plain model; without dictionaries both calls write the same.
+//! ids 0, 1, 2 and so on, or have the first reason of a plain model.
 use crate::samples::DICTIONARY_SCHEMAS;
 use crate::samples_read::bytes_of;
 use crate::schemas::{count_dictionaries, random_schema, wanted_of};
 use ipc_flatbuf::IpcWriteError;
 use ipc_schema::{
-    Schema, SchemaWithDictionaries, read_schema, schema_table, schema_with_dictionaries_table,
-    write_schema, write_schema_with_dictionaries,
+    Schema, SchemaWithDictionaries, read_schema, schema_with_dictionaries_table,
+    write_schema_with_dictionaries,
 };
 use nest_memory::datatypes::{DataType, Field, IntegerType};
 use random::numbers::Generator;
@@ -70,9 +70,6 @@ fn of_another_program(rt: HostRuntime) {
             "{}",
             sample.name
         );
-        let plain = write_schema(alloc, &keyed.schema).err();
-        let want = (!keyed.dictionaries.ids.is_empty()).then_some(IpcWriteError::Type);
-        assert!(rt; plain == want, "{}", sample.name);
     }
 }
 
@@ -167,8 +164,6 @@ fn each_reason(rt: HostRuntime) {
         let schema = schema_of(alloc, data_type).expect(&rt, "no schema");
         assert!(rt; write_schema_with_dictionaries(alloc, &schema).err() == want);
         assert!(rt; want.is_some() || is_decoded(alloc, &schema));
-        let plain = want.or(Some(IpcWriteError::Type));
-        assert!(rt; write_schema(alloc, &schema).err() == plain);
     }
 }
 
@@ -192,15 +187,12 @@ fn metadata_of_its_own(rt: HostRuntime) {
     }
 }
 
-// Without a dictionary both calls have the same bytes, and the table is in them.
 #[test]
-fn both_equal(rt: HostRuntime) {
+fn table_in_the_message(rt: HostRuntime) {
     let alloc = rt.alloc();
     let list = listed(alloc, DataType::Utf8).expect(&rt, "no type");
     let schema = schema_of(alloc, list).expect(&rt, "no schema");
-    let plain = write_schema(alloc, &schema).expect(&rt, "not written");
-    assert!(rt; write_schema_with_dictionaries(alloc, &schema).expect(&rt, "not written") == plain);
-    let table = schema_table(alloc, &schema).expect(&rt, "not written");
-    assert!(rt; schema_with_dictionaries_table(alloc, &schema).expect(&rt, "not written") == table);
-    assert!(rt; plain[56..56 + table.len()] == table[..]);
+    let message = write_schema_with_dictionaries(alloc, &schema).expect(&rt, "not written");
+    let table = schema_with_dictionaries_table(alloc, &schema).expect(&rt, "not written");
+    assert!(rt; message[56..56 + table.len()] == table[..]);
 }

@@ -4,7 +4,7 @@
 use crate::examples::count_batches;
 use crate::streams::{SHARED, WORKED};
 use ipc_flatbuf::IpcReadError;
-use ipc_schema::{Schema, read_schema, write_schema};
+use ipc_schema::{Schema, read_schema, write_schema_with_dictionaries};
 use std::collections::BTreeMap;
 
 #[test]
@@ -84,7 +84,7 @@ fn a_pair_without_a_value(rt: HostRuntime) {
         fields: Vec::new(alloc),
         metadata,
     };
-    let mut bytes = write_schema(alloc, &schema).expect(&rt, "no bytes");
+    let mut bytes = write_schema_with_dictionaries(alloc, &schema).expect(&rt, "no bytes");
     bytes[8 + 48 + 32 + 8 + 8 + 6] = 0;
     assert!(rt; read_schema(alloc, &bytes).err() == Some(IpcReadError::Metadata));
 }

@@ -10,7 +10,9 @@ use ipc::{SliceFileReader, read_file, read_stream, write_file};
 use ipc_flatbuf::IpcReadError;
 use ipc_flatbuf::message::{MessageKind, MetadataVersion, next_message, version_of};
 use ipc_schema::footer::{Block, block_bytes, read_footer, write_footer};
-use ipc_schema::{Projection, check_version, read_schema, schema_at, schema_table};
+use ipc_schema::{
+    Projection, check_version, read_schema, schema_at, schema_with_dictionaries_table,
+};
 use std::alloc::Global;
 
 #[test]
@@ -223,7 +225,7 @@ fn the_footer_of_a_file(rt: HostRuntime) {
 fn the_table_of_a_schema(rt: HostRuntime) {
     let alloc = rt.alloc();
     let (keyed, _) = read_schema(alloc, &WORKED).expect(&rt, "a schema");
-    let part = schema_table(alloc, &keyed.schema).expect(&rt, "a table");
+    let part = schema_with_dictionaries_table(alloc, &keyed.schema).expect(&rt, "a table");
     let (keyed, left) = schema_at(alloc, &part, 16, 64 * part.len()).expect(&rt, "a schema");
     let again = &keyed.schema;
     assert!(rt; left < 64 * part.len());

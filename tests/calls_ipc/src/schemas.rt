@@ -1,16 +1,15 @@
 //! Schemas of each type: those of another implementation, and those that are written and round-trip.
 //!
-//! Schemas of another implementation have their text, or their errors; each type is round-trip; random schemas, over every type,
-//! are round-trip or have the first reason of a plain model; each prefix of a message and each byte of it changed is decoded.
+//! Schemas of another implementation have their text, or their errors; each type is round-trip; each prefix of a message and each
+//! byte of it changed is decoded.
 use crate::samples::{REJECTED_SCHEMAS, SCHEMAS};
 use crate::samples_read::bytes_of;
 use crate::schema_text::text_of_schema;
 use ipc_flatbuf::message::MetadataVersion;
 use ipc_flatbuf::{IpcReadError, IpcWriteError};
-use ipc_schema::{Schema, check_version, read_schema, write_schema};
+use ipc_schema::{Schema, check_version, read_schema, write_schema_with_dictionaries};
 use nest_memory::datatypes::{DataType, Field, IntervalUnit, Metadata, TimeUnit, UnionMode};
 use random::numbers::Generator;
-use random::start::START;
 use random::types::random_type;
 use std::alloc::Global;
 use std::collections::BTreeMap;
@@ -79,7 +78,7 @@ fn reason(alloc: Global, data_type: DataType) -> Result<Option<IpcWriteError>, I
 
 /// The same of a schema.
 fn reason_of(alloc: Global, schema: &Schema) -> Result<Option<IpcWriteError>, IpcReadError> {
-    match write_schema(alloc, schema) {
+    match write_schema_with_dictionaries(alloc, schema) {
         Err(why) => Ok(Some(why)),
         Ok(bytes) => {
             let (read, rest) = read_schema(alloc, &bytes)?;
@@ -500,12 +499,6 @@ fn outer_of(data_type: &DataType) -> usize {
     }
 }
 
-/// The first reason where none may have a dictionary.
-fn plain_wanted(fields: &[Field]) -> Option<IpcWriteError> {
-    let some = (count_dictionaries(fields) != 0).then_some(IpcWriteError::Type);
-    wanted_of(fields, 64).or(some)
-}
-
 fn random_metadata(alloc: Global, rng: &mut Generator) -> Result<Metadata, IpcWriteError> {
     let mut metadata = BTreeMap::new(alloc);
     for _ in 0..rng.below(3) {
@@ -542,28 +535,17 @@ pub fn random_schema(
 
 /// Whether a schema is round-trip, or is rejected by the reason that the model has.
 fn is_decoded(alloc: Global, schema: &Schema) -> bool {
-    match write_schema(alloc, schema) {
-        Err(why) => plain_wanted(&schema.fields) == Some(why),
+    match write_schema_with_dictionaries(alloc, schema) {
+        Err(why) => wanted_of(&schema.fields, 64) == Some(why),
         Ok(bytes) => match read_schema(alloc, &bytes) {
             Err(_) => false,
             Ok((read, rest)) => {
                 rest.is_empty()
-                    && plain_wanted(&schema.fields).is_none()
+                    && wanted_of(&schema.fields, 64).is_none()
                     && read.schema.fields == schema.fields
                     && read.schema.metadata == schema.metadata
             }
         },
-    }
-}
-
-const RANDOM: u64 = 31;
-
-#[test]
-fn random_schemas(rt: HostRuntime) {
-    for case in 0..400 {
-        let mut rng = Generator::new(START, RANDOM, case);
-        let schema = random_schema(rt.alloc(), &mut rng, case % 4).expect(&rt, "no schema");
-        assert!(rt; is_decoded(rt.alloc(), &schema), "case {case}");
     }
 }
 

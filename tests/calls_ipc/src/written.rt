@@ -7,7 +7,7 @@ use ipc_flatbuf::{
     BufferSpec, CompressionCodec, FieldNode, IpcWriteError, i64_field, offset_field, read_table,
     u8_field,
 };
-use ipc_schema::{Schema, read_schema, write_schema};
+use ipc_schema::{Schema, read_schema, write_schema_with_dictionaries};
 use nest_memory::datatypes::{DataType, Field, Metadata};
 use std::alloc::Global;
 use std::collections::BTreeMap;
@@ -55,7 +55,7 @@ fn schema_of(alloc: Global) -> Result<Schema, IpcWriteError> {
 fn a_schema(rt: HostRuntime) {
     let alloc = rt.alloc();
     let schema = schema_of(alloc).expect(&rt, "no schema");
-    let mut bytes = write_schema(alloc, &schema).expect(&rt, "no bytes");
+    let mut bytes = write_schema_with_dictionaries(alloc, &schema).expect(&rt, "no bytes");
     assert!(rt; bytes.len() % 8 == 0);
     assert!(rt; bytes.extend_from_slice(&[1, 2, 3]).is_ok());
     let (read, rest) = read_schema(alloc, &bytes).expect(&rt, "not read");
@@ -75,14 +75,15 @@ fn rejected_schemas(rt: HostRuntime) {
         let mut schema = schema_of(alloc).expect(&rt, "no schema");
         let field = of_one(alloc, "f", data_type, true).expect(&rt, "no field");
         assert!(rt; schema.fields.push(field).is_ok());
-        assert!(rt; write_schema(alloc, &schema).err() == Some(want));
+        assert!(rt; write_schema_with_dictionaries(alloc, &schema).err() == Some(want));
     }
     let mut schema = schema_of(alloc).expect(&rt, "no schema");
     schema.fields[1].metadata = metadata_of(alloc, &[("ARROW:extension:name", "x")]).expect(
         &rt,
         "no metadata",
     );
-    assert!(rt; write_schema(alloc, &schema).err() == Some(IpcWriteError::Extension));
+    let error = write_schema_with_dictionaries(alloc, &schema).err();
+    assert!(rt; error == Some(IpcWriteError::Extension));
 }
 
 /// Each compression of a record batch.

@@ -3,7 +3,7 @@
 
 use crate::streams::{from_read_error, from_write_error};
 use failed_allocations::failures::{Failure, Failures, expect};
-use ipc_schema::{Schema, read_schema, write_schema, write_schema_with_dictionaries};
+use ipc_schema::{Schema, read_schema, write_schema_with_dictionaries};
 use nest_memory::datatypes::{DataType, Field};
 use nest_memory::error::Error;
 use std::alloc::Global;
@@ -53,7 +53,7 @@ fn extended(alloc: Global) -> Result<Schema, Error> {
 /// How many fields are read of what was written.
 fn field_count(alloc: Global) -> Result<usize, Error> {
     let schema = extended(alloc)?;
-    let bytes = write_schema(alloc, &schema).map_err(from_write_error)?;
+    let bytes = write_schema_with_dictionaries(alloc, &schema).map_err(from_write_error)?;
     let (read, _) = read_schema(alloc, &bytes).map_err(from_read_error)?;
     Ok(read.schema.fields.len())
 }
