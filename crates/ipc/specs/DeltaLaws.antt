@@ -12,7 +12,7 @@ use Rattle.ipc_flatbuf.specs.ReadResults.{◌>>=◌, check}
 use Rattle.ipc_flatbuf.specs.declared.error.IpcReadError.{IpcReadError}
 use Rattle.ipc_flatbuf.specs.declared.error.IpcReadError.TheVariants.{Delta}
 use Rattle.ipc_flatbuf.specs.Flatbuffers.{number_at, signed_at, field, spec_offset_field, spec_read_table}
-use Rattle.ipc_flatbuf.specs.declared.tables.Table.{Table}
+use Rattle.ipc_flatbuf.specs.declared.tables.FlatbufferTable.{FlatbufferTable}
 use Rattle.ipc_flatbuf.specs.Messages.{MessageModel}
 use Rattle.ipc_schema.specs.Dictionaries.{ValueTypeModel}
 use Rattle.ipc.specs.KnownDictionaryLaws.{entry_put}
@@ -40,21 +40,21 @@ may_come_too true there x h = h
 may_come_too false true x h = cc
 may_come_too false false x h = h
 
-data_too : (there : Bool) (metadata : List ℕ) (table : Table) (x : ℕ × Bool) → data_in true there metadata table ≡ Ok x → data_in false there metadata table ≡ Ok x
+data_too : (there : Bool) (metadata : List ℕ) (table : FlatbufferTable) (x : ℕ × Bool) → data_in true there metadata table ≡ Ok x → data_in false there metadata table ≡ Ok x
 unfolding data_in
 data_too there metadata table x h =
     after_same _ _ x (spec_offset_field metadata table 1) (λ to. after_same _ _ x (spec_data_position to) (λ position. after_same _ _ x (field (number_at w8 metadata) 0 metadata table 2) (λ delta.
     then_read _ _ x (spec_check_order true (nat_lt 0 delta) there) (spec_check_order false (nat_lt 0 delta) there) (may_come_too (nat_lt 0 delta) there) (λ u e. e)))) h
 
-column_too : (s : StateTree) (m : MessageModel) (table : Table) (left : ℕ) (id : ℤ) (v : ValueTypeModel) (x : Bool × Layout) → new_values_in true s m table left id v ≡ Ok x → new_values_in false s m table left id v ≡ Ok x
+column_too : (s : StateTree) (m : MessageModel) (table : FlatbufferTable) (left : ℕ) (id : ℤ) (v : ValueTypeModel) (x : Bool × Layout) → new_values_in true s m table left id v ≡ Ok x → new_values_in false s m table left id v ≡ Ok x
 column_too s m table left id v x h =
     then_read _ _ x (data_in true (is_some (known_at s.known id)) m.metadata table) (data_in false (is_some (known_at s.known id)) m.metadata table) (data_too (is_some (known_at s.known id)) m.metadata table) (λ at e. e) h
 
-values_too : (s : StateTree) (m : MessageModel) (table : Table) (left : ℕ) (id : ℤ) (named : Option ValueTypeModel) (x : Option (Bool × Layout)) → found_values true s m table left id named ≡ Ok x → found_values false s m table left id named ≡ Ok x
+values_too : (s : StateTree) (m : MessageModel) (table : FlatbufferTable) (left : ℕ) (id : ℤ) (named : Option ValueTypeModel) (x : Option (Bool × Layout)) → found_values true s m table left id named ≡ Ok x → found_values false s m table left id named ≡ Ok x
 values_too s m table left id None x h = h
 values_too s m table left id (Some v) x h = then_read _ _ x (new_values_in true s m table left id v) (new_values_in false s m table left id v) (column_too s m table left id v) (λ new e. e) h
 
-found_too : (s : StateTree) (m : MessageModel) (table : Table) (left : ℕ) (id : ℤ) (x : Option (Bool × Layout)) → found_in true s m table left id ≡ Ok x → found_in false s m table left id ≡ Ok x
+found_too : (s : StateTree) (m : MessageModel) (table : FlatbufferTable) (left : ℕ) (id : ℤ) (x : Option (Bool × Layout)) → found_in true s m table left id ≡ Ok x → found_in false s m table left id ≡ Ok x
 found_too s m table left id x h = after_same _ _ x (named_in s.picked id) (λ named. values_too s m table left id named x) h
 
 -- a dictionary batch that is read in a file is read alike in a stream

@@ -15,7 +15,7 @@ use Rattle.ipc_flatbuf.specs.ReadResults.{◌>>=◌, check}
 use Rattle.ipc_flatbuf.specs.declared.error.IpcReadError.{IpcReadError}
 use Rattle.ipc_flatbuf.specs.declared.error.IpcReadError.TheVariants.{DuplicateDictionary, Delta}
 use Rattle.ipc_flatbuf.specs.Flatbuffers.{number_at, signed_at, field, spec_offset_field, spec_read_table}
-use Rattle.ipc_flatbuf.specs.declared.tables.Table.{Table}
+use Rattle.ipc_flatbuf.specs.declared.tables.FlatbufferTable.{FlatbufferTable}
 use Rattle.ipc_flatbuf.specs.Messages.{MessageModel}
 use Rattle.ipc_schema.specs.Dictionaries.{ValueTypeModel}
 use Rattle.ipc_schema.specs.OutermostIds.{spec_outermost_ids}
@@ -156,7 +156,7 @@ may_come_or true there = inl refl
 may_come_or false true = inr refl
 may_come_or false false = inl refl
 
-data_or : (there : Bool) (metadata : List ℕ) (table : Table) → OrReplaced (data_in true there metadata table) (data_in false there metadata table)
+data_or : (there : Bool) (metadata : List ℕ) (table : FlatbufferTable) → OrReplaced (data_in true there metadata table) (data_in false there metadata table)
 unfolding data_in
 data_or there metadata table =
     then_or (spec_offset_field metadata table 1) (spec_offset_field metadata table 1) _ _ (inl refl)
@@ -164,7 +164,7 @@ data_or there metadata table =
     (λ position. then_or (field (number_at w8 metadata) 0 metadata table 2) (field (number_at w8 metadata) 0 metadata table 2) _ _ (inl refl)
     (λ delta. then_or (spec_check_order true (nat_lt 0 delta) there) (spec_check_order false (nat_lt 0 delta) there) _ _ (may_come_or (nat_lt 0 delta) there) (λ allowed. inl refl))))
 
-found_values_or : (s : StateTree) (m : MessageModel) (table : Table) (left : ℕ) (id : ℤ) (o : Option ValueTypeModel) → OrReplaced (found_values true s m table left id o) (found_values false s m table left id o)
+found_values_or : (s : StateTree) (m : MessageModel) (table : FlatbufferTable) (left : ℕ) (id : ℤ) (o : Option ValueTypeModel) → OrReplaced (found_values true s m table left id o) (found_values false s m table left id o)
 found_values_or s m table left id None = inl refl
 found_values_or s m table left id (Some v) =
     let there : Bool = is_some (known_at s.known id) in
@@ -189,7 +189,7 @@ come_once true there x e none = cc
 come_once false true x e none = cc
 come_once false false x e none = refl
 
-data_once : (there : Bool) (metadata : List ℕ) (table : Table) → IfOk (data_in true there metadata table) (λ at. at.1 ≡ false → there ≡ false)
+data_once : (there : Bool) (metadata : List ℕ) (table : FlatbufferTable) → IfOk (data_in true there metadata table) (λ at. at.1 ≡ false → there ≡ false)
 unfolding data_in
 data_once there metadata table =
     after (λ (at : ℕ × Bool). at.1 ≡ false → there ≡ false) (spec_offset_field metadata table 1) _
@@ -207,7 +207,7 @@ only_fits t rows body rest all =
     after IsArray (decoded_column t (Rows rows) body rest) _
     (λ column e. after IsArray (checked_exhausted column.1) _ (λ none g. column_fits t (Rows rows) body rest column all e))
 
-new_in : (s : StateTree) (m : MessageModel) (table : Table) (left : ℕ) (id : ℤ) (v : ValueTypeModel) → HasArrays s.known → IfOk (new_values_in true s m table left id v) (IsNew s id)
+new_in : (s : StateTree) (m : MessageModel) (table : FlatbufferTable) (left : ℕ) (id : ℤ) (v : ValueTypeModel) → HasArrays s.known → IfOk (new_values_in true s m table left id v) (IsNew s id)
 new_in s m table left id v all =
     let there : Bool = is_some (known_at s.known id) in
     after (IsNew s id) (data_in true there m.metadata table) _
@@ -260,7 +260,7 @@ found_later : (s : StateTree) (id : ℤ) (found : Option (Bool × Layout)) → I
 found_later s id None new all = later_self s all
 found_later s id (Some x) new all = values_later x.0 s id x.1 new.apart (new.fits all) all
 
-found_new : (s : StateTree) (m : MessageModel) (table : Table) (left : ℕ) (id : ℤ) (o : Option ValueTypeModel) → HasArrays s.known → IfOk (found_values true s m table left id o) (λ found. IfSome found (IsNew s id))
+found_new : (s : StateTree) (m : MessageModel) (table : FlatbufferTable) (left : ℕ) (id : ℤ) (o : Option ValueTypeModel) → HasArrays s.known → IfOk (found_values true s m table left id o) (λ found. IfSome found (IsNew s id))
 found_new s m table left id None all = tt
 found_new s m table left id (Some v) all =
     after (λ (found : Option (Bool × Layout)). IfSome found (IsNew s id)) (new_values_in true s m table left id v) _

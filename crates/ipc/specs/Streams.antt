@@ -21,7 +21,7 @@ use Rattle.ipc_flatbuf.specs.declared.error.IpcReadError.TheVariants.{HeaderType
 use Rattle.ipc_flatbuf.specs.declared.projection.FieldAction.{FieldAction}
 use Rattle.ipc_flatbuf.specs.declared.projection.FieldAction.TheVariants.{Read, Skip}
 use Rattle.ipc_flatbuf.specs.Flatbuffers.{number_at, signed_at, field, spec_offset_field, spec_read_table}
-use Rattle.ipc_flatbuf.specs.declared.tables.Table.{Table}
+use Rattle.ipc_flatbuf.specs.declared.tables.FlatbufferTable.{FlatbufferTable}
 use Rattle.ipc_flatbuf.specs.Messages.{MessageModel, message_at}
 use Rattle.ipc_flatbuf.specs.declared.message.types.MessageKind.{MessageKind}
 use Rattle.ipc_flatbuf.specs.declared.message.types.MessageKind.TheVariants.{Schema, DictionaryBatch, RecordBatch}
@@ -179,7 +179,7 @@ abbrev pub column_in_batch : StateTree → MessageModel → ℕ → ℕ → Valu
 column_in_batch s m position left v = batch_at m.metadata position left m.root.body_length >>= λ batch. only_column_in batch.compression v.values batch.rows m.body (rest_at s.known (spec_outermost_ids s.picked.seen.named v.inside) batch)
 
 -- the position of the record batch in a dictionary batch, and whether it is a delta
-unfoldable pub data_in : Bool → Bool → List ℕ → Table → Result (ℕ × Bool) IpcReadError
+unfoldable pub data_in : Bool → Bool → List ℕ → FlatbufferTable → Result (ℕ × Bool) IpcReadError
 data_in once there metadata table = do
   to ← spec_offset_field metadata table 1
   position ← spec_data_position to
@@ -188,15 +188,15 @@ data_in once there metadata table = do
   Ok (position, nat_lt 0 delta)
 
 -- the values of a dictionary batch, and whether they are a delta
-abbrev pub new_values_in : Bool → StateTree → MessageModel → Table → ℕ → ℤ → ValueTypeModel → Result (Bool × Layout) IpcReadError
+abbrev pub new_values_in : Bool → StateTree → MessageModel → FlatbufferTable → ℕ → ℤ → ValueTypeModel → Result (Bool × Layout) IpcReadError
 new_values_in once s m table left id v = data_in once (is_some (known_at s.known id)) m.metadata table >>= λ at. column_in_batch s m at.0 left v >>= λ values. Ok (at.1, values)
 
 -- the dictionary of a skipped column is skipped
-abbrev pub found_values : Bool → StateTree → MessageModel → Table → ℕ → ℤ → Option ValueTypeModel → Result (Option (Bool × Layout)) IpcReadError
+abbrev pub found_values : Bool → StateTree → MessageModel → FlatbufferTable → ℕ → ℤ → Option ValueTypeModel → Result (Option (Bool × Layout)) IpcReadError
 found_values once s m table left id None = Ok None
 found_values once s m table left id (Some v) = new_values_in once s m table left id v >>= λ new. Ok (Some new)
 
-abbrev pub found_in : Bool → StateTree → MessageModel → Table → ℕ → ℤ → Result (Option (Bool × Layout)) IpcReadError
+abbrev pub found_in : Bool → StateTree → MessageModel → FlatbufferTable → ℕ → ℤ → Result (Option (Bool × Layout)) IpcReadError
 found_in once s m table left id = named_in s.picked id >>= λ named. found_values once s m table left id named
 
 abbrev pub with_found : StateTree → ℤ → Option (Bool × Layout) → Result StateTree IpcReadError

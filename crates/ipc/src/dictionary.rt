@@ -18,8 +18,8 @@ use ipc_arrays::{BatchCursor, ExpectedLength, check_exhausted, read_column};
 use ipc_flatbuf::batch::read_batch;
 use ipc_flatbuf::message::Message;
 use ipc_flatbuf::{
-    CompressionCodec, FieldAction, IpcReadError, Table, i64_field, offset_field, read_table,
-    u8_field,
+    CompressionCodec, FieldAction, FlatbufferTable, IpcReadError, i64_field, offset_field,
+    read_table, u8_field,
 };
 use ipc_schema::{DictionaryValueType, ProjectedSchema, outermost_ids};
 use nest_array::any::AnyArray;
@@ -166,7 +166,7 @@ fn data_of(
     once: bool,
     there: bool,
     metadata: &[u8],
-    table: Table,
+    table: FlatbufferTable,
 ) -> Result<(usize, bool), IpcReadError>
     requires length { length metadata.now < 2 ^ 31 }
     requires at { table.at < 2 ^ 32 }
@@ -185,7 +185,7 @@ fn new_values(
     once: bool,
     state: &DictionaryState,
     message: Message<'_>,
-    table: Table,
+    table: FlatbufferTable,
     left: usize,
     id: i64,
     values: &DictionaryValueType,
@@ -227,7 +227,7 @@ fn found_values(
     once: bool,
     state: &DictionaryState,
     message: Message<'_>,
-    table: Table,
+    table: FlatbufferTable,
     left: usize,
     id: i64,
 ) -> Result<Option<(bool, AnyArray)>, IpcReadError>

@@ -4,7 +4,7 @@ use Rattle.std.specs.Prelude.{◌≡◌, ℕ, pos, true, false, List, [], ◌∷
 use Rattle.std.specs.Int.{w8, w64}
 use Rattle.ipc_flatbuf.specs.Flatbuffers.{number_at, signed_at, field, spec_offset_field, spec_offset_at, spec_back_from, spec_table_at, spec_field_position, spec_charge_budget, spec_read_table, spec_read_vector, structs_at, spec_items_at, vector_at}
 use Rattle.ipc_flatbuf.specs.PartBytes.{i64_bytes, u32_bytes, vector_bytes}
-use Rattle.ipc_flatbuf.specs.declared.tables.Table.{Table}
+use Rattle.ipc_flatbuf.specs.declared.tables.FlatbufferTable.{FlatbufferTable}
 use Rattle.ipc_flatbuf.specs.MessageBytes.{root_bytes, framed_bytes, message_bytes}
 use Rattle.ipc_flatbuf.specs.Messages.{MessageModel, root_at, spec_first_bytes, spec_after_continuation, spec_message_of_size, spec_sized_message, message_at}
 use Rattle.ipc_flatbuf.specs.declared.message.types.MessageKind.TheVariants.{DictionaryBatch, RecordBatch}
@@ -77,7 +77,7 @@ values_root = record { version = V5; kind = DictionaryBatch; header = 60; left =
 abbrev pub values_of : ℕ → MessageModel
 values_of flag = record { root = values_root; metadata = values_metadata flag; body = values_body }
 
-abbrev pub values_table : Table
+abbrev pub values_table : FlatbufferTable
 values_table = record { at = 60; vtable = 48; size = 10 }
 
 pub values_written : dictionary_message false (pos 515) values_tree 8 ≡ values_message 0

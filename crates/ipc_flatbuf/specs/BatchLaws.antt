@@ -21,7 +21,7 @@ use Rattle.ipc_flatbuf.specs.MessageBytes.{root_bytes, message_bytes, metadata_s
 use Rattle.ipc_flatbuf.specs.MessageLaws.{padded, padded_long, padding_long, framed_long, root_long, written_parts, message_round_trips, written_part}
 use Rattle.ipc_flatbuf.specs.declared.message.types.MessageKind.TheVariants.{RecordBatch}
 use Rattle.ipc_flatbuf.specs.declared.message.types.MetadataVersion.TheVariants.{V5}
-use Rattle.ipc_flatbuf.specs.declared.tables.Table.{Table}
+use Rattle.ipc_flatbuf.specs.declared.tables.FlatbufferTable.{FlatbufferTable}
 use Rattle.ipc_flatbuf.specs.declared.compression.codec.CompressionCodec.{CompressionCodec}
 use Rattle.ipc_flatbuf.specs.declared.compression.codec.CompressionCodec.TheVariants.{Lz4Frame, Zstd}
 use Rattle.ipc_flatbuf.specs.Compression.{codec_number, spec_codec_of, compression_at}
@@ -135,7 +135,7 @@ write_error_of_whole b why part whole le (inr (size, inr long)) = inr (size, inr
 -- ---- what precedes the vectors, at any position: the table, the rows, the compression, and where the vectors are
 
 record HeadRoundTrips (compression : Option CompressionCodec) (rows count : ℕ) (whole : List ℕ) (p left : ℕ) : Type 0 where
-  pub table : Table
+  pub table : FlatbufferTable
   pub to : Option ℕ
   pub after : ℕ
   pub visited : spec_read_table whole (p + 16) left ≡ Ok (table, left - 8)

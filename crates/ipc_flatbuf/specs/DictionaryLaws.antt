@@ -7,7 +7,7 @@ use Rattle.ipc_flatbuf.specs.Flatbuffers.{number_at, signed_at, spec_offset_at, 
 use Rattle.ipc_flatbuf.specs.PartBytes.{i64_bytes}
 use Rattle.ipc_flatbuf.specs.FlatbufferLaws.{From, number_in}
 use Rattle.ipc_flatbuf.specs.TemplateLaws.{From_at, i64_in, offset_in, table_in, visit_in, field_in}
-use Rattle.ipc_flatbuf.specs.declared.tables.Table.{Table}
+use Rattle.ipc_flatbuf.specs.declared.tables.FlatbufferTable.{FlatbufferTable}
 use Rattle.ipc_flatbuf.specs.Messages.{MessageModel, message_at}
 use Rattle.ipc_flatbuf.specs.MessageBytes.{root_bytes, message_bytes, metadata_size, framed_bytes, padding}
 use Rattle.ipc_flatbuf.specs.MessageLaws.{padded, padded_long, padding_long, framed_long, root_long, written_parts, message_round_trips, written_part}
@@ -72,7 +72,7 @@ behind_head delta id b whole p after h = From_at whole p (p + 32) 32 (dictionary
 -- the message is read as a dictionary batch with its body, whatever follows; each field of its table has the value that was written
 pub record DictionaryRoundTrips (delta : Bool) (id : ℤ) (b : BatchModel) (message body : List ℕ) : Type 0 where
   pub parts : MessageModel
-  pub table : Table
+  pub table : FlatbufferTable
   pub left : ℕ
   pub position : ℕ
   pub again : (rest : List ℕ) → message_at (message ++ (body ++ rest)) ≡ Ok (Some parts, rest)

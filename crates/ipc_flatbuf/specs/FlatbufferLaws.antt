@@ -4,7 +4,7 @@ use Rattle.std.specs.Int.{Width, w16, w32, byte_len, from_le_bytes}
 use Rattle.std.specs.Str.{is_utf8}
 use Rattle.std.proofs.lemmas.Bool.{le-ltb, lt-ltb, le-leb}
 use Rattle.std.proofs.lemmas.List.{take_at, drop_at, drop-drop, length-append, length-drop}
-use Rattle.ipc_flatbuf.specs.declared.tables.Table.{Table}
+use Rattle.ipc_flatbuf.specs.declared.tables.FlatbufferTable.{FlatbufferTable}
 use Rattle.ipc_flatbuf.specs.Flatbuffers.{number_at, spec_offset_at, spec_back_from, spec_table_at, spec_field_position, spec_charge_budget, spec_read_table, spec_read_vector, spec_read_string}
 
 -- the bytes from a position to the end
@@ -58,13 +58,13 @@ table_is whole vtable s size back small first four even within =
     let d : leb (vtable + size) (length whole) ≡ true = le-leb _ _ within in
     rw (back, a, b, v, first, c, even, d) refl
 
-pub visit_is : (whole : List ℕ) (position left : ℕ) (table : Table) → spec_table_at whole position ≡ Ok table → 8 ≤ left → spec_read_table whole position left ≡ Ok (table, left - 8)
+pub visit_is : (whole : List ℕ) (position left : ℕ) (table : FlatbufferTable) → spec_table_at whole position ≡ Ok table → 8 ≤ left → spec_read_table whole position left ≡ Ok (table, left - 8)
 unfolding spec_read_table spec_charge_budget
 visit_is whole position left table e le =
     let a : leb 8 left ≡ true = le-leb _ _ le in
     rw (e, a) refl
 
-pub field_is : (whole : List ℕ) (table : Table) (id n : ℕ) → number_at w16 whole (table.vtable + (2 * id + 4)) ≡ Ok n → 2 * id + 4 < table.size → 4 ≤ n → spec_field_position whole table id ≡ Ok (Some (table.at + n))
+pub field_is : (whole : List ℕ) (table : FlatbufferTable) (id n : ℕ) → number_at w16 whole (table.vtable + (2 * id + 4)) ≡ Ok n → 2 * id + 4 < table.size → 4 ≤ n → spec_field_position whole table id ≡ Ok (Some (table.at + n))
 unfolding spec_field_position
 field_is whole table id n e lt four =
     let a : ltb (2 * id + 4) table.size ≡ true = lt-ltb _ _ lt in
@@ -72,13 +72,13 @@ field_is whole table id n e lt four =
     let c : ltb n 4 ≡ false = le-ltb _ _ four in
     rw (a, e, b, c) refl
 
-pub field_is_zero : (whole : List ℕ) (table : Table) (id : ℕ) → number_at w16 whole (table.vtable + (2 * id + 4)) ≡ Ok 0 → 2 * id + 4 < table.size → spec_field_position whole table id ≡ Ok None
+pub field_is_zero : (whole : List ℕ) (table : FlatbufferTable) (id : ℕ) → number_at w16 whole (table.vtable + (2 * id + 4)) ≡ Ok 0 → 2 * id + 4 < table.size → spec_field_position whole table id ≡ Ok None
 unfolding spec_field_position
 field_is_zero whole table id e lt =
     let a : ltb (2 * id + 4) table.size ≡ true = lt-ltb _ _ lt in
     rw (a, e) refl
 
-pub field_is_past : (whole : List ℕ) (table : Table) (id : ℕ) → table.size ≤ 2 * id + 4 → spec_field_position whole table id ≡ Ok None
+pub field_is_past : (whole : List ℕ) (table : FlatbufferTable) (id : ℕ) → table.size ≤ 2 * id + 4 → spec_field_position whole table id ≡ Ok None
 unfolding spec_field_position
 field_is_past whole table id le =
     let a : ltb (2 * id + 4) table.size ≡ false = le-ltb _ _ le in

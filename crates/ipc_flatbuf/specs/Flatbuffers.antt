@@ -6,7 +6,7 @@ use Rattle.std.specs.Str.{is_utf8}
 use Rattle.ipc_flatbuf.specs.ReadResults.{◌>>=◌}
 use Rattle.ipc_flatbuf.specs.declared.error.IpcReadError.{IpcReadError}
 use Rattle.ipc_flatbuf.specs.declared.error.IpcReadError.TheVariants.{Flatbuffer, ApparentSize, MetadataUtf8}
-use Rattle.ipc_flatbuf.specs.declared.tables.Table.{Table}
+use Rattle.ipc_flatbuf.specs.declared.tables.FlatbufferTable.{FlatbufferTable}
 use Rattle.ipc_flatbuf.specs.declared.vectors.VectorItems.{VectorItems}
 
 -- the little-endian number of width w at a position
@@ -32,7 +32,7 @@ spec_back_from position n =
     else Ok (position + (2 ^ 32 - n))
 
 -- the table at a position, with its vtable
-unfoldable pub spec_table_at : List ℕ → ℕ → Result Table IpcReadError
+unfoldable pub spec_table_at : List ℕ → ℕ → Result FlatbufferTable IpcReadError
 spec_table_at bytes position = do
   back ← number_at w32 bytes position
   vtable ← spec_back_from position back
@@ -40,7 +40,7 @@ spec_table_at bytes position = do
   if nat_le 4 size && size % 2 == 0 && nat_le (vtable + size) (length bytes) then Ok (record { at = position; vtable = vtable; size = size }) else Err Flatbuffer
 
 -- the position of a field of a table, None where it is absent
-unfoldable pub spec_field_position : List ℕ → Table → ℕ → Result (Option ℕ) IpcReadError
+unfoldable pub spec_field_position : List ℕ → FlatbufferTable → ℕ → Result (Option ℕ) IpcReadError
 spec_field_position bytes table id =
     if nat_lt (2 * id + 4) table.size then (number_at w16 bytes (table.vtable + (2 * id + 4)) >>= λ n. if n == 0 then Ok None else (if nat_lt n 4 then Err Flatbuffer else Ok (Some (table.at + n)))) else Ok None
 
@@ -49,11 +49,11 @@ abbrev pub or_default : {A : Type 0} → A → (ℕ → Result A IpcReadError) �
 or_default default read None = Ok default
 or_default default read (Some position) = read position
 
-abbrev pub field : {A : Type 0} → (ℕ → Result A IpcReadError) → A → List ℕ → Table → ℕ → Result A IpcReadError
+abbrev pub field : {A : Type 0} → (ℕ → Result A IpcReadError) → A → List ℕ → FlatbufferTable → ℕ → Result A IpcReadError
 field read default bytes table id = spec_field_position bytes table id >>= or_default default read
 
 -- the target of the offset in a field
-abbrev pub spec_offset_field : List ℕ → Table → ℕ → Result (Option ℕ) IpcReadError
+abbrev pub spec_offset_field : List ℕ → FlatbufferTable → ℕ → Result (Option ℕ) IpcReadError
 spec_offset_field bytes table id = field (λ position. spec_offset_at bytes position >>= λ to. Ok (Some to)) None bytes table id
 
 -- the budget after a cost
@@ -61,7 +61,7 @@ unfoldable pub spec_charge_budget : ℕ → ℕ → Result ℕ IpcReadError
 spec_charge_budget left cost = if nat_le cost left then Ok (left - cost) else Err ApparentSize
 
 -- the table at a position, and the budget left
-unfoldable pub spec_read_table : List ℕ → ℕ → ℕ → Result (Table × ℕ) IpcReadError
+unfoldable pub spec_read_table : List ℕ → ℕ → ℕ → Result (FlatbufferTable × ℕ) IpcReadError
 spec_read_table bytes position left = do
   table ← spec_table_at bytes position
   rest ← spec_charge_budget left 8

@@ -7,7 +7,7 @@ use Rattle.std.specs.Str.{is_utf8}
 use Rattle.std.proofs.lemmas.Int.{ints, to_z-of_z}
 use Rattle.std.proofs.lemmas.List.{length-append, length-take}
 use Rattle.std.proofs.lemmas.Nat.{from_le_bytes-to_le_bytes_2, from_le_bytes-to_le_bytes_4, from_le_bytes-to_le_bytes_8}
-use Rattle.ipc_flatbuf.specs.declared.tables.Table.{Table}
+use Rattle.ipc_flatbuf.specs.declared.tables.FlatbufferTable.{FlatbufferTable}
 use Rattle.ipc_flatbuf.specs.PartBytes.{u32_bytes, zeros, string_bytes}
 use Rattle.ipc_flatbuf.specs.Flatbuffers.{number_at, signed_at, spec_offset_at, spec_field_position, spec_table_at, spec_read_table, spec_read_string}
 use Rattle.ipc_flatbuf.specs.FlatbufferLaws.{From, From-length, From_more, number_in, offset_is, table_is, visit_is, field_is, field_is_zero, string_is}
@@ -57,7 +57,7 @@ pub offset_in : (whole : List ℕ) (position : ℕ) (part : List ℕ) (k q n : �
 offset_in whole position part k q n h le e small same = offset_is whole q n (u32_in whole position part k q n h le e small same)
 
 -- the table of a layout that begins with its vtable
-abbrev pub table_in : ℕ → ℕ → ℕ → Table
+abbrev pub table_in : ℕ → ℕ → ℕ → FlatbufferTable
 table_in position s size = record { at = position + s; vtable = position; size = size }
 
 pub visit_in : (whole : List ℕ) (position : ℕ) (part : List ℕ) (s size left : ℕ) → From whole position part → s + 4 ≤ length part → size ≤ length part → 4 ≤ size → s < 2 ^ 31 → from_le_bytes w16 part ≡ size → eqb (size % 2) 0 ≡ true → from_le_bytes w32 (drop s part) ≡ s → 8 ≤ left

@@ -21,7 +21,8 @@ pub use error::{IpcReadError, IpcWriteError};
 pub use numbers::{i16_at, i32_at, i64_at, non_negative, offset_at, u8_at, u16_at, u32_at, u64_at};
 pub use projection::{FieldAction, SkippedField};
 pub use tables::{
-    Table, field_position, i16_field, i32_field, i64_field, offset_field, table_at, u8_field,
+    FlatbufferTable, field_position, i16_field, i32_field, i64_field, offset_field, table_at,
+    u8_field,
 };
 pub use vectors::{
     VectorItems, charge_budget, items_at, read_string, read_table, read_vector, str_at,

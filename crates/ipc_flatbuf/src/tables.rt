@@ -8,7 +8,7 @@ use crate::numbers::{i16_at, i32_at, i64_at, offset_at, u8_at, u16_at, u32_at};
 
 /// The position of a flatbuffer table, and the position and size in bytes of its vtable.
 #[derive(Clone, Copy, Debug, PartialEq, Eq)]
-pub struct Table {
+pub struct FlatbufferTable {
     pub at: usize,
     pub vtable: usize,
     pub size: usize,
@@ -36,7 +36,7 @@ fn back_from(position: usize, distance: u32) -> Result<usize, IpcReadError>
 /// # Errors
 /// [`IpcReadError::Flatbuffer`] where the vtable is not within the bytes, or its size is odd or less than 4.
 #[tactic(auto, unfolding(crate::specs::Flatbuffers::spec_table_at))]
-pub fn table_at(bytes: &[u8], position: usize) -> Result<Table, IpcReadError>
+pub fn table_at(bytes: &[u8], position: usize) -> Result<FlatbufferTable, IpcReadError>
     requires { length bytes.now < 2 ^ 32 }
     ensures value { result ≡ spec_table_at bytes.now position }
     ensures within { IfOk result (λ table. (table.at < 2 ^ 32) × (table.vtable < 2 ^ 32)) }
@@ -45,7 +45,7 @@ pub fn table_at(bytes: &[u8], position: usize) -> Result<Table, IpcReadError>
     let vtable = back_from(position, back)?;
     let size = u16_at(bytes, vtable)? as usize;
     if size >= 4 && size % 2 == 0 && vtable + size <= bytes.len() {
-        Ok(Table {
+        Ok(FlatbufferTable {
             at: position,
             vtable,
             size,
@@ -60,7 +60,11 @@ pub fn table_at(bytes: &[u8], position: usize) -> Result<Table, IpcReadError>
 /// # Errors
 /// [`IpcReadError::Flatbuffer`] where the vtable entry is not within the bytes, or is 1, 2 or 3.
 #[tactic(auto, unfolding(crate::specs::Flatbuffers::spec_field_position))]
-pub fn field_position(bytes: &[u8], table: Table, id: u8) -> Result<Option<usize>, IpcReadError>
+pub fn field_position(
+    bytes: &[u8],
+    table: FlatbufferTable,
+    id: u8,
+) -> Result<Option<usize>, IpcReadError>
     requires at { table.at < 2 ^ 32 }
     requires vtable { table.vtable < 2 ^ 32 }
     ensures { result ≡ spec_field_position bytes.now table id }
@@ -84,7 +88,7 @@ pub fn field_position(bytes: &[u8], table: Table, id: u8) -> Result<Option<usize
 ///
 /// # Errors
 /// [`IpcReadError::Flatbuffer`] where the entry or the value is invalid, as for all fields below.
-pub fn u8_field(bytes: &[u8], table: Table, id: u8) -> Result<u8, IpcReadError>
+pub fn u8_field(bytes: &[u8], table: FlatbufferTable, id: u8) -> Result<u8, IpcReadError>
     requires at { table.at < 2 ^ 32 }
     requires vtable { table.vtable < 2 ^ 32 }
     ensures { result ≡ field (number_at w8 bytes.now) 0 bytes.now table id }
@@ -96,7 +100,12 @@ pub fn u8_field(bytes: &[u8], table: Table, id: u8) -> Result<u8, IpcReadError>
 }
 
 /// Returns the `i16` in a field, `default` where the field is absent.
-pub fn i16_field(bytes: &[u8], table: Table, id: u8, default: i16) -> Result<i16, IpcReadError>
+pub fn i16_field(
+    bytes: &[u8],
+    table: FlatbufferTable,
+    id: u8,
+    default: i16,
+) -> Result<i16, IpcReadError>
     requires at { table.at < 2 ^ 32 }
     requires vtable { table.vtable < 2 ^ 32 }
     ensures { result ≡ field (signed_at w16 bytes.now) default bytes.now table id }
@@ -108,7 +117,12 @@ pub fn i16_field(bytes: &[u8], table: Table, id: u8, default: i16) -> Result<i16
 }
 
 /// Returns the `i32` in a field, `default` where the field is absent.
-pub fn i32_field(bytes: &[u8], table: Table, id: u8, default: i32) -> Result<i32, IpcReadError>
+pub fn i32_field(
+    bytes: &[u8],
+    table: FlatbufferTable,
+    id: u8,
+    default: i32,
+) -> Result<i32, IpcReadError>
     requires at { table.at < 2 ^ 32 }
     requires vtable { table.vtable < 2 ^ 32 }
     ensures { result ≡ field (signed_at w32 bytes.now) default bytes.now table id }
@@ -120,7 +134,12 @@ pub fn i32_field(bytes: &[u8], table: Table, id: u8, default: i32) -> Result<i32
 }
 
 /// Returns the `i64` in a field, `default` where the field is absent.
-pub fn i64_field(bytes: &[u8], table: Table, id: u8, default: i64) -> Result<i64, IpcReadError>
+pub fn i64_field(
+    bytes: &[u8],
+    table: FlatbufferTable,
+    id: u8,
+    default: i64,
+) -> Result<i64, IpcReadError>
     requires at { table.at < 2 ^ 32 }
     requires vtable { table.vtable < 2 ^ 32 }
     ensures { result ≡ field (signed_at w64 bytes.now) default bytes.now table id }
@@ -132,7 +151,11 @@ pub fn i64_field(bytes: &[u8], table: Table, id: u8, default: i64) -> Result<i64
 }
 
 /// Returns the position that the offset in a field refers to, `None` where the field is absent.
-pub fn offset_field(bytes: &[u8], table: Table, id: u8) -> Result<Option<usize>, IpcReadError>
+pub fn offset_field(
+    bytes: &[u8],
+    table: FlatbufferTable,
+    id: u8,
+) -> Result<Option<usize>, IpcReadError>
     requires length { length bytes.now < 2 ^ 32 }
     requires at { table.at < 2 ^ 32 }
     requires vtable { table.vtable < 2 ^ 32 }

@@ -6,7 +6,7 @@ ghost use Rattle.ipc_flatbuf.specs.Flatbuffers.{spec_charge_budget, spec_read_ta
 
 use crate::IpcReadError;
 use crate::numbers::u32_at;
-use crate::tables::{Table, table_at};
+use crate::tables::{FlatbufferTable, table_at};
 
 /// The position of the first item of a flatbuffer vector, and the number of items.
 #[derive(Clone, Copy, Debug, PartialEq, Eq)]
@@ -39,7 +39,7 @@ pub fn read_table(
     bytes: &[u8],
     position: usize,
     left: usize,
-) -> Result<(Table, usize), IpcReadError>
+) -> Result<(FlatbufferTable, usize), IpcReadError>
     requires { length bytes.now < 2 ^ 32 }
     ensures value { result ≡ spec_read_table bytes.now position left }
     ensures within { IfOk result (λ x. (x.0.at < 2 ^ 32) × (x.0.vtable < 2 ^ 32)) }

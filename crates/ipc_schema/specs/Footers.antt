@@ -7,7 +7,7 @@ use Rattle.ipc_flatbuf.specs.ReadResults.{◌>>=◌, check}
 use Rattle.ipc_flatbuf.specs.declared.error.IpcReadError.{IpcReadError}
 use Rattle.ipc_flatbuf.specs.declared.error.IpcReadError.TheVariants.{Version, Truncated, Magic, FooterLength, MissingSchema}
 use Rattle.ipc_flatbuf.specs.Flatbuffers.{spec_non_negative, signed_at, spec_offset_field, vector_at}
-use Rattle.ipc_flatbuf.specs.declared.tables.Table.{Table}
+use Rattle.ipc_flatbuf.specs.declared.tables.FlatbufferTable.{FlatbufferTable}
 use Rattle.ipc_schema.specs.Schemas.{SchemaModel, schema_of}
 use Rattle.ipc_schema.specs.declared.schema.Schema.{Schema}
 use Rattle.ipc_schema.specs.declared.footer.types.Block.{Block}
@@ -41,13 +41,13 @@ spec_schema_position None = Err MissingSchema
 spec_schema_position (Some position) = Ok position
 
 -- the blocks in a field of the table Footer
-unfoldable pub spec_blocks_in : List ℕ → Table → ℕ → ℕ → Result (List Block × ℕ) IpcReadError
+unfoldable pub spec_blocks_in : List ℕ → FlatbufferTable → ℕ → ℕ → Result (List Block × ℕ) IpcReadError
 spec_blocks_in bytes table id left = do
   to ← spec_offset_field bytes table id
   vector_at (spec_block_at bytes) 24 bytes to left
 
 -- the blocks of the dictionary batches and of the record batches
-unfoldable pub spec_block_lists_at : List ℕ → Table → ℕ → Result (List Block × List Block) IpcReadError
+unfoldable pub spec_block_lists_at : List ℕ → FlatbufferTable → ℕ → Result (List Block × List Block) IpcReadError
 spec_block_lists_at bytes table left = do
   dictionaries ← spec_blocks_in bytes table 2 left
   batches ← spec_blocks_in bytes table 3 dictionaries.1

@@ -5,8 +5,8 @@ ghost use Rattle.ipc_schema.specs.SkippedFields.{IsWithinBudget, spec_nothing_sk
 
 use crate::nested::mode_of;
 use ipc_flatbuf::{
-    IpcReadError, SkippedField, Table, VectorItems, i16_field, items_at, non_negative, offset_at,
-    offset_field, read_table, u8_field,
+    FlatbufferTable, IpcReadError, SkippedField, VectorItems, i16_field, items_at, non_negative,
+    offset_at, offset_field, read_table, u8_field,
 };
 use nest_memory::datatypes::UnionMode;
 
@@ -15,7 +15,7 @@ fn read_table_charged(
     bytes: &[u8],
     position: usize,
     left: usize,
-) -> Result<(Table, usize), IpcReadError>
+) -> Result<(FlatbufferTable, usize), IpcReadError>
     requires { length bytes.now < 2 ^ 32 }
     ensures value { result ≡ spec_read_table bytes.now position left }
     ensures within { IfOk result (λ x. (x.0.at < 2 ^ 32) × (x.0.vtable < 2 ^ 32)) }

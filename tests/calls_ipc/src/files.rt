@@ -10,9 +10,7 @@ use ipc::{SliceFileReader, read_file, read_stream, write_file};
 use ipc_flatbuf::IpcReadError;
 use ipc_flatbuf::message::{MessageKind, MetadataVersion, next_message, version_of};
 use ipc_schema::footer::{Block, block_bytes, read_footer, write_footer};
-use ipc_schema::{
-    Projection, check_version, read_schema, schema_at, schema_with_dictionaries_table,
-};
+use ipc_schema::{Projection, check_version, read_schema, schema_at, schema_with_dictionaries_table};
 use std::alloc::Global;
 
 #[test]

@@ -3,10 +3,11 @@
 //! Each word of flatbuffers once.
 use ipc_flatbuf::message::{MessageKind, read_root, write_message, write_root};
 use ipc_flatbuf::{
-    IpcReadError, IpcWriteError, Table, charge_budget, field_position, i16_at, i16_field, i32_at,
-    i32_field, i64_at, i64_field, items_at, non_negative, offset_at, offset_field, read_string,
-    read_table, read_vector, str_at, table_at, u8_at, u8_field, u16_at, u32_at, u64_at, write_each,
-    write_i32, write_i64, write_offset, write_string, write_tables, write_u32, write_zeros,
+    FlatbufferTable, IpcReadError, IpcWriteError, charge_budget, field_position, i16_at, i16_field,
+    i32_at, i32_field, i64_at, i64_field, items_at, non_negative, offset_at, offset_field,
+    read_string, read_table, read_vector, str_at, table_at, u8_at, u8_field, u16_at, u32_at, u64_at,
+    write_each, write_i32, write_i64, write_offset, write_string, write_tables, write_u32,
+    write_zeros,
 };
 use std::alloc::Global;
 
@@ -33,7 +34,7 @@ fn numbers(rt: HostRuntime) {
 
 #[test]
 fn tables(rt: HostRuntime) {
-    let table = Table {
+    let table = FlatbufferTable {
         at: 8,
         vtable: 0,
         size: 8,

@@ -12,8 +12,8 @@ use crate::footer::blocks::blocks_before;
 use crate::footer::types::{Block, ProjectedFooter};
 use crate::{ColumnSet, Projection, projected_schema_at};
 use ipc_flatbuf::{
-    IpcReadError, Table, VectorItems, i16_field, i32_at, i64_at, items_at, non_negative, offset_at,
-    offset_field, read_table,
+    FlatbufferTable, IpcReadError, VectorItems, i16_field, i32_at, i64_at, items_at, non_negative,
+    offset_at, offset_field, read_table,
 };
 use std::alloc::Global;
 
@@ -49,7 +49,7 @@ fn blocks_of(alloc: Global, bytes: &[u8], items: VectorItems) -> Result<Vec<Bloc
 fn blocks_in(
     alloc: Global,
     bytes: &[u8],
-    table: Table,
+    table: FlatbufferTable,
     id: u8,
     left: usize,
 ) -> Result<(Vec<Block>, usize), IpcReadError>
@@ -90,7 +90,7 @@ fn schema_position(to: Option<usize>) -> Result<usize, IpcReadError>
 fn block_lists_at(
     alloc: Global,
     bytes: &[u8],
-    table: Table,
+    table: FlatbufferTable,
     left: usize,
 ) -> Result<(Vec<Block>, Vec<Block>), IpcReadError>
     requires length { length bytes.now < 2 ^ 32 }

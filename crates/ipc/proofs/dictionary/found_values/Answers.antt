@@ -9,7 +9,7 @@ use Rattle.ipc_flatbuf.specs.Messages.{model_of}
 use Rattle.ipc_schema.specs.Dictionaries.{ValueTypeModel}
 use Rattle.ipc_flatbuf.specs.Messages.{MessageModel}
 use Rattle.ipc_schema.specs.DictionaryModels.{value_type_of}
-use Rattle.ipc_flatbuf.specs.declared.tables.Table.{Table}
+use Rattle.ipc_flatbuf.specs.declared.tables.FlatbufferTable.{FlatbufferTable}
 use Rattle.nest_model.specs.Layout.{Layout}
 use Rattle.ipc.specs.Streams.{StateTree, state_of, named_in, found_values, found_in}
 use Rattle.ipc.proofs.dictionary.found_values.Goals as goal
@@ -28,7 +28,7 @@ returns-in-Ok-None c =
     ap (λ (k : ℤ). named_in s.picked k >>= λ named. found_values c.args.once s (model_of c.args.message) c.args.table c.args.left c.args.id named) (sym same)
     ∙ ap (λ (r : Result (Option ValueTypeModel) IpcReadError). r >>= λ named. found_values c.args.once s (model_of c.args.message) c.args.table c.args.left c.args.id named) (rw c.in-Ok-None.field-0-is at c.in-Ok-None.ensures)
 
-found_at : (once : Bool) (s : StateTree) (m : MessageModel) (table : Table) (left : ℕ) (k id : ℤ) → k ≡ id → found_in once s m table left id ≡ found_in once s m table left k
+found_at : (once : Bool) (s : StateTree) (m : MessageModel) (table : FlatbufferTable) (left : ℕ) (k id : ℤ) → k ≡ id → found_in once s m table left id ≡ found_in once s m table left k
 found_at once s m table left k id e = ap (λ (x : ℤ). found_in once s m table left x) (sym e)
 
 pub returns-in-Err-new_values : goal.returns-in-Err-new_values

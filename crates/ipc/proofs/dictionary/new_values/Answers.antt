@@ -10,7 +10,7 @@ use Rattle.ipc_flatbuf.specs.Messages.{MessageModel, model_of}
 use Rattle.ipc_schema.specs.Dictionaries.{ValueTypeModel}
 use Rattle.ipc_schema.specs.DictionaryModels.{value_type_of}
 use Rattle.nest_model.specs.Layout.{Layout}
-use Rattle.ipc_flatbuf.specs.declared.tables.Table.{Table}
+use Rattle.ipc_flatbuf.specs.declared.tables.FlatbufferTable.{FlatbufferTable}
 use Rattle.ipc.specs.Streams.{StateTree, state_of, known_at, data_in, column_in_batch}
 use Rattle.ipc.proofs.dictionary.new_values.Goals as goal
 
@@ -18,7 +18,7 @@ abbrev with_data : StateTree → MessageModel → ℕ → ValueTypeModel → Res
 with_data s m left v read = read >>= λ at. column_in_batch s m at.0 left v >>= λ values. Ok (at.1, values)
 
 -- the values of the id are looked up
-looked : (once a b : Bool) (s : StateTree) (m : MessageModel) (table : Table) (left : ℕ) (v : ValueTypeModel) → a ≡ b → with_data s m left v (data_in once b m.metadata table) ≡ with_data s m left v (data_in once a m.metadata table)
+looked : (once a b : Bool) (s : StateTree) (m : MessageModel) (table : FlatbufferTable) (left : ℕ) (v : ValueTypeModel) → a ≡ b → with_data s m left v (data_in once b m.metadata table) ≡ with_data s m left v (data_in once a m.metadata table)
 looked once a b s m table left v e = ap (λ (x : Bool). with_data s m left v (data_in once x m.metadata table)) (sym e)
 
 pub returns-in_err-position : goal.returns-in_err-position

@@ -6,7 +6,7 @@ use Rattle.std.specs.Prelude.{ℤ}
 use Rattle.ipc_flatbuf.specs.ReadResults.{◌>>=◌, ReturnsOrRunsOut}
 use Rattle.ipc_flatbuf.specs.declared.error.IpcReadError.{IpcReadError}
 use Rattle.ipc_flatbuf.specs.Messages.{MessageModel, model_of}
-use Rattle.ipc_flatbuf.specs.declared.tables.Table.{Table}
+use Rattle.ipc_flatbuf.specs.declared.tables.FlatbufferTable.{FlatbufferTable}
 use Rattle.nest_array.specs.Seen.{layout_of}
 use Rattle.nest_model.specs.Layout.{Layout}
 use Rattle.ipc.specs.Streams.{StateTree, state_of, found_in, with_found, spec_with_values, dictionary_in}
@@ -15,7 +15,7 @@ use Rattle.ipc.proofs.dictionary.read_dictionary.Goals as goal
 abbrev then_found : StateTree → ℤ → Result (Option (Bool × Layout)) IpcReadError → Result StateTree IpcReadError
 then_found s id read = read >>= λ found. with_found s id found
 
-found_at : (once : Bool) (s : StateTree) (m : MessageModel) (table : Table) (left : ℕ) (k id : ℤ) → k ≡ id → then_found s id (found_in once s m table left id) ≡ then_found s k (found_in once s m table left k)
+found_at : (once : Bool) (s : StateTree) (m : MessageModel) (table : FlatbufferTable) (left : ℕ) (k id : ℤ) → k ≡ id → then_found s id (found_in once s m table left id) ≡ then_found s k (found_in once s m table left k)
 found_at once s m table left k id e = ap (λ (x : ℤ). then_found s x (found_in once s m table left x)) (sym e)
 
 pub returns-in-Err-clause-known : goal.returns-in-Err-clause-known
