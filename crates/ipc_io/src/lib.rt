@@ -3,7 +3,6 @@
 //! Readers and writers hold the dictionaries and one record batch at a time. `ipc` does the same in memory.
 #![tactic(auto)]
 
-mod cloning;
 mod error;
 mod fetching;
 mod file_reader;

@@ -9,13 +9,12 @@ ghost use Rattle.ipc.specs.Streams.{record_batch_of};
 ghost use Rattle.ipc.specs.EncodedStreams.{stream_dictionary_batches, schema_error, IsErrorOrMemory, BatchRoundTrips};
 ghost use Rattle.ipc_io.specs.Writers.{StartsWriting, FinishesWriting, SchemaRoundTrips, WritesBytes, WritesRecordBatch};
 
-use crate::cloning::clone_schema;
 use crate::error::WriteError;
 use crate::output::write_all;
 use ipc::dictionaries::record_emitted;
 use ipc::{Batch, encode_stream_batch};
 use ipc_flatbuf::IpcWriteError;
-use ipc_schema::{Schema, write_schema_with_dictionaries};
+use ipc_schema::{Schema, clone_schema, write_schema_with_dictionaries};
 use nest_array::any::AnyArray;
 use std::alloc::Global;
 use std::collections::BTreeMap;

@@ -4,6 +4,7 @@
 //! [`write_schema_with_dictionaries`] writes the schema message, [`footer`] reads and writes the footer of a file.
 #![tactic(auto)]
 
+mod cloning;
 mod columns;
 mod dictionaries;
 mod dictionary_ids;
@@ -25,6 +26,7 @@ mod types;
 mod unions;
 mod writing;
 
+pub use cloning::clone_schema;
 pub use columns::{ColumnSet, Projection};
 pub use dictionaries::{DictionaryTypes, DictionaryValueType};
 pub use dictionary_ids::outermost_ids;

@@ -103,8 +103,8 @@ pub fn take(metadata: &mut Metadata, key: &str) -> Option<String>
     metadata.remove(key)
 }
 
-// A copy of the metadata.
-fn copy_of(metadata: &Metadata) -> Result<Metadata, AllocError>
+/// Returns a copy of the metadata.
+pub fn copy_of(metadata: &Metadata) -> Result<Metadata, AllocError>
     ensures { IfOk result (λ m. entries_of m.entries ≡ entries_of metadata.now.entries) }
 {
     let copied = metadata.clone()?;

@@ -4,10 +4,11 @@ ghost use Rattle.nest_memory.specs.TypeOf.{entries_of, field_of};
 ghost use Rattle.ipc_flatbuf.specs.declared.error.IpcWriteError.TheVariants.{Memory};
 ghost use Rattle.ipc_schema.specs.Schemas.{schema_of};
 
+use crate::metadata::copy_of;
+use crate::schema::Schema;
 use ipc_flatbuf::IpcWriteError;
-use ipc_schema::Schema;
-use nest_memory::datatypes::{Field, Metadata};
-use std::alloc::{AllocError, Global};
+use nest_memory::datatypes::Field;
+use std::alloc::Global;
 
 fn clone_fields(alloc: Global, fields: &[Field]) -> Result<Vec<Field>, IpcWriteError>
     ensures same { IfOk result (λ copy. map field_of copy.items ≡ map field_of fields.now) }
@@ -23,13 +24,6 @@ fn clone_fields(alloc: Global, fields: &[Field]) -> Result<Vec<Field>, IpcWriteE
     Ok(copy)
 }
 
-fn clone_metadata(metadata: &Metadata) -> Result<Metadata, AllocError>
-    ensures { IfOk result (λ copy. entries_of copy.entries ≡ entries_of metadata.now.entries) }
-{
-    let copy = metadata.clone()?;
-    Ok(copy)
-}
-
 /// Returns a clone of a schema.
 ///
 /// # Errors
@@ -39,6 +33,6 @@ pub fn clone_schema(alloc: Global, schema: &Schema) -> Result<Schema, IpcWriteEr
     ensures err { IfErr result (λ error. error ≡ Memory) }
 {
     let fields = clone_fields(alloc, &schema.fields)?;
-    let metadata = clone_metadata(&schema.metadata)?;
+    let metadata = copy_of(&schema.metadata)?;
     Ok(Schema { fields, metadata })
 }
