@@ -1,6 +1,6 @@
 -- Writers of files over `Write`: a stream after the magic bytes, and the footer after its end-of-stream marker.
-use Rattle.std.specs.Prelude.{◌≡◌, ℕ, ◌+◌, ◌<◌, ◌^◌, nat_le, ℤ, pos, ⊤, List, [], ◌∷◌, ◌++◌, length, map, unsigned_abs, Option, Result, Ok, Err, refl}
-use Rattle.std.specs.Coded.{Coded, code_by, coded×, coded_list, coded_ℕ, coded_ℤ}
+use Rattle.std.specs.Prelude.{◌≡◌, ℕ, ◌+◌, ◌<◌, ◌^◌, nat_le, pos, ⊤, List, [], ◌∷◌, ◌++◌, length, map, unsigned_abs, Option, Result, Ok, Err, refl}
+use Rattle.std.specs.Coded.{Coded, code_by, coded×, coded_list, coded_ℕ}
 use Rattle.nest_memory.specs.TypeTree.{TypeTree}
 use Rattle.ipc_flatbuf.specs.declared.error.IpcWriteError as write_errors
 use Rattle.ipc_flatbuf.specs.MessageBytes.{end_of_stream}
@@ -14,6 +14,7 @@ use Rattle.ipc.specs.DictionaryEntries.{DictionaryEntries}
 use Rattle.ipc.specs.SliceStreamReaders.{coded_state}
 use Rattle.ipc.specs.Streams.{RecordBatchTree, StateTree, types_of}
 use Rattle.ipc.specs.EncodedStreams.{emitted_after, encoded_batch, or_error, error_of, size_error_if}
+use Rattle.ipc.specs.Files.{coded_block}
 use Rattle.ipc.specs.EncodedFiles.{Blocks, FileState, file_state, file_dictionary_batches, written_block, dictionary_blocks, batch_offset, file_batch_error, footer_error}
 use Rattle.ipc_io.specs.declared.error.WriteError as errors
 use Rattle.ipc_io.specs.declared.error.WriteError.TheVariants.{Ipc, Io, Failed}
@@ -25,9 +26,6 @@ pub record FileWriterTree (W : Type 0) : Type 0 where
   pub blocks : Blocks
   pub position : ℕ
   pub known : StateTree
-
-abbrev coded_block : Coded Block
-coded_block = code_by (ℤ × (ℤ × ℤ)) (coded× coded_ℤ (coded× coded_ℤ coded_ℤ)) (λ b. (b.offset, (b.metadata_length, b.body_length))) (λ p. record { offset = p.0; metadata_length = p.1.0; body_length = p.1.1 }) (λ _. refl)
 
 abbrev coded_blocks : Coded Blocks
 coded_blocks = code_by (List Block × List Block) (coded× (coded_list coded_block) (coded_list coded_block)) (λ b. (b.dictionaries, b.batches)) (λ p. record { dictionaries = p.0; batches = p.1 }) (λ _. refl)
