@@ -173,6 +173,9 @@ pub record VariableSizeHead : Type 0 where
   pub offsets : List ℕ
   pub validity : Validity
 
+abbrev pub variable_size_head : List ℕ → Validity → VariableSizeHead
+variable_size_head offsets validity = record { offsets = offsets; validity = validity }
+
 unfoldable pub decoded_variable_size_head : Bool → NodeCounts → List ℕ → Rest → Result (VariableSizeHead × Rest) IpcReadError
 decoded_variable_size_head large counts body rest = do
   head ← decoded_validity_buffer counts body rest
@@ -315,6 +318,9 @@ are_known_types ids fields types = list_all (λ z. is_field_below (field_named i
 pub record UnionParts : Type 0 where
   pub types : List ℤ
   pub offsets : Option (List ℤ)
+
+abbrev pub union_parts : List ℤ → Option (List ℤ) → UnionParts
+union_parts types offsets = record { types = types; offsets = offsets }
 
 unfoldable pub decoded_types : Option (List ℤ) → ℕ → ℕ → List ℕ → Result (List ℤ) IpcReadError
 decoded_types ids fields slots bytes = do

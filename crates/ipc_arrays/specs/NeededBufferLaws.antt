@@ -28,7 +28,7 @@ use Rattle.nest_model.specs.Meaning.{len}
 use Rattle.nest_model.specs.Part.{Validity}
 use Rattle.ipc_arrays.specs.DictionaryKeys.{key_format, key_primitive, zero_at_nulls}
 use Rattle.ipc_arrays.specs.FixedWidth.{ByteFormat, format_of, offset_format, only}
-use Rattle.ipc_arrays.specs.Decoding.{Rest, VariableSizeHead, UnionParts, binary_parts, buffer_slice, first_counts, first_buffer, first_values, decoded_bits, decoded_validity, decoded_values, decoded_bytes, decoded_offsets, decoded_data, checked_length, decoded_node, decoded_buffer, decoded_validity_buffer, decoded_boolean, decoded_primitive, decoded_fixed_size_binary, decoded_variable_size_head, decoded_binary_parts, decoded_binary, checked_utf8, decoded_utf8, decoded_keys_as, decoded_keys, dictionary_over, decoded_dictionary_values, decoded_dictionary, decoded_fixed_width, decoded_flat, are_type_ids, decoded_types, decoded_union_parts, union_child_length, are_union_offsets_valid, decoded_array, decoded_child, decoded_children, decoded_column, checked_exhausted}
+use Rattle.ipc_arrays.specs.Decoding.{Rest, variable_size_head, union_parts, binary_parts, buffer_slice, first_counts, first_buffer, first_values, decoded_bits, decoded_validity, decoded_values, decoded_bytes, decoded_offsets, decoded_data, checked_length, decoded_node, decoded_buffer, decoded_validity_buffer, decoded_boolean, decoded_primitive, decoded_fixed_size_binary, decoded_variable_size_head, decoded_binary_parts, decoded_binary, checked_utf8, decoded_utf8, decoded_keys_as, decoded_keys, dictionary_over, decoded_dictionary_values, decoded_dictionary, decoded_fixed_width, decoded_flat, are_type_ids, decoded_types, decoded_union_parts, union_child_length, are_union_offsets_valid, decoded_array, decoded_child, decoded_children, decoded_column, checked_exhausted}
 use Rattle.ipc_arrays.specs.Projection.{ProjectionState, skip_first, skipped_views, skipped_column, decoded_steps, decoded_projection}
 use Rattle.ipc_arrays.specs.BufferCounts.{spec_flat_buffer_count, spec_union_buffer_count, buffer_count, child_buffer_count, children_buffer_count, array_skipped}
 use Rattle.ipc_arrays.specs.NeededBuffers.{column_skipped, flags, spec_needed_buffers}
@@ -202,12 +202,9 @@ validity_uses : (counts : NodeCounts) → Uses 1 (decoded_validity_buffer counts
 unfolding decoded_validity_buffer
 validity_uses counts = with_part 1 decoded_buffer (λ bytes. decoded_validity counts bytes) (λ bytes validity. validity) buffer_uses
 
-abbrev head_of : List ℕ → Validity → VariableSizeHead
-head_of offsets validity = record { offsets = offsets; validity = validity }
-
 head_uses : (large : Bool) (counts : NodeCounts) → Uses 2 (decoded_variable_size_head large counts)
 unfolding decoded_variable_size_head
-head_uses large counts = then_buffer 1 (decoded_validity_buffer counts) (λ validity bytes. decoded_offsets large counts.slots bytes) (λ validity offsets. head_of offsets validity) (validity_uses counts)
+head_uses large counts = then_buffer 1 (decoded_validity_buffer counts) (λ validity bytes. decoded_offsets large counts.slots bytes) (λ validity offsets. variable_size_head offsets validity) (validity_uses counts)
 
 binary_parts_use : (large : Bool) (counts : NodeCounts) → Uses 3 (decoded_binary_parts large counts)
 unfolding decoded_binary_parts
@@ -263,9 +260,6 @@ flat_uses (physical.Dictionary k) t counts = dictionary_uses k t counts
 flat_uses p t counts = λ body other needed r s is. refl
 
 -- ---- nested arrays
-
-abbrev union_parts : List ℤ → Option (List ℤ) → UnionParts
-union_parts types offsets = record { types = types; offsets = offsets }
 
 union_parts_use : (mode : UnionMode) (ids : Option (List ℤ)) (fields : ℕ) (counts : NodeCounts) → Uses (spec_union_buffer_count mode) (decoded_union_parts mode ids fields counts)
 unfolding decoded_union_parts

@@ -10,7 +10,7 @@ ghost use Rattle.nest_model.specs.Fits.{ValidityFits};
 ghost use Rattle.nest_model.specs.Layout.{layout_type};
 ghost use Rattle.nest_model.specs.Part.{count_rows, begin};
 ghost use Rattle.nest_array.specs.Seen.{layout_of};
-ghost use Rattle.ipc_arrays.specs.Decoding.{rest_of, list_over};
+ghost use Rattle.ipc_arrays.specs.Decoding.{rest_of, variable_size_head, list_over};
 ghost use Rattle.ipc_arrays.specs.NestedDecoding.{list_decoding};
 ghost use Rattle.std.specs.Option.{option_map};
 ghost use Rattle.ipc_flatbuf.specs.declared.error.IpcWriteError.TheVariants.{Memory};
@@ -52,7 +52,7 @@ fn list_of_items<'a>(
     requires item { item_type (type_of data_type.now) ≡ Some (layout_type (layout_of items)) }
     requires valid { ValidityFits rows.validity (count_rows rows.offsets) }
     ensures { let t = type_of data_type.now in
-        ReturnsOrRunsOut (λ x. (x.0, rest_of x.1)) result (list_over false t (record { offsets = rows.offsets; validity = rows.validity }) (layout_of items, rest_of cursor.entry)) }
+        ReturnsOrRunsOut (λ x. (x.0, rest_of x.1)) result (list_over false t (variable_size_head rows.offsets rows.validity) (layout_of items, rest_of cursor.entry)) }
 {
     if rows.offsets.last() > items.len() {
         drop(items);
@@ -86,7 +86,7 @@ fn large_list_of_items<'a>(
     requires item { item_type (type_of data_type.now) ≡ Some (layout_type (layout_of items)) }
     requires valid { ValidityFits rows.validity (count_rows rows.offsets) }
     ensures { let t = type_of data_type.now in
-        ReturnsOrRunsOut (λ x. (x.0, rest_of x.1)) result (list_over true t (record { offsets = rows.offsets; validity = rows.validity }) (layout_of items, rest_of cursor.entry)) }
+        ReturnsOrRunsOut (λ x. (x.0, rest_of x.1)) result (list_over true t (variable_size_head rows.offsets rows.validity) (layout_of items, rest_of cursor.entry)) }
 {
     if rows.offsets.last() > items.len() {
         drop(items);

@@ -11,7 +11,7 @@ ghost use Rattle.nest_model.specs.Fits.{ValidityFits};
 ghost use Rattle.nest_model.specs.Layout.{layout_type};
 ghost use Rattle.nest_model.specs.Part.{count_rows};
 ghost use Rattle.nest_array.specs.Seen.{layout_of};
-ghost use Rattle.ipc_arrays.specs.Decoding.{rest_of, map_over};
+ghost use Rattle.ipc_arrays.specs.Decoding.{rest_of, variable_size_head, map_over};
 ghost use Rattle.ipc_arrays.specs.NestedDecoding.{map_decoding};
 
 use crate::cursor::{BatchCursor, ExpectedLength, NodeCounts};
@@ -35,7 +35,7 @@ fn map_of_entries<'a>(
     requires pairs { IsTrue (has_pairs (type_of data_type.now)) }
     requires item { item_type (type_of data_type.now) ≡ Some (layout_type (layout_of entries)) }
     requires valid { ValidityFits rows.validity (count_rows rows.offsets) }
-    ensures { ReturnsOrRunsOut (λ x. (x.0, rest_of x.1)) result (map_over (type_of data_type.now) (record { offsets = rows.offsets; validity = rows.validity }) (layout_of entries, rest_of cursor.entry)) }
+    ensures { ReturnsOrRunsOut (λ x. (x.0, rest_of x.1)) result (map_over (type_of data_type.now) (variable_size_head rows.offsets rows.validity) (layout_of entries, rest_of cursor.entry)) }
 {
     if rows.offsets.last() > entries.len() {
         drop(entries);

@@ -10,7 +10,7 @@ ghost use Rattle.nest_memory.specs.TypeOf.{type_of};
 ghost use Rattle.nest_model.specs.Fits.{Fits, ValidityFits, covered};
 ghost use Rattle.nest_model.specs.Layout as layouts;
 ghost use Rattle.nest_model.specs.Part.{count_rows};
-ghost use Rattle.ipc_arrays.specs.Decoding.{rest_of, checked_offsets, decoded_offsets, decoded_data, decoded_variable_size_head, decoded_binary_parts, decoded_binary};
+ghost use Rattle.ipc_arrays.specs.Decoding.{rest_of, checked_offsets, decoded_offsets, decoded_data, binary_parts, variable_size_head, decoded_variable_size_head, decoded_binary_parts, decoded_binary};
 ghost use Rattle.ipc_arrays.specs.BodyBuffers.{padded, body_of};
 ghost use Rattle.ipc_arrays.specs.FixedWidth.{offset_format};
 ghost use Rattle.ipc_arrays.specs.FixedWidthLaws.{ValueRoundTrips};
@@ -117,7 +117,7 @@ pub(crate) fn read_variable_size_head<'a, O: FixedWidthOffset>(
     body: &'a [u8],
     cursor: BatchCursor<'a>,
 ) -> Result<(VariableSizeHead<O>, BatchCursor<'a>), IpcReadError>
-    ensures read { ReturnsOrRunsOut (λ x. (record { offsets = x.0.offsets; validity = x.0.validity }, rest_of x.1)) result (decoded_variable_size_head O.IS_LARGE counts body.now (rest_of cursor.entry)) }
+    ensures read { ReturnsOrRunsOut (λ x. (variable_size_head x.0.offsets x.0.validity, rest_of x.1)) result (decoded_variable_size_head O.IS_LARGE counts body.now (rest_of cursor.entry)) }
     ensures slots { IfOk result (λ x. (count_rows x.0.offsets ≡ counts.slots) × (ValidityFits x.0.validity counts.slots)) }
 {
     let (validity, cursor) = read_validity_buffer(alloc, counts, body, cursor)?;
@@ -139,7 +139,7 @@ pub(crate) fn read_strings<'a, O: FixedWidthOffset>(
     cursor: BatchCursor<'a>,
 ) -> Result<BinaryParts<'a, O>, IpcReadError>
     ensures read { let decoded = decoded_binary_parts O.IS_LARGE counts body.now (rest_of cursor.entry) in
-        ReturnsOrRunsOut (λ x. (record { offsets = x.offsets; bytes = x.bytes; validity = x.validity }, rest_of x.cursor)) result decoded }
+        ReturnsOrRunsOut (λ x. (binary_parts x.offsets x.bytes x.validity, rest_of x.cursor)) result decoded }
     ensures slots { IfOk result (λ x. (count_rows x.offsets ≡ counts.slots) × (ValidityFits x.validity counts.slots)) }
     ensures within { IfOk result (λ x. last_of x.offsets ≤ length x.bytes) }
 {

@@ -8,7 +8,7 @@ ghost use Rattle.nest_memory.specs.TypeTree as types;
 ghost use Rattle.nest_memory.specs.TypeTree.{count_fields, ids_of, logical_type};
 ghost use Rattle.nest_model.specs.Checks.{most_fields, type_count};
 ghost use Rattle.nest_array.specs.Seen.{layouts_of};
-ghost use Rattle.ipc_arrays.specs.Decoding.{rest_of, is_index_below, are_type_ids, are_known_types, decoded_values, decoded_types, decoded_union_parts, union_child_length, union_of};
+ghost use Rattle.ipc_arrays.specs.Decoding.{rest_of, is_index_below, are_type_ids, are_known_types, decoded_values, decoded_types, union_parts, decoded_union_parts, union_child_length, union_of};
 ghost use Rattle.ipc_arrays.specs.NestedDecoding.{union_decoding};
 ghost use Rattle.ipc_arrays.specs.UnionTypeIds.{type_ids, MarksTypeIds, is_marked_type, PassesUnionChecks};
 ghost use Rattle.ipc_flatbuf.specs.declared.error.IpcWriteError.TheVariants.{Memory};
@@ -170,7 +170,7 @@ fn read_union_parts<'a>(
 ) -> Result<(UnionParts, BatchCursor<'a>), IpcReadError>
     requires { are_type_ids (type_ids ids.now) fields ≡ true }
     ensures { let decoded = decoded_union_parts mode (type_ids ids.now) fields counts body.now (rest_of cursor.entry) in
-        ReturnsOrRunsOut (λ x. (record { types = x.0.types; offsets = x.0.offsets }, rest_of x.1)) result decoded }
+        ReturnsOrRunsOut (λ x. (union_parts x.0.types x.0.offsets, rest_of x.1)) result decoded }
 {
     let (bytes, cursor) = next_buffer(body, cursor)?;
     let types = read_types(alloc, ids, fields, counts.slots, bytes)?;
@@ -208,7 +208,7 @@ fn union_of_children<'a>(
 ) -> Result<(UnionArray, BatchCursor<'a>), IpcReadError>
     requires { PassesUnionChecks (type_of data_type.now) parts.types (layouts_of children.items) parts.offsets }
     ensures { let t = type_of data_type.now in
-        ReturnsOrRunsOut (λ x. (x.0, rest_of x.1)) result (union_of t (record { types = parts.types; offsets = parts.offsets }) (layouts_of children.items, rest_of cursor.entry)) }
+        ReturnsOrRunsOut (λ x. (x.0, rest_of x.1)) result (union_of t (union_parts parts.types parts.offsets) (layouts_of children.items, rest_of cursor.entry)) }
 {
     match data_type.clone(alloc) {
         Err(_) => {
