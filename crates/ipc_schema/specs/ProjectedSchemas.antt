@@ -12,6 +12,7 @@ use Rattle.ipc_flatbuf.specs.declared.projection.FieldAction.{FieldAction}
 use Rattle.ipc_flatbuf.specs.declared.projection.FieldAction.TheVariants.{Read, Skip}
 use Rattle.ipc_flatbuf.specs.Flatbuffers as words
 use Rattle.ipc_flatbuf.specs.Flatbuffers.{signed_at, spec_offset_at, spec_offset_field, spec_read_table, spec_items_at}
+use Rattle.ipc_flatbuf.specs.declared.vectors.VectorItems.{VectorItems}
 use Rattle.ipc_flatbuf.specs.Messages.{MessageModel, message_at}
 use Rattle.ipc_flatbuf.specs.declared.message.types.MetadataVersion as versions
 use Rattle.nest_memory.specs.TypeOf.{field_of}
@@ -61,6 +62,10 @@ spec_projected_fields_at picks bytes i (suc n) position so_far = do
   first ← spec_item_at picks bytes i to so_far
   others ← spec_projected_fields_at picks bytes (i + 1) n (position + 4) first.1
   Ok (with_item first.0 others.0, others.1)
+
+-- the fields of a vector
+abbrev pub spec_projected_fields_of_items : ProjectionModel → List ℕ → VectorItems → Progress → Result (ProjectedFields × Progress) IpcReadError
+spec_projected_fields_of_items picks bytes vector so_far = spec_projected_fields_at picks bytes 0 vector.count vector.first so_far
 
 -- the fields of the first, then of the second
 abbrev pub appended : ProjectedFields → ProjectedFields → ProjectedFields

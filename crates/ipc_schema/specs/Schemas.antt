@@ -11,6 +11,7 @@ use Rattle.ipc_flatbuf.specs.declared.error.IpcReadError.{IpcReadError}
 use Rattle.ipc_flatbuf.specs.declared.error.IpcReadError.TheVariants.{MissingSchema, BodyLength, Endianness, Depth, ChildCount, UnsupportedType, Metadata}
 use Rattle.ipc_flatbuf.specs.Flatbuffers as words
 use Rattle.ipc_flatbuf.specs.Flatbuffers.{number_at, signed_at, spec_offset_field, spec_read_table, spec_str_at, spec_items_at, tables_at}
+use Rattle.ipc_flatbuf.specs.declared.vectors.VectorItems.{VectorItems}
 use Rattle.ipc_flatbuf.specs.Messages.{MessageModel, message_at}
 use Rattle.ipc_flatbuf.specs.declared.message.types.MessageKind.{MessageKind}
 use Rattle.ipc_flatbuf.specs.declared.message.types.MessageKind.TheVariants as kinds
@@ -92,6 +93,10 @@ spec_field_over read bytes position so_far = do
 unfoldable pub spec_field_at : ℕ → List ℕ → ℕ → Progress → Result (FieldTree × Progress) IpcReadError
 spec_field_at zero bytes position so_far = Err Depth
 spec_field_at (suc depth) bytes position so_far = spec_field_over (spec_field_at depth bytes) bytes position so_far
+
+-- the fields of a vector
+abbrev pub spec_fields_of_items : ℕ → List ℕ → VectorItems → Progress → Result (List FieldTree × Progress) IpcReadError
+spec_fields_of_items depth bytes items so_far = tables_in_turn (spec_field_at depth bytes) bytes items.count items.first so_far
 
 -- ---- schemas
 

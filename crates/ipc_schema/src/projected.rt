@@ -7,7 +7,7 @@ ghost use Rattle.ipc_flatbuf.specs.Messages.{optional_model_of};
 ghost use Rattle.ipc_schema.specs.DictionaryModels.{progress_of};
 ghost use Rattle.ipc_schema.specs.Schemas.{schema_of};
 ghost use Rattle.ipc_schema.specs.Projections.{projection_of, columns_of, IsColumnSet};
-ghost use Rattle.ipc_schema.specs.ProjectedSchemas.{spec_item_by, spec_item_at, spec_projected_fields_at, spec_has_union, spec_check_projected_version, spec_projected_schema_at, spec_projected_schema_in_message, stream_projected_schema_at, projected_schema_of, no_fields, with_item, appended, item_of, fields_model_of};
+ghost use Rattle.ipc_schema.specs.ProjectedSchemas.{spec_item_by, spec_item_at, spec_projected_fields_at, spec_projected_fields_of_items, spec_has_union, spec_check_projected_version, spec_projected_schema_at, spec_projected_schema_in_message, stream_projected_schema_at, projected_schema_of, no_fields, with_item, appended, item_of, fields_model_of};
 
 use crate::columns::{ColumnSet, Projection};
 use crate::dictionaries::DictionaryTypes;
@@ -110,8 +110,7 @@ fn projected_fields_at(
     requires made { IsColumnSet column_set.now }
     requires length { length bytes.now < 2 ^ 32 }
     requires within { items.first + items.count * 4 ≤ length bytes.now }
-    ensures { let fields = spec_projected_fields_at (columns_of column_set.now) bytes.now 0 items.count items.first (progress_of left seen.old) in
-        ReturnsOrRunsOut (λ x. (fields_model_of x.0, progress_of x.1 seen.new)) result fields }
+    ensures { ReturnsOrRunsOut (λ x. (fields_model_of x.0, progress_of x.1 seen.new)) result (spec_projected_fields_of_items (columns_of column_set.now) bytes.now items (progress_of left seen.old)) }
 {
     let mut parts = Parts {
         steps: Vec::new(alloc),

@@ -9,7 +9,7 @@ ghost use Rattle.ipc_schema.specs.DictionaryModels.{types_of, progress_of};
 ghost use Rattle.ipc_flatbuf.specs.Messages.{model_of, optional_model_of};
 ghost use Rattle.ipc_schema.specs.Types.{spec_can_have};
 ghost use Rattle.ipc_schema.specs.ShapeModels.{shape_tree, completed_type};
-ghost use Rattle.ipc_schema.specs.Schemas.{field_of_keys, spec_field_over, spec_field_at, spec_schema_at, schema_parts, stream_schema_at, schema_with_dictionaries_of};
+ghost use Rattle.ipc_schema.specs.Schemas.{field_of_keys, spec_field_over, spec_field_at, spec_fields_of_items, spec_schema_at, schema_parts, stream_schema_at, schema_with_dictionaries_of};
 
 use crate::dictionaries::{
     DictionaryTypes, Encoding, dictionary_at, dictionary_type_of, record_id, record_values,
@@ -99,8 +99,7 @@ fn field_with(
     keys: Keys,
     seen: &mut DictionaryTypes,
 ) -> Result<Field, IpcReadError>
-    ensures { let completed = completed_type shape.entry fields in
-        ReturnsOrRunsOut (λ x. (field_of x, types_of seen.new)) result (field_of_keys name.now is_nullable (entries_of metadata.entries) keys (types_of seen.old) completed) }
+    ensures { ReturnsOrRunsOut (λ x. (field_of x, types_of seen.new)) result (field_of_keys name.now is_nullable (entries_of metadata.entries) keys (types_of seen.old) (completed_type shape.entry fields)) }
 {
     let values = with_children(alloc, shape, fields)?;
     record_values(alloc, seen, keys.dictionary, &values, keys.before)?;
@@ -181,8 +180,7 @@ fn fields_at(
 ) -> Result<(Vec<Field>, usize), IpcReadError>
     requires length { length bytes.now < 2 ^ 32 }
     requires within { items.first + items.count * 4 ≤ length bytes.now }
-    ensures { let fields = tables_in_turn (spec_field_at depth bytes.now) bytes.now items.count items.first (progress_of left seen.old) in
-        ReturnsOrRunsOut (λ x. (map field_of x.0.items, progress_of x.1 seen.new)) result fields }
+    ensures { ReturnsOrRunsOut (λ x. (map field_of x.0.items, progress_of x.1 seen.new)) result (spec_fields_of_items depth bytes.now items (progress_of left seen.old)) }
 {
     let mut fields = Vec::new(alloc);
     let mut rest = left;
