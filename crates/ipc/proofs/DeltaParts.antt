@@ -20,6 +20,7 @@ use Rattle.ipc_flatbuf.specs.declared.error.IpcReadError.{IpcReadError}
 use Rattle.ipc_flatbuf.specs.declared.error.IpcReadError.TheVariants.{Delta}
 use Rattle.ipc.specs.UnionOffsets.{spec_union_offsets_overflow}
 use Rattle.ipc.specs.Streams.{StateTree, known_of, known_at, spec_contains_id, spec_joined_values, join_error_of, with_delta, spec_with_values}
+use Rattle.ipc.specs.DeltaLaws.{then_more}
 use Rattle.ipc.proofs.Entries.{viewed_found}
 
 -- ---- two arrays
@@ -105,9 +106,6 @@ shown_copied (Some a) = refl
 -- entries are the known dictionaries
 pub shown_known : (es : List (ℤ × AnyArray)) (id : ℤ) (r : Option (Bor AnyArray)) → option_copied r ≡ lookup (is_at (int_cmp id)) es → shown r ≡ known_at (known_of es) id
 shown_known es id r found = shown_copied r ∙ ap (λ (o : Option AnyArray). option_map layout_of o) found ∙ sym (viewed_found layout_of (is_at (int_cmp id)) es)
-
-abbrev then_more : StateTree → ℤ → Bool → Result Layout IpcReadError → Result StateTree IpcReadError
-then_more s id is_fresh read = check is_fresh Delta >>= λ appendable. read >>= λ values. Ok (with_delta s id values)
 
 opened : (s : StateTree) (id : ℤ) (more : Layout) (known : Option Layout) → spec_contains_id s.appendable id ≡ true → known ≡ known_at s.known id → spec_with_values true s id more ≡ then_more s id true (spec_joined_values known more)
 opened s id more known appendable is =

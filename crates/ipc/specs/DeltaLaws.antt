@@ -66,7 +66,7 @@ reads_more s t m h =
 
 -- ---- appended
 
-abbrev then_more : StateTree → ℤ → Bool → Result Layout IpcReadError → Result StateTree IpcReadError
+abbrev pub then_more : StateTree → ℤ → Bool → Result Layout IpcReadError → Result StateTree IpcReadError
 then_more s id is_fresh read = check is_fresh Delta >>= λ appendable. read >>= λ values. Ok (with_delta s id values)
 
 more_by : (s t : StateTree) (id : ℤ) (values : Layout) (is_fresh fits : Bool) → then_more s id is_fresh (check fits Delta >>= λ all. Ok values) ≡ Ok t → t ≡ with_delta s id values

@@ -1,5 +1,5 @@
 -- Arrays without child arrays over extended dictionaries: they decode to an array, and to the same one.
-use Rattle.std.proofs.Common.{◌≡◌, ℕ, ◌+◌, ◌*◌, ◌%◌, ◌<◌, ◌≤◌, Bool, true, false, eqb, leb, ltb, List, [], ◌∷◌, length, get_or, map, Result, Ok, Err, Option, Some, None, refl, sym, ap, subst, ◌∙◌, arith, length-append}
+use Rattle.std.proofs.Common.{◌≡◌, ℕ, ◌+◌, ◌*◌, ◌%◌, ◌<◌, ◌≤◌, Bool, true, false, eqb, leb, ltb, List, [], ◌∷◌, length, get_or, map, Result, Ok, Err, Option, Some, None, refl, sym, ap, subst, ◌∙◌, arith}
 use Rattle.std.specs.Prelude.{ℤ, pos, negsuc, ◌&&◌, ◌||◌, IsSome, not, count_by, IfOk, if◌then◌else◌}
 use Rattle.std.specs.Str.{is_utf8}
 use Rattle.std.specs.List.{list_all, range_with_len}
@@ -13,7 +13,6 @@ use Rattle.ipc_flatbuf.specs.declared.batch.parts.FieldNode.{FieldNode}
 use Rattle.ipc_flatbuf.specs.declared.batch.parts.BufferSpec.{BufferSpec}
 use Rattle.ipc_flatbuf.specs.declared.error.IpcReadError.{IpcReadError}
 use Rattle.ipc_flatbuf.specs.declared.error.IpcReadError.TheVariants.{TypeRange, BufferTooShort, NullCount, Offsets, OffsetPastChild, Utf8, MissingDictionary, KeyRange}
-use Rattle.nest_memory.specs.Bits.{bit, bits_from}
 use Rattle.nest_memory.specs.Sublist.{sublist}
 use Rattle.nest_memory.specs.Physical.{physical_type, primitive_tree, binary_of_width, utf8_of_width}
 use Rattle.nest_memory.specs.Rising.{are_offsets, numbers, last_of, to_nat}
@@ -29,17 +28,16 @@ use Rattle.nest_model.specs.Accessors.{validity_of, key_at, key_kind}
 use Rattle.nest_model.specs.Array.{AreOffsets, AreKeys, TopFits, ChildrenFit, IsArray}
 use Rattle.nest_model.specs.Fits.{ValidityFits, EachUtf8, EachValidNames, IsLogically}
 use Rattle.nest_model.specs.Layout.{Layout, null, boolean, primitive, binary, utf8, fixed_size_binary, dictionary, layout_type}
-use Rattle.nest_model.specs.Meaning.{len, slots_of}
+use Rattle.nest_model.specs.Meaning.{len}
 use Rattle.nest_model.specs.Part.{Validity, begin, extent, count_rows, valid_at}
-use Rattle.nest_model.specs.Reads.{slots-length}
 use Rattle.nest_model.specs.Runs.{product-exact}
 use Rattle.nest_model.specs.SameArray.{IsSameArray}
 use Rattle.nest_model.specs.SameArrayLaws.{same-refl}
 use Rattle.ipc_arrays.proofs.Nested.{names_so}
 use Rattle.ipc_arrays.specs.Decoding.{Rest, VariableSizeHead, BinaryParts, utf8_parts, first_counts, first_buffer, decoded_validity, decoded_bits, decoded_values, decoded_bytes, checked_offsets, decoded_offsets, decoded_data, checked_length, decoded_node, decoded_buffer, decoded_validity_buffer, decoded_boolean, decoded_primitive, decoded_fixed_size_binary, decoded_variable_size_head, decoded_binary_parts, decoded_binary, checked_utf8, decoded_utf8, is_key_in_range, is_index_below, decoded_keys_as, decoded_keys, are_keys_in_range, dictionary_over, first_values, decoded_dictionary_values, decoded_dictionary, decoded_fixed_width, decoded_flat, validity_if_nulls}
 use Rattle.ipc_arrays.specs.DictionaryKeys.{key_primitive, key_format, is_same_logical_type, zero_at_nulls}
-use Rattle.ipc_arrays.specs.DecodingLaws.{AreRead, after, checked, found, keys_are, keys_of_type}
-use Rattle.ipc_arrays.specs.ReplacedValues.{IsExtendedBy}
+use Rattle.ipc_arrays.specs.DecodingLaws.{AreRead, after, checked, found, bits_long, keys_are, keys_of_type}
+use Rattle.ipc_arrays.specs.ReplacedValues.{IsExtendedBy, grown_long}
 use Rattle.ipc_arrays.specs.Utf8Laws.{AreUtf8Parts, utf8_parts_fit}
 use Rattle.ipc_arrays.specs.FixedWidth.{ByteFormat, format_of, offset_format, only}
 use Rattle.ipc_arrays.specs.declared.cursor.NodeCounts.{NodeCounts}
@@ -125,19 +123,13 @@ no_more nulls slots bits long = by (eqb nulls 0)
     by true = tt
     by false = long
 
-bits_fit : (slots : ℕ) (bytes : List ℕ) → IfOk (decoded_bits slots bytes) (λ bits. length bits ≡ slots)
-unfolding decoded_bits bits_from
-bits_fit slots bytes =
-    checked (λ (bits : List Bool). length bits ≡ slots) (leb slots (8 * length bytes)) BufferTooShort (λ enough. Ok (map (bit bytes) (range_with_len 0 slots)))
-    (λ e. length-map (range_with_len 0 slots) (bit bytes) ∙ length-range_with_len 0 slots)
-
 validity_fits : (counts : NodeCounts) (bytes : List ℕ) → IfOk (decoded_validity counts bytes) (λ va. ValidityFits va counts.slots)
 unfolding decoded_validity
 validity_fits counts bytes =
     either (eqb (length bytes) 0 && eqb counts.nulls 0) _
     (after (λ (va : Validity). ValidityFits va counts.slots) (decoded_bits counts.slots bytes) _
     (λ bits e. checked (λ (va : Validity). ValidityFits va counts.slots) (eqb (count_by not bits) counts.nulls) NullCount _
-    (λ agreed. no_more counts.nulls counts.slots bits (found (λ (bits : List Bool). length bits ≡ counts.slots) _ _ e (bits_fit counts.slots bytes)))))
+    (λ agreed. no_more counts.nulls counts.slots bits (found (λ (bits : List Bool). length bits ≡ counts.slots) _ _ e (bits_long counts.slots bytes)))))
   where
     either : (b : Bool) (read : Result Validity IpcReadError) → IfOk read (λ va. ValidityFits va counts.slots) → IfOk (if b then Ok None else read) (λ va. ValidityFits va counts.slots)
     either true read h = tt
@@ -330,9 +322,6 @@ known_next r s h = by r.dictionaries s.dictionaries h.dictionaries (λ all. all)
     by (Some c ∷ xs) (None ∷ ys) g fits = absurd g.0
     by (Some c ∷ xs) (Some d ∷ ys) g fits =
         record { grown = g.0; fits = λ all. (fits all).0; on = record { arrays = λ all. (fits all).1; grown = record { nodes = h.nodes; buffers = h.buffers; dictionaries = g.1 } } }
-
-grown_long : (c d : Layout) → IsExtendedBy c d → len c ≤ len d
-grown_long c d h = omega (arith, slots-length c, slots-length d, ap length h.slots, length-append (slots_of c) h.more)
 
 logically_grown : (u : Option TypeTree) (c d : Layout) → IsExtendedBy c d → is_same_logical_type u (layout_type c) ≡ true → is_same_logical_type u (layout_type d) ≡ true
 logically_grown None c d h e = e

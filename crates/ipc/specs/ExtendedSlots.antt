@@ -1,5 +1,5 @@
 -- Arrays over the same child arrays are the same array, and so are dictionary arrays over extended values.
-use Rattle.std.proofs.Common.{◌≡◌, ℕ, zero, suc, ◌+◌, ◌-◌, ◌*◌, ◌/◌, ◌<◌, ◌≤◌, Bool, true, false, List, ◌++◌, length, get_or, Some, None, refl, sym, ap, subst, ◌∙◌, arith, length-append}
+use Rattle.std.proofs.Common.{◌≡◌, ℕ, zero, suc, ◌+◌, ◌-◌, ◌*◌, ◌/◌, ◌<◌, ◌≤◌, Bool, List, ◌++◌, length, get_or, Some, None, refl, sym, ap, subst, ◌∙◌, arith, length-append}
 use Rattle.std.specs.Prelude.{ℤ, pos, Option, if◌then◌else◌}
 use Rattle.std.proofs.lemmas.List.{get_or_append_left}
 use Rattle.nest_memory.specs.Rising.{last_of}
@@ -17,7 +17,7 @@ use Rattle.nest_model.specs.SameArrayLaws.{same-len, same-slot, same-from_places
 use Rattle.nest_model.specs.Slot as slots
 use Rattle.nest_model.specs.Slot.{Slot, seal}
 use Rattle.ipc_arrays.specs.RoundTripLaws.{of_same, place_named}
-use Rattle.ipc_arrays.specs.ReplacedValues.{IsExtendedBy}
+use Rattle.ipc_arrays.specs.ReplacedValues.{IsExtendedBy, where_valid}
 
 -- the same child arrays in order
 abbrev pub EachSame : Layouts → Layouts → Type 0
@@ -121,10 +121,6 @@ grown_slot c d p h lt =
     ∙ sym (get_or_append_left (slots_of c) h.more slots.null p inside)
     ∙ ap (λ (ss : List Slot). get_or ss p slots.null) (sym h.slots)
     ∙ slot-place d p slots.null further
-
-where_valid : (b : Bool) (x y : Slot) → (b ≡ true → x ≡ y) → (if b then x else slots.null) ≡ (if b then y else slots.null)
-where_valid true x y h = h refl
-where_valid false x y h = refl
 
 pub keyed_same : (t : TypeTree) (ks c d : Layout) → EachValidNames (validity_of ks) ks (len c) → IsExtendedBy c d → IsSameArray (dictionary t ks c) (dictionary t ks d)
 keyed_same t ks c d named h =

@@ -14,8 +14,6 @@ use Rattle.nest_memory.specs.TypeTree.{TypeTree, logical_type}
 use Rattle.nest_model.specs.Array.{IsArray}
 use Rattle.nest_model.specs.Layout.{Layout, layout_type}
 use Rattle.nest_model.specs.Meaning.{len, slot, run, slots_of}
-use Rattle.nest_model.specs.SameArray.{IsSameArray}
-use Rattle.nest_model.specs.SameArrayLaws.{same_array-decides}
 use Rattle.nest_model.specs.Slot.{Slot}
 use Rattle.nest_concat.specs.Laid.{joined_layout}
 use Rattle.nest_concat.proofs.LaidWholes.{two-joined, two-slots}
@@ -37,10 +35,10 @@ use Rattle.ipc.specs.RoundTripLaws.{covers_all, values_again}
 use Rattle.ipc.specs.DistinctIdLaws.{AreDistinct, needed_apart}
 use Rattle.ipc.specs.DictionaryEntries.{DictionaryEntries, own_entries, columns_own}
 use Rattle.ipc.specs.KnownDictionaries.{IsKnown, AreKnown, Covers, Follows, number_of, read_values, known_with}
-use Rattle.ipc.specs.KnownDictionaryLaws.{entry_put, entry_kept, IsOther, IsSent, AreSentInOrder, all_parts, columns_needed_of, columns_own_of, needed_sent}
+use Rattle.ipc.specs.KnownDictionaryLaws.{entry_put, entry_kept, known_by, IsOther, IsSent, AreSentInOrder, all_parts, columns_needed_of, columns_own_of, needed_sent}
 use Rattle.ipc.specs.SchemaIds.{IsNamed, AreNamed, seen_of_fields}
 use Rattle.ipc.specs.SchemaIdLaws.{are_named}
-use Rattle.ipc.specs.PendingDictionaries.{entry_at, with_entries, is_same}
+use Rattle.ipc.specs.PendingDictionaries.{entry_at, with_entries}
 use Rattle.ipc.specs.FileDictionaries.{DictionaryBatchTree, whole, spec_delta_values, spec_begins_with, batches_for, spec_dictionary_batches, spec_is_replaced, spec_any_replaced}
 use Rattle.ipc.specs.FileDictionaryLaws.{begun, begun_long, begun_type, behind_long, own_cut, named_behind}
 use Rattle.ipc.specs.DeltaLaws.{delta_joins, delta_type}
@@ -78,17 +76,9 @@ pub record Keeps (known emitted : DictionaryEntries) : Type 0 where
   pub just : HasJust known emitted
   pub arrays : HasArrays known
 
--- values equal to those emitted last are known
-same_known : (known : DictionaryEntries) (id : ℤ) (o : Option Layout) (c : Layout) → ((d : Layout) → o ≡ Some d → IsKnown known (id, d)) → is_same o c ≡ true → IsKnown known (id, c)
-same_known known id None c follows same = absurd (cc same)
-same_known known id (Some d) c follows same =
-    let x = follows d refl in
-    let alike : IsSameArray d c = (same_array-decides d c).0 same in
-    (x.0, x.1, record { logical = x.2.logical ∙ ap logical_type alike.0; slots = x.2.slots ∙ alike.1 })
-
 sent_known : (known emitted es : DictionaryEntries) → Follows known emitted → AllByRecursion (IsSent emitted) es → AllByRecursion (IsKnown known) es
 sent_known known emitted [] follows all = tt
-sent_known known emitted (e ∷ es) follows (same, all) = (same_known known e.0 (entry_at emitted e.0) e.1 (λ d at. follows e.0 d at) same, sent_known known emitted es follows all)
+sent_known known emitted (e ∷ es) follows (same, all) = (known_by known e.0 (entry_at emitted e.0) e.1 (λ d at. follows e.0 d at) same, sent_known known emitted es follows all)
 
 -- an id has these values, and the others are unchanged
 record IsPutAt (known more : DictionaryEntries) (id : ℤ) (d : Layout) : Type 0 where

@@ -317,7 +317,7 @@ needed_again emitted columns = none_columns (with_entries emitted (pending emitt
 -- ---- known dictionaries
 
 -- what holds of equal values holds of these
-known_by : (known : DictionaryEntries) (id : ℤ) (o : Option Layout) (c : Layout) → ((d : Layout) → o ≡ Some d → IsKnown known (id, d)) → is_same o c ≡ true → IsKnown known (id, c)
+pub known_by : (known : DictionaryEntries) (id : ℤ) (o : Option Layout) (c : Layout) → ((d : Layout) → o ≡ Some d → IsKnown known (id, d)) → is_same o c ≡ true → IsKnown known (id, c)
 known_by known id None c follows same = absurd (cc same)
 known_by known id (Some d) c follows same =
     let x = follows d refl in

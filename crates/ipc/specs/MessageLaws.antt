@@ -5,7 +5,7 @@ use Rattle.ipc_flatbuf.specs.ReadResults.{◌>>=◌}
 use Rattle.ipc_flatbuf.specs.declared.error.IpcReadError.{IpcReadError}
 use Rattle.ipc_flatbuf.specs.Messages.{MessageModel, message_at}
 use Rattle.ipc.specs.StreamsInFiles.{with_messages, messages_within, messages_in, with_batch, batches_by, with_left}
-use Rattle.ipc.specs.StreamLaws.{Goes, message_goes, by_message, one_by_one}
+use Rattle.ipc.specs.StreamLaws.{Batches, Goes, message_goes, by_message, one_by_one}
 use Rattle.ipc.specs.Streams.{RecordBatchTree, StateTree, Next, message_in, or_next, next_by, next_in, with_others, batches_in}
 
 -- bytes are these messages in order, up to the end
@@ -50,9 +50,6 @@ are_by zero bytes ms after lt e = absurd (omega arith)
 are_by (suc n) bytes ms after lt e = one_is n bytes ms after (message_at bytes) (are_by n) lt refl (message_goes bytes) e
 
 -- ---- a message, and those after it
-
-abbrev Batches : Type 0
-Batches = Result (List RecordBatchTree × List ℕ) IpcReadError
 
 -- the first record batch, and the others
 abbrev all_of : Next → Batches

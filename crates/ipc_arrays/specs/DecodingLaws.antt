@@ -69,7 +69,7 @@ natives_long format slots bytes =
     checked (λ values. length values ≡ slots) (leb (slots * format.size) (length bytes)) BufferTooShort (λ enough. Ok (decoded_natives format slots bytes))
     (λ e. values_long format slots bytes)
 
-bits_long : (slots : ℕ) (bytes : List ℕ) → IfOk (decoded_bits slots bytes) (λ bits. length bits ≡ slots)
+pub bits_long : (slots : ℕ) (bytes : List ℕ) → IfOk (decoded_bits slots bytes) (λ bits. length bits ≡ slots)
 unfolding decoded_bits bits_from
 bits_long slots bytes =
     checked (λ (bits : List Bool). length bits ≡ slots) (leb slots (8 * length bytes)) BufferTooShort (λ enough. Ok (map (bit bytes) (range_with_len 0 slots)))

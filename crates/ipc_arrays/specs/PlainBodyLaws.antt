@@ -10,12 +10,9 @@ use Rattle.ipc_flatbuf.specs.declared.batch.parts.BufferSpec.{BufferSpec}
 use Rattle.ipc_flatbuf.specs.declared.compression.codec.CompressionCodec.{CompressionCodec}
 use Rattle.ipc_arrays.specs.CompressedBuffers.{decompressed}
 use Rattle.ipc_arrays.specs.BodyBuffers.{padded, body_of, buffer_specs}
+use Rattle.ipc_arrays.specs.BodyBufferLaws.{body_more}
 use Rattle.ipc_arrays.specs.PlainBodies.{buffer_slice, buffer_spec, is_needed_at, needed_slice, decompressed_buffer, decompressed_buffers, spec_plain_body}
 use Rattle.ipc_arrays.specs.CompressedBodies.{AreDecodedTo, needed_contents, ReadsAsContents}
-
-pub body_more : (bytes : List ℕ) (buffers : List (List ℕ)) → body_of (bytes ∷ buffers) ≡ padded bytes ++ body_of buffers
-unfolding body_of
-body_more bytes buffers = flat_map-cons padded bytes buffers
 
 pub body_push : (buffers : List (List ℕ)) (bytes : List ℕ) → body_of (buffers ++ bytes ∷ []) ≡ body_of buffers ++ padded bytes
 unfolding body_of

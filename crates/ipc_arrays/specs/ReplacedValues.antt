@@ -70,7 +70,7 @@ pub record AreEncodedAlike (columns others : List Layout) : Type 0 where
 
 -- ---- one level
 
-grown_long : (c d : Layout) → IsExtendedBy c d → len c ≤ len d
+pub grown_long : (c d : Layout) → IsExtendedBy c d → len c ≤ len d
 grown_long c d h = omega (arith, slots-length c, slots-length d, ap length h.slots, length-append (slots_of c) h.more)
 
 type_alike : (a b : Layout) → IsSameUpToValues a b → layout_type b ≡ layout_type a
@@ -390,7 +390,7 @@ value_same c d p h lt =
     ∙ get_or_append_left (slots_of c) h.more slots.null p inside
     ∙ slot-place c p slots.null lt
 
-where_valid : (b : Bool) (x y : Slot) → (b ≡ true → x ≡ y) → (if b then x else slots.null) ≡ (if b then y else slots.null)
+pub where_valid : (b : Bool) (x y : Slot) → (b ≡ true → x ≡ y) → (if b then x else slots.null) ≡ (if b then y else slots.null)
 where_valid true x y h = h refl
 where_valid false x y h = refl
 

@@ -56,7 +56,7 @@ tables_round_trip {A} read head (body ∷ bodies) (x ∷ xs) cost whole p q d le
     let spent : left - first - others ≡ left - cost = omega arith in
     rw (o, r, rest, spent) refl
 
-zeros_long : (n : ℕ) → n ≤ 8 → length (zeros n) ≡ n
+pub zeros_long : (n : ℕ) → n ≤ 8 → length (zeros n) ≡ n
 zeros_long n le = omega (arith, length-take {A = ℕ} n (0 ∷ 0 ∷ 0 ∷ 0 ∷ 0 ∷ 0 ∷ 0 ∷ 0 ∷ []))
 
 -- the vector of tables at a position: its count, and the values of the tables

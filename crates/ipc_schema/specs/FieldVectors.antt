@@ -1,7 +1,7 @@
 -- Vectors of tables that are read in turn, with a state that each table changes.
 use Rattle.std.proofs.Common.{◌≡◌, ℕ, zero, suc, ◌+◌, ◌-◌, ◌*◌, ◌^◌, ◌<◌, ◌≤◌, List, [], ◌∷◌, ◌++◌, length, drop, Result, Ok, Err, refl, sym, ap, ◌∙◌, append_assoc, arith}
 use Rattle.std.specs.Int.{w32}
-use Rattle.std.proofs.lemmas.List.{append-nil, length-append, length-take}
+use Rattle.std.proofs.lemmas.List.{append-nil, length-append}
 use Rattle.std.proofs.lemmas.Nat.{from_le_bytes-to_le_bytes_4}
 use Rattle.ipc_flatbuf.specs.ReadResults.{◌>>=◌, FailsOrRunsOut}
 use Rattle.ipc_flatbuf.specs.declared.error.IpcReadError.{IpcReadError}
@@ -9,7 +9,7 @@ use Rattle.ipc_flatbuf.specs.Flatbuffers.{number_at, spec_offset_at, spec_read_v
 use Rattle.ipc_flatbuf.specs.PartBytes.{u32_bytes, zeros, offsets_size, offsets, concatenated, table_vector_bytes}
 use Rattle.ipc_flatbuf.specs.FlatbufferLaws.{From, From-length, From_next, number_is, offset_is, vector_is}
 use Rattle.ipc_flatbuf.specs.TemplateLaws.{From_at}
-use Rattle.ipc_flatbuf.specs.VectorLaws.{offsets_long, table_vector_long}
+use Rattle.ipc_flatbuf.specs.VectorLaws.{offsets_long, zeros_long, table_vector_long}
 
 -- the values of the tables that n offsets refer to, each read by read
 unfoldable pub tables_in_turn : {A S : Type 0} → (ℕ → S → Result (A × S) IpcReadError) → List ℕ → ℕ → ℕ → S → Result (List A × S) IpcReadError
@@ -111,9 +111,6 @@ rows_again read head (body ∷ bodies) (x ∷ xs) before after whole p q d a b a
     let there' : From whole (p + size) (concatenated bodies ++ b) = From_next whole p body (concatenated bodies ++ b) one in
     let rest : tables_in_turn (read whole) whole (length bodies) (q + 4) are.0 ≡ Ok (xs, after) = rows_again read head bodies xs are.0 after whole (p + size) (q + 4) (d + size - 4) a b are.2 here' there' (omega arith) small in
     rw (o, r, rest) refl
-
-zeros_long : (n : ℕ) → n ≤ 8 → length (zeros n) ≡ n
-zeros_long n le = omega (arith, length-take {A = ℕ} n (0 ∷ 0 ∷ 0 ∷ 0 ∷ 0 ∷ 0 ∷ 0 ∷ 0 ∷ []))
 
 -- the vector of tables at a position: its count, and the values of the tables
 pub table_vector_is_read : (head : ℕ) (bodies : List (List ℕ)) (whole : List ℕ) (p left : ℕ) (after : List ℕ) → From whole p (table_vector_bytes head bodies ++ after) → length whole < 2 ^ 32 → 4 + length bodies * 4 ≤ left

@@ -1,5 +1,5 @@
 use Rattle.ipc_schema.specs.FooterLaws.{BlockFits}
-use Rattle.ipc_schema.proofs.FooterLoops.{fits_done}
+use Rattle.ipc_flatbuf.proofs.Loops.{fits_done}
 use Rattle.ipc_schema.proofs.footer.writing.write_each.Goals as goal
 
 pub returns-clause-fits : goal.returns-clause-fits
