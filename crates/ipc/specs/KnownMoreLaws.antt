@@ -22,7 +22,7 @@ use Rattle.ipc_schema.specs.OutermostIds.{spec_outermost_ids}
 use Rattle.ipc_schema.specs.ProjectedSchemas.{ProjectedSchemaModel}
 use Rattle.ipc_flatbuf.specs.declared.batch.parts.BufferSpec.{BufferSpec}
 use Rattle.ipc_flatbuf.specs.Batches.{BatchModel, batch_at}
-use Rattle.ipc_arrays.specs.Decoding.{Rest, decoded_column, checked_exhausted}
+use Rattle.ipc_arrays.specs.Decoding.{Rest, with_buffers, decoded_column, checked_exhausted}
 use Rattle.ipc_arrays.specs.Projection.{decoded_projection}
 use Rattle.ipc_arrays.specs.NeededBuffers.{spec_needed_buffers}
 use Rattle.ipc_arrays.specs.DecodingLaws.{after, found, checked}
@@ -37,7 +37,7 @@ use Rattle.ipc.specs.ExtendedDictionaries.{IsExtended, AllExtended, HasExtendedD
 use Rattle.ipc.specs.ExtendedColumns.{read_too, read_weaker, AreReadAlike, column_fits, grown_self, picked_next}
 use Rattle.ipc.specs.ExtendedReads.{Anything, any_read, then_read, then_same}
 use Rattle.ipc.specs.UnionOffsets.{spec_union_offsets_overflow}
-use Rattle.ipc.specs.PlainBuffers.{plain_buffers, all_needed, with_buffers}
+use Rattle.ipc.specs.PlainBuffers.{plain_buffers, all_needed}
 use Rattle.ipc.specs.Streams.{Known, StateTree, RecordBatchTree, known_at, values_at, rest_at, types_of, spec_variadic_counts, columns_in, record_batch_in, named_in, spec_data_position, spec_check_order, spec_only_column, spec_with_values, column_in_batch, data_in, new_values_in, found_values, found_in, with_found, dictionary_in, spec_contains_id, with_delta, spec_joined_values}
 use Rattle.ipc.specs.EncodedStreams.{IsSameBatch}
 

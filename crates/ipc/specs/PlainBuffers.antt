@@ -7,7 +7,7 @@ use Rattle.ipc_flatbuf.specs.declared.compression.codec.CompressionCodec.{Compre
 use Rattle.ipc_flatbuf.specs.declared.compression.error.CompressionError.{CompressionError}
 use Rattle.ipc_flatbuf.specs.Compression.{read_error_of}
 use Rattle.ipc_arrays.specs.PlainBodies.{spec_plain_body}
-use Rattle.ipc_arrays.specs.Decoding.{Rest}
+use Rattle.ipc_arrays.specs.Decoding.{with_buffers}
 use Rattle.ipc_arrays.specs.Projection.{ProjectionState}
 
 -- a result of decompression as a result of reading
@@ -29,8 +29,5 @@ abbrev pub all_needed : List BufferSpec → List Bool
 all_needed buffers = map (λ buffer. true) buffers
 
 -- the same nodes and dictionaries with other buffers
-abbrev pub with_buffers : Rest → List BufferSpec → Rest
-with_buffers rest buffers = record { nodes = rest.nodes; buffers = buffers; dictionaries = rest.dictionaries }
-
 abbrev pub ahead_with_buffers : ProjectionState → List BufferSpec → ProjectionState
 ahead_with_buffers ahead buffers = record { rest = with_buffers ahead.rest buffers; more = ahead.more }

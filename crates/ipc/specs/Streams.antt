@@ -33,11 +33,11 @@ use Rattle.ipc_schema.specs.Schemas.{SchemaModel, schema_of}
 use Rattle.ipc_flatbuf.specs.declared.compression.codec.CompressionCodec.{CompressionCodec}
 use Rattle.ipc_flatbuf.specs.Batches.{BatchModel, batch_at}
 use Rattle.ipc_flatbuf.specs.VariadicBuffers.{variadic_buffer_counts_at}
-use Rattle.ipc_arrays.specs.Decoding.{Rest, decoded_column, checked_exhausted}
+use Rattle.ipc_arrays.specs.Decoding.{Rest, with_buffers, decoded_column, checked_exhausted}
 use Rattle.ipc_arrays.specs.Projection.{ProjectionState, decoded_projection}
 use Rattle.ipc_arrays.specs.NeededBuffers.{spec_needed_buffers}
 use Rattle.ipc_arrays.specs.declared.cursor.ExpectedLength.TheVariants.{Rows}
-use Rattle.ipc.specs.PlainBuffers.{plain_buffers, all_needed, with_buffers, ahead_with_buffers}
+use Rattle.ipc.specs.PlainBuffers.{plain_buffers, all_needed, ahead_with_buffers}
 use Rattle.ipc.specs.UnionOffsets.{spec_union_offsets_overflow}
 use Rattle.ipc.specs.declared.batch.Batch.{Batch}
 use Rattle.ipc.specs.declared.state.KnownDictionaries.{KnownDictionaries}

@@ -1,8 +1,8 @@
 //! Decompresses the buffers of record batches.
 ghost use Rattle.std.specs.Prelude.{◌≡◌, IfOk};
 ghost use Rattle.ipc_flatbuf.specs.ReadResults.{ReturnsOrRunsOut};
-ghost use Rattle.ipc_arrays.specs.Decoding.{rest_of};
-ghost use Rattle.ipc.specs.PlainBuffers.{decompressed_buffers, all_needed, with_buffers};
+ghost use Rattle.ipc_arrays.specs.Decoding.{rest_of, with_buffers};
+ghost use Rattle.ipc.specs.PlainBuffers.{decompressed_buffers, all_needed};
 
 use ipc_arrays::BatchCursor;
 use ipc_arrays::compression::plain_body;

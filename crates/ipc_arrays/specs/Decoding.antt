@@ -44,6 +44,10 @@ pub record Rest : Type 0 where
 abbrev pub rest_of : BatchCursor → Rest
 rest_of l = record { nodes = l.nodes.now; buffers = l.buffers.now; dictionaries = map dictionary_of l.dictionaries.now }
 
+-- the same nodes and dictionaries with other buffers
+abbrev pub with_buffers : Rest → List BufferSpec → Rest
+with_buffers rest buffers = record { nodes = rest.nodes; buffers = buffers; dictionaries = rest.dictionaries }
+
 -- the counts of a field node: neither is negative, and there are no more nulls than slots
 abbrev pub checked_counts : ℤ → ℤ → Result NodeCounts IpcReadError
 checked_counts (pos slots) (pos nulls) = if nat_le nulls slots then Ok (record { slots = slots; nulls = nulls }) else Err NodeRange

@@ -28,7 +28,7 @@ use Rattle.nest_model.specs.Meaning.{len}
 use Rattle.nest_model.specs.Part.{Validity}
 use Rattle.ipc_arrays.specs.DictionaryKeys.{key_format, key_primitive, zero_at_nulls}
 use Rattle.ipc_arrays.specs.FixedWidth.{ByteFormat, format_of, offset_format, only}
-use Rattle.ipc_arrays.specs.Decoding.{Rest, variable_size_head, union_parts, binary_parts, buffer_slice, first_counts, first_buffer, first_values, decoded_bits, decoded_validity, decoded_values, decoded_bytes, decoded_offsets, decoded_data, checked_length, decoded_node, decoded_buffer, decoded_validity_buffer, decoded_boolean, decoded_primitive, decoded_fixed_size_binary, decoded_variable_size_head, decoded_binary_parts, decoded_binary, checked_utf8, decoded_utf8, decoded_keys_as, decoded_keys, dictionary_over, decoded_dictionary_values, decoded_dictionary, decoded_fixed_width, decoded_flat, are_type_ids, decoded_types, decoded_union_parts, union_child_length, are_union_offsets_valid, decoded_array, decoded_child, decoded_children, decoded_column, checked_exhausted}
+use Rattle.ipc_arrays.specs.Decoding.{Rest, with_buffers, variable_size_head, union_parts, binary_parts, buffer_slice, first_counts, first_buffer, first_values, decoded_bits, decoded_validity, decoded_values, decoded_bytes, decoded_offsets, decoded_data, checked_length, decoded_node, decoded_buffer, decoded_validity_buffer, decoded_boolean, decoded_primitive, decoded_fixed_size_binary, decoded_variable_size_head, decoded_binary_parts, decoded_binary, checked_utf8, decoded_utf8, decoded_keys_as, decoded_keys, dictionary_over, decoded_dictionary_values, decoded_dictionary, decoded_fixed_width, decoded_flat, are_type_ids, decoded_types, decoded_union_parts, union_child_length, are_union_offsets_valid, decoded_array, decoded_child, decoded_children, decoded_column, checked_exhausted}
 use Rattle.ipc_arrays.specs.Projection.{ProjectionState, skip_first, skipped_views, skipped_column, decoded_steps, decoded_projection}
 use Rattle.ipc_arrays.specs.BufferCounts.{spec_flat_buffer_count, spec_union_buffer_count, buffer_count, child_buffer_count, children_buffer_count, array_skipped}
 use Rattle.ipc_arrays.specs.NeededBuffers.{column_skipped, flags, spec_needed_buffers}
@@ -161,9 +161,6 @@ unfolding decoded_dictionary_values
 values_use = λ body other needed r s is.
     subst (λ (dictionaries : List (Option Layout)). Agree body other 0 needed r.buffers (decoded_dictionary_values r) (first_values dictionaries >>= λ values. Ok (values.0, with_dictionaries s values.1))) is.dictionaries
     (values_agree body other needed r s (first_values r.dictionaries) is)
-
-abbrev with_buffers : Rest → List BufferSpec → Rest
-with_buffers rest buffers = record { nodes = rest.nodes; buffers = buffers; dictionaries = rest.dictionaries }
 
 abbrev pair_with : List BufferSpec → List ℕ → Result (List ℕ × List BufferSpec) IpcReadError
 pair_with bs bytes = Ok (bytes, bs)
