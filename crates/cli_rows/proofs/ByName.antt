@@ -5,7 +5,7 @@ use Rattle.std.proofs.lemmas.List.{drop_all, drop_more}
 use Rattle.nest_memory.specs.TypeOf.{field_of}
 use Rattle.nest_memory.specs.TypeTree.{FieldTree}
 use Rattle.nest_memory.specs.declared.datatypes.field.Field.{Field}
-use Rattle.cli_rows.specs.Booleans.{field_name}
+use Rattle.json_write.specs.JsonText.{field_name}
 use Rattle.cli_rows.specs.ColumnNames.{spec_column_index, spec_field_at, spec_field_named}
 
 abbrev pub named_from : List ℕ → List Field → ℕ → Option FieldTree

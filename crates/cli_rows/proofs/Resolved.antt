@@ -7,9 +7,10 @@ use Rattle.nest_memory.specs.TypeTree.{FieldTree, TypeTree, field_type, more_fie
 use Rattle.nest_model.specs.Meaning.{slots_of}
 use Rattle.nest_model.specs.Slot as slots
 use Rattle.nest_model.specs.Slot.{Slot, Slots, more_slots, no_slots}
+use Rattle.json_write.specs.JsonText.{field_name}
 use Rattle.ipc.specs.Streams.{RecordBatchTree}
 use Rattle.cli_args.specs.Requests.{SelectionTree, all, indexed, indices, named, slice, where_true}
-use Rattle.cli_rows.specs.Booleans.{field_name, is_field_true, is_field_true_at, is_record, is_true_in, spec_is_boolean, spec_is_true}
+use Rattle.cli_rows.specs.Booleans.{is_field_true, is_field_true_at, is_record, is_true_in, spec_is_boolean, spec_is_true}
 use Rattle.cli_rows.specs.ColumnNames.{column_by_index, resolved_selection, spec_boolean_error, spec_column_index, spec_field_at, spec_field_named, spec_selection_error}
 use Rattle.cli_rows.specs.Records.{record_type, records}
 use Rattle.cli_rows.specs.Rows.{Row, rows_of}

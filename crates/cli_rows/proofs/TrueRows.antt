@@ -26,10 +26,11 @@ use Rattle.nest_model.specs.Slot.{Slot}
 use Rattle.nest_array.specs.Seen.{layout_of, layouts_of}
 use Rattle.nest_array.specs.WindowParts.{WindowParts, window_parts}
 use Rattle.nest_array.specs.declared.any.AnyArray.{AnyArray}
+use Rattle.json_write.specs.JsonText.{field_name}
 use Rattle.cli_args.specs.Requests.{ColumnTree, indexed, named}
 use Rattle.cli_rows.specs.Rows.{Row, rows_in, rows_of}
 use Rattle.cli_rows.specs.RowLaws.{rows-length}
-use Rattle.cli_rows.specs.Booleans.{IsBooleanColumn, column_at, column_layout, column_named, field_name, spec_is_boolean, is_boolean_kind, is_column_true, is_field_true, is_field_true_at, is_record, is_record_kind, is_valid, spec_is_true, is_true_in}
+use Rattle.cli_rows.specs.Booleans.{IsBooleanColumn, column_at, column_layout, column_named, spec_is_boolean, is_boolean_kind, is_column_true, is_field_true, is_field_true_at, is_record, is_record_kind, is_valid, spec_is_true, is_true_in}
 
 abbrev column_truth : ℕ → Option Layout → Bool
 column_truth i None = false

@@ -3,16 +3,14 @@ use Rattle.std.specs.Prelude.{◌≡◌, ℕ, zero, suc, Bool, true, false, ◌&
 use Rattle.nest_memory.specs.Physical.{physical_type}
 use Rattle.nest_memory.specs.declared.datatypes.physical_type.PhysicalType.{PhysicalType}
 use Rattle.nest_memory.specs.declared.datatypes.physical_type.PhysicalType.TheVariants as physical
-use Rattle.nest_memory.specs.TypeTree.{FieldTree, FieldTrees, TypeTree, field, field_type, fields_of, no_fields, more_fields}
+use Rattle.nest_memory.specs.TypeTree.{FieldTrees, TypeTree, field_type, fields_of, no_fields, more_fields}
 use Rattle.nest_model.specs.Layout.{Layout, Layouts, layout_type, no_layouts, more_layouts}
 use Rattle.nest_model.specs.Meaning.{len, slot}
 use Rattle.nest_model.specs.Slot as slots
 use Rattle.nest_model.specs.Slot.{Slot, Slots, no_slots, more_slots}
+use Rattle.json_write.specs.JsonText.{field_name}
 use Rattle.cli_args.specs.Requests.{ColumnTree, indexed, named}
 use Rattle.cli_rows.specs.Rows.{Row}
-
-abbrev pub field_name : FieldTree → List ℕ
-field_name (field n t nullable es) = n
 
 -- the boolean value of a slot
 abbrev pub is_boolean_kind : PhysicalType → Bool

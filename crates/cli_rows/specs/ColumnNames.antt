@@ -1,8 +1,9 @@
 -- Columns by name and by index.
 use Rattle.std.specs.Prelude.{ℕ, zero, suc, List, [], ◌∷◌, bytes_eq, Option, Some, None, option_map, if◌then◌else◌}
 use Rattle.nest_memory.specs.TypeTree.{FieldTree, field_type}
+use Rattle.json_write.specs.JsonText.{field_name}
 use Rattle.cli_args.specs.Requests.{ColumnTree, SelectionTree, RequestTree, all, indexed, indices, named, columns, slice, rows, where_true}
-use Rattle.cli_rows.specs.Booleans.{field_name, spec_is_boolean}
+use Rattle.cli_rows.specs.Booleans.{spec_is_boolean}
 use Rattle.cli_rows.specs.declared.error.CliError.{CliError}
 use Rattle.cli_rows.specs.declared.error.CliError.TheVariants.{UnknownColumn, NotBoolean}
 

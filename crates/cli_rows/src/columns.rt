@@ -2,7 +2,7 @@
 ghost use Rattle.std.specs.Prelude.{◌≡◌, map, option_map, string_bytes};
 ghost use Rattle.nest_memory.specs.TypeOf.{field_of, type_of};
 ghost use Rattle.cli_args.specs.RequestTrees.{column_tree, request_tree, selection_tree};
-ghost use Rattle.cli_rows.specs.Booleans.{spec_is_boolean as spec_is_boolean};
+ghost use Rattle.cli_rows.specs.Booleans.{spec_is_boolean};
 ghost use Rattle.cli_rows.specs.ColumnNames.{field_of_column, resolved_column, resolved_request, resolved_selection, spec_boolean_error, spec_column_index, spec_field_at, spec_field_named, spec_selection_error};
 
 use crate::error::CliError;

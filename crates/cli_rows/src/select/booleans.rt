@@ -3,8 +3,9 @@ ghost use Rattle.std.specs.Prelude.{◌≡◌, ◌<◌, ◌&&◌, bytes_eq, opti
 ghost use Rattle.nest_memory.specs.TypeOf.{field_list_of, field_of};
 ghost use Rattle.nest_model.specs.Meaning.{len, slot};
 ghost use Rattle.nest_array.specs.Seen.{layout_of, layouts_of};
+ghost use Rattle.json_write.specs.JsonText.{field_name};
 ghost use Rattle.cli_args.specs.RequestTrees.{column_tree};
-ghost use Rattle.cli_rows.specs.Booleans.{IsBooleanColumn, column_at, column_layout, column_named, field_name, is_valid, spec_is_true};
+ghost use Rattle.cli_rows.specs.Booleans.{IsBooleanColumn, column_at, column_layout, column_named, is_valid, spec_is_true};
 
 use cli_args::Column;
 use nest_array::{AnyArray, StructArray};
