@@ -4,11 +4,12 @@ use Rattle.std.specs.Io.KnownBytes.{Appends, Keeps}
 use Rattle.std.proofs.KnownBytes.{Appends-kept, Appends-trans}
 use Rattle.ipc_schema.specs.Schemas.{SchemaModel}
 use Rattle.ipc.specs.Streams.{RecordBatchTree}
+use Rattle.ipc_io.specs.Writes.{WritesPrefix}
 use Rattle.cli_args.specs.Requests.{RequestTree, columns, rows}
 use Rattle.cli_rows.specs.RequestText.{spec_request_text}
 use Rattle.cli_rows.specs.ColumnNames.{request_error}
 use Rattle.cli_rows.specs.Tables.{TableTree, MatchesSchema, record_rows}
-use Rattle.cli_rows.specs.Output.{WritesPrefix, printed_text}
+use Rattle.cli_rows.specs.Output.{printed_text}
 use Rattle.cli_rows.specs.declared.error.CliError.{CliError}
 use Rattle.cli_rows.specs.declared.error.CliError.TheVariants.{Input, Read, Write, MismatchedColumns, IndexOutOfRange, UnknownColumn, NotBoolean, Output, Memory}
 use Rattle.cli_read.specs.RemainingRequests.{IsRequestInRowOrder, batch_table, is_complete_request, remaining_request, table_row_count}

@@ -2,9 +2,10 @@
 use Rattle.std.specs.Prelude.{◌≡◌, ◌⊎◌, ◌+◌, ℕ, ⊤, List, Option, Some, None, Result, Ok, Err}
 use Rattle.std.specs.Io.KnownBytes.{Appends, Keeps}
 use Rattle.ipc_flatbuf.specs.declared.error.IpcReadError as formats
+use Rattle.ipc_io.specs.Writes.{WritesPrefix}
 use Rattle.cli_args.specs.Requests.{RequestTree}
 use Rattle.cli_rows.specs.Tables.{TableTree}
-use Rattle.cli_rows.specs.Output.{HasTable, IsPrintError, WritesPrefix, printed_text}
+use Rattle.cli_rows.specs.Output.{HasTable, IsPrintError, printed_text}
 use Rattle.cli_rows.specs.declared.error.BatchError.{BatchError}
 use Rattle.cli_rows.specs.declared.error.CliError.{CliError}
 use Rattle.cli_rows.specs.declared.error.CliError.TheVariants.{Input, Output}

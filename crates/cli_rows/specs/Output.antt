@@ -1,8 +1,9 @@
 -- What is printed of an input, and what an output contains then.
-use Rattle.std.specs.Prelude.{◌≡◌, ◌++◌, ℕ, ⊤, List, Option, None, Result, Ok, Err}
-use Rattle.std.specs.Io.KnownBytes.{Appends, Keeps}
+use Rattle.std.specs.Prelude.{ℕ, ⊤, List, Option, None, Result, Ok, Err}
+use Rattle.std.specs.Io.KnownBytes.{Appends}
 use Rattle.ipc_flatbuf.specs.ReadResults.{FailsOrRunsOut}
 use Rattle.ipc_flatbuf.specs.declared.error.IpcReadError as formats
+use Rattle.ipc_io.specs.Writes.{WritesPrefix}
 use Rattle.cli_args.specs.Requests.{RequestTree}
 use Rattle.cli_rows.specs.RequestText.{spec_request_text}
 use Rattle.cli_rows.specs.RequestErrors.{IsRequestError}
@@ -30,19 +31,14 @@ IsPrintError NotBoolean q read = HasTable read (IsRequestError NotBoolean q)
 IsPrintError Memory q read = Unit {0}
 IsPrintError error q read = ⊥
 
--- a prefix of the bytes was written
-abbrev pub WritesPrefix : Option (List ℕ) → Option (List ℕ) → List ℕ → Type 0
-WritesPrefix old new bytes = (front : List ℕ) × (rest : List ℕ) × (bytes ≡ front ++ rest) × Appends old new front
-
 -- reading failed, or an allocation
 abbrev pub IsInputOrMemoryError : CliError → Type 0
 IsInputOrMemoryError Input = Unit {0}
 IsInputOrMemoryError Memory = Unit {0}
 IsInputOrMemoryError error = ⊥
 
--- all bytes were written; or the output failed after a prefix of them; or an allocation failed before any
-abbrev pub WritesAll : Result ⊤ CliError → Option (List ℕ) → Option (List ℕ) → List ℕ → Type 0
-WritesAll (Ok done) old new bytes = Appends old new bytes
-WritesAll (Err Output) old new bytes = WritesPrefix old new bytes
-WritesAll (Err Memory) old new bytes = Keeps old new
-WritesAll (Err error) old new bytes = ⊥
+-- all bytes were written, or the output failed after a prefix of them
+abbrev pub WritesOutput : Result ⊤ CliError → Option (List ℕ) → Option (List ℕ) → List ℕ → Type 0
+WritesOutput (Ok done) old new bytes = Appends old new bytes
+WritesOutput (Err Output) old new bytes = WritesPrefix old new bytes
+WritesOutput (Err error) old new bytes = ⊥

@@ -1,7 +1,7 @@
 //! All bytes of a reader, and bytes written to a writer.
 ghost use Rattle.std.specs.Prelude.{◌≡◌, IfErr, IfOk, IfSome, OnOk};
 ghost use Rattle.std.specs.Io.KnownBytes.{IsAtEnd};
-ghost use Rattle.cli_rows.specs.Output.{IsInputOrMemoryError, WritesAll};
+ghost use Rattle.cli_rows.specs.Output.{IsInputOrMemoryError, WritesOutput};
 
 use crate::error::CliError;
 use std::alloc::Global;
@@ -33,7 +33,7 @@ pub fn read_input<R: Read>(alloc: Global, reader: &mut R) -> Result<Vec<u8>, Cli
 /// # Errors
 /// `Output` if a write or the flush fails, or a write accepts no byte. A prefix of the bytes was written then.
 pub fn write_output<W: Write>(writer: &mut W, bytes: &[u8]) -> Result<(), CliError>
-    ensures { WritesAll result (W.contents writer.old) (W.contents writer.new) bytes.now }
+    ensures { WritesOutput result (W.contents writer.old) (W.contents writer.new) bytes.now }
 {
     let mut rest = bytes;
     'bytes: while !rest.is_empty() {
