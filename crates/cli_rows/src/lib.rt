@@ -29,7 +29,7 @@ pub use other_formats::{OtherFormat, other_format};
 pub use output::{read_input, write_output};
 pub use print::{request_text, table_text};
 pub use records::row_array;
-pub use schema::{copy_fields, copy_schema, row_type};
+pub use schema::row_type;
 pub use select::{in_row_order, is_complete, skip_rows, window_difference};
 pub use table::Table;
 pub use take::take_rows;

@@ -14,7 +14,7 @@ use crate::output::write_all;
 use ipc::dictionaries::record_emitted;
 use ipc::{Batch, encode_stream_batch};
 use ipc_flatbuf::IpcWriteError;
-use ipc_schema::{Schema, clone_schema, write_schema_with_dictionaries};
+use ipc_schema::{Schema, write_schema_with_dictionaries};
 use nest_array::any::AnyArray;
 use std::alloc::Global;
 use std::collections::BTreeMap;
@@ -55,7 +55,7 @@ pub(crate) fn message_of(alloc: Global, schema: &Schema) -> Result<(Vec<u8>, Sch
     ensures err { IfErr result (IsErrorOrMemory (schema_error (schema_of schema.now))) }
 {
     let message = write_schema_with_dictionaries(alloc, schema)?;
-    let copy = clone_schema(alloc, schema)?;
+    let copy = schema.clone(alloc)?;
     Ok((message, copy))
 }
 

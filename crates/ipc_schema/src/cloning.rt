@@ -10,7 +10,11 @@ use ipc_flatbuf::IpcWriteError;
 use nest_memory::datatypes::Field;
 use std::alloc::Global;
 
-fn clone_fields(alloc: Global, fields: &[Field]) -> Result<Vec<Field>, IpcWriteError>
+/// Returns deep copies of fields.
+///
+/// # Errors
+/// `Memory`.
+pub fn clone_fields(alloc: Global, fields: &[Field]) -> Result<Vec<Field>, IpcWriteError>
     ensures same { IfOk result (λ copy. map field_of copy.items ≡ map field_of fields.now) }
     ensures err { IfErr result (λ error. error ≡ Memory) }
 {
@@ -24,15 +28,17 @@ fn clone_fields(alloc: Global, fields: &[Field]) -> Result<Vec<Field>, IpcWriteE
     Ok(copy)
 }
 
-/// Returns a clone of a schema.
-///
-/// # Errors
-/// `Memory`.
-pub fn clone_schema(alloc: Global, schema: &Schema) -> Result<Schema, IpcWriteError>
-    ensures same { IfOk result (λ copy. schema_of copy ≡ schema_of schema.now) }
-    ensures err { IfErr result (λ error. error ≡ Memory) }
-{
-    let fields = clone_fields(alloc, &schema.fields)?;
-    let metadata = copy_of(&schema.metadata)?;
-    Ok(Schema { fields, metadata })
+impl Schema {
+    /// Returns a deep copy of the schema.
+    ///
+    /// # Errors
+    /// `Memory`.
+    pub fn clone(&self, alloc: Global) -> Result<Schema, IpcWriteError>
+        ensures same { IfOk result (λ copy. schema_of copy ≡ schema_of self.now) }
+        ensures err { IfErr result (λ error. error ≡ Memory) }
+    {
+        let fields = clone_fields(alloc, &self.fields)?;
+        let metadata = copy_of(&self.metadata)?;
+        Ok(Schema { fields, metadata })
+    }
 }

@@ -26,7 +26,7 @@ mod types;
 mod unions;
 mod writing;
 
-pub use cloning::clone_schema;
+pub use cloning::clone_fields;
 pub use columns::{ColumnSet, Projection};
 pub use dictionaries::{DictionaryTypes, DictionaryValueType};
 pub use dictionary_ids::outermost_ids;

@@ -1,13 +1,11 @@
 //! Lines of JSON written as Arrow files and streams.
 use cli_args::{Format, Request, Selection};
 use cli_read::{Input, open};
-use cli_rows::{
-    BatchError, CliError, Table, copy_fields, copy_schema, encode_table, push_batch, table_text,
-};
+use cli_rows::{BatchError, CliError, Table, encode_table, push_batch, table_text};
 use cli_write::import::{ImportError, import};
 use cli_write::{Progress, copy};
 use ipc_flatbuf::IpcWriteError;
-use ipc_schema::{Projection, Schema};
+use ipc_schema::{Projection, Schema, clone_fields};
 use json_read::{LineError, UnsupportedTypeError, ValueError, read_json_lines};
 use nest_memory::datatypes::{DataType, Field, Metadata};
 use std::alloc::Global;
@@ -117,7 +115,7 @@ fn read_table(alloc: Global, bytes: &[u8]) -> Result<Table, CliError> {
     while let Some(batch) = reader.next_batch(alloc)? {
         batches.push(batch)?;
     }
-    let schema = copy_schema(alloc, reader.schema())?;
+    let schema = reader.schema().clone(alloc)?;
     Ok(Table { schema, batches })
 }
 
@@ -252,7 +250,7 @@ fn rows_are_encoded(rt: HostRuntime) -> Result<(), Fail> {
     let alloc = rt.alloc();
     let text = "{\"a\":1}\n{\"a\":null}\n";
     let fields = fields_of(alloc, "struct<a: int8>")?;
-    let data_type = DataType::Struct(copy_fields(alloc, &fields)?);
+    let data_type = DataType::Struct(clone_fields(alloc, &fields)?);
     let mut batches = Vec::new(alloc);
     push_batch(
         alloc,

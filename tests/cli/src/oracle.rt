@@ -3,8 +3,7 @@ use crate::devices::{Device, NEVER, input};
 use cli_args::{Command, Format, Request, Selection, parse_arguments};
 use cli_read::open;
 use cli_rows::{
-    CliError, Table, copy_schema, encode_table, row_array, selected_batches, selection_error,
-    table_text,
+    CliError, Table, encode_table, row_array, selected_batches, selection_error, table_text,
 };
 use ipc::Batch;
 use ipc_schema::Projection;
@@ -19,7 +18,7 @@ pub fn read_table(alloc: Global, columns: Projection<'_>, bytes: &[u8]) -> Resul
     while let Some(batch) = reader.next_batch(alloc)? {
         batches.push(batch)?;
     }
-    let schema = copy_schema(alloc, reader.schema())?;
+    let schema = reader.schema().clone(alloc)?;
     Ok(Table { schema, batches })
 }
 
@@ -103,7 +102,7 @@ pub fn selected(
     bytes: &[u8],
 ) -> Result<Vec<u8>, CliError> {
     let table = read_table(alloc, Projection::All, bytes)?;
-    let schema = copy_schema(alloc, &table.schema)?;
+    let schema = table.schema.clone(alloc)?;
     if let Some(error) = selection_error(selection, &schema.fields) {
         return Err(error);
     }

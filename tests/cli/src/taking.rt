@@ -6,9 +6,7 @@ use crate::oracle::{arrays_of, lines_of, read_table, selected, text_of};
 use crate::samples::{BOOLEANS, COLUMNLESS, COMPRESSED, EMPTY, FILE, STREAM, bytes_of};
 use cli_args::{Format, Request, Selection};
 use cli_read::{take, take_encoded, take_lines};
-use cli_rows::{
-    BatchError, CliError, Table, batches_of_arrays, copy_schema, encode_table, take_rows,
-};
+use cli_rows::{BatchError, CliError, Table, batches_of_arrays, encode_table, take_rows};
 use ipc_flatbuf::{CompressionError, IpcReadError};
 use ipc_schema::Projection;
 use std::alloc::Global;
@@ -249,7 +247,7 @@ fn rows_of_arrays_are_taken(rt: HostRuntime) -> Result<(), Fail> {
     for sample in [STREAM, BOOLEANS] {
         let bytes = bytes_of(alloc, sample)?;
         let table = read_table(alloc, Projection::All, &bytes)?;
-        let schema = copy_schema(alloc, &table.schema)?;
+        let schema = table.schema.clone(alloc)?;
         let arrays = arrays_of(alloc, table)?;
         for indices in INDICES {
             let selection = indices_of(alloc, indices)?;
@@ -264,7 +262,7 @@ fn rows_of_arrays_are_taken(rt: HostRuntime) -> Result<(), Fail> {
                 Ok(rows) => {
                     assert!(rt; rows.len() == if indices.is_empty() { 0 } else { 1 });
                     let batches = batches_of_arrays(alloc, &schema.fields, rows)?;
-                    let schema = copy_schema(alloc, &schema)?;
+                    let schema = schema.clone(alloc)?;
                     let made = encode_table(alloc, Format::File, &Table { schema, batches })?;
                     assert!(rt; lines_of(alloc, &made) == want, "{indices:?}");
                 }

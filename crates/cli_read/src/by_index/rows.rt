@@ -24,7 +24,7 @@ use crate::input::Input;
 use crate::reader::{BatchReader, open};
 use crate::rows::next_rows;
 use cli_args::Selection;
-use cli_rows::{BatchError, CliError, Table, batches_of_arrays, copy_schema, take_rows};
+use cli_rows::{BatchError, CliError, Table, batches_of_arrays, take_rows};
 use ipc_io::SeekRead;
 use ipc_schema::{Projection, Schema};
 use nest_array::AnyArray;
@@ -182,11 +182,11 @@ fn table_of_rows(alloc: Global, schema: &Schema, rows: Vec<AnyArray>) -> Result<
 {
     match batches_of_arrays(alloc, &schema.fields, rows) {
         Err(error) => Err(error),
-        Ok(batches) => match copy_schema(alloc, schema) {
+        Ok(batches) => match schema.clone(alloc) {
             Ok(schema) => Ok(Table { schema, batches }),
-            Err(error) => {
+            Err(_) => {
                 drop(batches);
-                Err(error)
+                Err(CliError::Memory)
             }
         },
     }

@@ -1,6 +1,0 @@
-use Rattle.std.proofs.Common.{◌≡◌, map, take}
-use Rattle.nest_memory.specs.TypeOf.{field_of}
-use Rattle.cli_rows.proofs.schema.copy_fields.Given as goal
-
-abbrev pub invariant-loop-field : goal.invariant-loop-field
-invariant-loop-field l = map field_of l.copies.items ≡ map field_of (take l.field-index l.fields)
