@@ -1,10 +1,10 @@
 //! The command `concat`.
-use crate::input::{OpenError, Source, open_input};
-use crate::messages::{failed, report, report_batch};
+use crate::input::{Source, open_input};
+use crate::messages::{InputError, failed, report, report_written};
 use crate::output::{Output, ProgressLine, StandardOutput, open_output, settle};
 use cli_args::format_of;
 use cli_read::Input;
-use cli_rows::{BatchError, CliError};
+use cli_rows::CliError;
 use cli_write::{AppendError, BatchWriter, append, begin_concat};
 use ipc_schema::Projection;
 use std::io;
@@ -14,10 +14,8 @@ use std::process::ExitCode;
 /// Error returned where files are not concatenated, and the file.
 #[derive(Drop)]
 enum ConcatError<'a> {
-    /// The file is not opened.
-    Open(&'a str, OpenError),
-    /// The file is not read, or not written.
-    Batch(&'a str, BatchError),
+    /// The file is not opened or read, or its record batches are not written.
+    Input(&'a str, InputError),
     /// The schema of the file differs from that of the first.
     Schema(&'a str),
     /// The end of the output is not written.
@@ -35,7 +33,7 @@ fn begin<'a, W: Write + Drop>(
     let format = format_of(out.name);
     match begin_concat(rt.alloc(), columns, format, input, out.writer, line) {
         Ok(writer) => Ok(writer),
-        Err(error) => Err(ConcatError::Batch(file, error)),
+        Err(error) => Err(ConcatError::Input(file, InputError::Batch(error))),
     }
 }
 
@@ -48,11 +46,13 @@ fn append_file<'a, W: Write + Drop>(
     line: &mut ProgressLine<'_>,
 ) -> Result<(), ConcatError<'a>> {
     match open_input(rt, file) {
-        Err(error) => Err(ConcatError::Open(file, error)),
+        Err(error) => Err(ConcatError::Input(file, InputError::Open(error))),
         Ok(input) => match append(rt.alloc(), columns, input, writer, line) {
             Ok(()) => Ok(()),
             Err(AppendError::Schema) => Err(ConcatError::Schema(file)),
-            Err(AppendError::Batch(error)) => Err(ConcatError::Batch(file, error)),
+            Err(AppendError::Batch(error)) => {
+                Err(ConcatError::Input(file, InputError::Batch(error)))
+            }
         },
     }
 }
@@ -114,13 +114,7 @@ fn report_concat(
             failed()
         }
         Err(ConcatError::End(error)) => report(rt, out, &error),
-        Err(ConcatError::Open(file, error)) => report(rt, file, &error),
-        Err(ConcatError::Batch(file, error)) => {
-            if error.error == CliError::Output {
-                return report(rt, out, &CliError::Output);
-            }
-            report_batch(rt, file, error)
-        }
+        Err(ConcatError::Input(file, error)) => report_written(rt, file, out, error),
     }
 }
 

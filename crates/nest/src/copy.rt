@@ -3,12 +3,12 @@ ghost use Rattle.cli_args.specs.RequestTrees.{selection_tree};
 ghost use Rattle.cli_rows.specs.RowOrder.{IsInRowOrder};
 
 use crate::input::{Source, open_input};
-use crate::messages::{report, report_batch};
+use crate::messages::{InputError, report, report_written};
 use crate::output::{Output, ProgressLine, StandardOutput, open_output, settle};
 use crate::take::write_taken;
 use cli_args::{Selection, format_of};
 use cli_read::Input;
-use cli_rows::{BatchError, CliError, in_row_order};
+use cli_rows::{BatchError, in_row_order};
 use ipc_schema::Projection;
 use std::io;
 use std::io::{IsTerminal, Write};
@@ -49,12 +49,7 @@ fn report_copy(
 ) -> ExitCode {
     match copied {
         Ok(()) => ExitCode::SUCCESS,
-        Err(error) => {
-            if error.error == CliError::Output {
-                return report(rt, out, &CliError::Output);
-            }
-            report_batch(rt, file, error)
-        }
+        Err(error) => report_written(rt, file, out, InputError::Batch(error)),
     }
 }
 

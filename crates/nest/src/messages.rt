@@ -50,14 +50,21 @@ pub fn report<E: Display>(rt: &HostRuntime, file: &str, error: &E) -> ExitCode {
 pub fn report_input(rt: &HostRuntime, file: &str, error: InputError) -> ExitCode {
     match error {
         InputError::Open(error) => report(rt, file, &error),
-        InputError::Batch(error) => report_batch(rt, file, error),
+        InputError::Batch(error) => report(rt, file, &error),
     }
 }
 
-/// Reports an error of a file and its record batch.
-pub fn report_batch(rt: &HostRuntime, file: &str, error: BatchError) -> ExitCode {
-    let _ = eprintln!(rt; "nest: {file}: {error}");
-    failed()
+/// Reports an error of an input that is written to an output. The output is named if a write failed.
+pub fn report_written(rt: &HostRuntime, file: &str, out: &str, error: InputError) -> ExitCode {
+    match error {
+        InputError::Open(error) => report(rt, file, &error),
+        InputError::Batch(error) => {
+            if error.error == CliError::Output {
+                return report(rt, out, &CliError::Output);
+            }
+            report(rt, file, &error)
+        }
+    }
 }
 
 /// Prints the help or the version that the arguments ask for, or reports what is wrong with them.
@@ -93,8 +100,8 @@ pub fn print_comparison(
     match compared {
         Ok(None) => ExitCode::SUCCESS,
         Ok(Some(difference)) => print_difference(rt, files.0, difference),
-        Err(CompareError::First(error)) => report_batch(rt, files.0, error),
-        Err(CompareError::Second(error)) => report_batch(rt, files.1, error),
+        Err(CompareError::First(error)) => report(rt, files.0, &error),
+        Err(CompareError::Second(error)) => report(rt, files.1, &error),
         Err(CompareError::TooManyRows) => {
             let file = files.0;
             let _ = eprintln!(rt; "nest: {file}: more than 2^64 rows are equal");
