@@ -1,6 +1,6 @@
 //! Clones of schemas.
 ghost use Rattle.std.specs.Prelude.{◌≡◌, map, IfErr, IfOk};
-ghost use Rattle.nest_memory.specs.TypeOf.{entries_of, field_of};
+ghost use Rattle.nest_memory.specs.TypeOf.{field_of};
 ghost use Rattle.ipc_flatbuf.specs.declared.error.IpcWriteError.TheVariants.{Memory};
 ghost use Rattle.ipc_schema.specs.Schemas.{schema_of};
 

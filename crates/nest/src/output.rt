@@ -141,7 +141,7 @@ pub enum Place {
 }
 
 /// Returns whether a regular file exists.
-fn is_file(rt: &HostRuntime, name: &str) -> bool {
+fn is_regular_file(rt: &HostRuntime, name: &str) -> bool {
     match fs::metadata(rt, name) {
         Ok(metadata) => metadata.is_file(),
         Err(_) => false,
@@ -170,7 +170,7 @@ pub fn open_output(rt: &HostRuntime, out: &str) -> Result<(File, Place), CreateE
     if let Ok(created) = File::create_new(rt, out) {
         return Ok((created, Place::Created));
     }
-    if is_file(rt, out) {
+    if is_regular_file(rt, out) {
         return open_beside(rt, out);
     }
     let opened = fs::create(rt, out)?;
