@@ -16,7 +16,8 @@ use Rattle.cli_rows.specs.Tables.{TableTree, decoded_table, table_of_file, table
 use Rattle.cli_rows.specs.Output.{printed_text}
 use Rattle.cli_read.specs.Decoded.{first_of_file, first_of_stream, table_with, decoded_file, decoded_stream}
 use Rattle.cli_read.specs.Printed.{IsSufficient}
-use Rattle.cli_read.proofs.SelectedRows.{enough-is-all, of_batches}
+use Rattle.cli_read.specs.RowBuffers.{table_of_batches}
+use Rattle.cli_read.proofs.SelectedRows.{enough-is-all}
 
 record AreFirst (k : ℕ) (first whole : Result (List RecordBatchTree) IpcReadError) : Type 0 where
   pub error : (error : IpcReadError) → first ≡ Err error → whole ≡ Err error
@@ -79,12 +80,12 @@ of-file (suc k) s bytes (b ∷ blocks) = first-of-file k (block_batch_in s bytes
 
 pub record AreFirstHeld (k : ℕ) (first whole : Result TableTree IpcReadError) : Type 0 where
   pub error : (error : IpcReadError) → first ≡ Err error → whole ≡ Err error
-  pub some : (h : TableTree) → whole ≡ Ok h → first ≡ Ok (of_batches h.schema (take k h.batches))
+  pub some : (h : TableTree) → whole ≡ Ok h → first ≡ Ok (table_of_batches h.schema (take k h.batches))
 
 held-first : (k : ℕ) (s : SchemaModel) (first whole : Result (List RecordBatchTree) IpcReadError) → AreFirst k first whole → AreFirstHeld k (table_with s first) (table_with s whole)
 held-first k s (Ok bs) (Ok cs) h = record {
   error = λ error e. absurd cc;
-  some = λ held e. let same : bs ≡ take k cs = grind (arith, h.some cs refl) in let is : of_batches s cs ≡ held = grind (arith, e) in ap (λ (l : List RecordBatchTree). Ok (of_batches s l)) same ∙ ap (λ (x : TableTree). Ok (of_batches x.schema (take k x.batches))) is;
+  some = λ held e. let same : bs ≡ take k cs = grind (arith, h.some cs refl) in let is : table_of_batches s cs ≡ held = grind (arith, e) in ap (λ (l : List RecordBatchTree). Ok (table_of_batches s l)) same ∙ ap (λ (x : TableTree). Ok (table_of_batches x.schema (take k x.batches))) is;
 }
 held-first k s (Ok bs) (Err error) h = record {
   error = λ other e. absurd cc;
@@ -169,4 +170,4 @@ enough-held q k first whole h are is has =
     let same = take-append-drop k h.batches in
     ap (printed_text q) e
     ∙ enough-is-all q h.schema (take k h.batches) (drop k h.batches) (subst (IsSufficient q) e has)
-    ∙ ap (λ (bs : List RecordBatchTree). printed_text q (Ok (of_batches h.schema bs))) same
+    ∙ ap (λ (bs : List RecordBatchTree). printed_text q (Ok (table_of_batches h.schema bs))) same

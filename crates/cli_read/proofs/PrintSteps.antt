@@ -15,8 +15,7 @@ use Rattle.cli_read.specs.Decoded.{Decoded, table_with}
 use Rattle.cli_read.specs.Printed.{FailsAt, FailsWith, IsSufficient, Prints, WritesText}
 use Rattle.cli_read.specs.Remaining.{FailsNext, FailsToOpen, IsOpened, IsReadFailure, Remaining, ReturnsNext, StartsEmpty, with_schema}
 use Rattle.cli_read.specs.RemainingRequests.{IsRequestInRowOrder, batch_table, is_complete_request, remaining_request, table_row_count}
-use Rattle.cli_read.specs.RowBuffers.{IsAfter, prepended}
-use Rattle.cli_read.proofs.SelectedRows.{of_batches}
+use Rattle.cli_read.specs.RowBuffers.{IsAfter, prepended, table_of_batches}
 use Rattle.cli_read.proofs.RequestSteps.{Going, begun, gone-on, halted, is-enough, is-not-enough, wrote-first}
 use Rattle.cli_read.proofs.BufferSteps.{behind-first, behind-more, behind-none, behind-whole}
 
@@ -25,7 +24,7 @@ PrintState q left s k None u old new = Unit {0}
 PrintState q left s k (Some t) None old new = ⊥
 PrintState q left s k (Some t) (Some u) old new = (bs : List RecordBatchTree) × IsAfter t k bs u × Going q left s bs old new
 
-held-is : (s : SchemaModel) (bs : List RecordBatchTree) (read : Result (List RecordBatchTree) formats.IpcReadError) → read ≡ Ok bs → Ok (of_batches s bs) ≡ table_with s read
+held-is : (s : SchemaModel) (bs : List RecordBatchTree) (read : Result (List RecordBatchTree) formats.IpcReadError) → read ≡ Ok bs → Ok (table_of_batches s bs) ≡ table_with s read
 held-is s bs read e = ap (table_with s) (sym e)
 
 pub state-begun : (q : RequestTree) (s : SchemaModel) (t : Option Remaining) (old new : Option (List ℕ)) → IsRequestInRowOrder q → StartsEmpty t → WritesText q (Ok (batch_table s None)) old new → PrintState q q s 0 t t old new
@@ -54,7 +53,7 @@ at-end q left s k (Some t) (Some u) (Some v) old new (bs, at, going) n =
     (k, subst (λ read. WritesText q read old new) first (wrote-first q left s bs old new going), inl (sym first ∙ whole))
 
 stopped : (error : CliError) (q left : RequestTree) (s : SchemaModel) (k : ℕ) (t u : Remaining) (bs : List RecordBatchTree) (old new mid : Option (List ℕ)) → IsAfter t k bs u → Going q left s bs old mid → is_complete_request left ≡ false
-    → FailsWith error q ((with_schema s t).first (k + 1)) (WritesText q (Ok (of_batches s bs)) old new) old new → FailsAt q (with_schema s t) (Some k) error old new
+    → FailsWith error q ((with_schema s t).first (k + 1)) (WritesText q (Ok (table_of_batches s bs)) old new) old new → FailsAt q (with_schema s t) (Some k) error old new
 stopped error q left s k t u bs old new mid at going e h =
     let is = held-is s bs (t.first k) (behind-first t u k bs at) in (
       subst (λ read. FailsWith error q ((with_schema s t).first (k + 1)) (WritesText q read old new) old new) is h,
@@ -75,7 +74,7 @@ batch-fails q left s k (Some t) None v old mid new b error w e n h = absurd w
 batch-fails q left s k (Some t) (Some u) None old mid new b error w e n h = absurd n
 batch-fails q left s k (Some t) (Some u) (Some v) old mid new b error (bs, at, going) e n h =
     let next = held-is s (bs ++ b ∷ []) (t.first (k + 1)) (behind-first t v (k + 1) (bs ++ b ∷ []) (behind-more t u v k bs b at n)) in
-    stopped error q left s k t u bs old new mid at going e (subst (λ read. FailsWith error q read (WritesText q (Ok (of_batches s bs)) old new) old new) next (halted error q left s bs old mid new b going e h))
+    stopped error q left s k t u bs old new mid at going e (subst (λ read. FailsWith error q read (WritesText q (Ok (table_of_batches s bs)) old new) old new) next (halted error q left s bs old mid new b going e h))
 
 fails-next : (error : CliError) (q : RequestTree) (s : SchemaModel) (t u : Remaining) (k : ℕ) (bs : List RecordBatchTree) (Earlier : Type 0) (old new : Option (List ℕ)) → IsAfter t k bs u → IsReadFailure error (u.first 1) → Earlier
     → FailsWith error q ((with_schema s t).first (k + 1)) Earlier old new
@@ -94,7 +93,7 @@ pub batch-unread : (q left : RequestTree) (s : SchemaModel) (k : ℕ) (t u : Opt
 batch-unread q left s k None u old new error w e h = tt
 batch-unread q left s k (Some t) None old new error w e h = absurd w
 batch-unread q left s k (Some t) (Some u) old new error (bs, at, going) e h =
-    stopped error q left s k t u bs old new new at going e (fails-next error q s t u k bs (WritesText q (Ok (of_batches s bs)) old new) old new at h (wrote-first q left s bs old new going))
+    stopped error q left s k t u bs old new new at going e (fails-next error q s t u k bs (WritesText q (Ok (table_of_batches s bs)) old new) old new at h (wrote-first q left s bs old new going))
 
 pub uncounted : (q left : RequestTree) (s : SchemaModel) (k : ℕ) (t u : Option Remaining) (old new : Option (List ℕ)) → PrintState q left s k t u old new → is_complete_request left ≡ false → Prints q (option_map (with_schema s) t) (Err (record { batch = Some k; error = Input })) old new
 uncounted q left s k None u old new w e = tt

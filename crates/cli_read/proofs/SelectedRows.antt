@@ -1,5 +1,5 @@
 -- Selected rows of record batches.
-use Rattle.std.proofs.Common.{◌≡◌, ℕ, zero, suc, ◌+◌, ◌-◌, List, [], ◌∷◌, ◌++◌, length, take, drop, map, Option, Some, None, option_map, refl, sym, ap, ◌∙◌, arith, append_assoc, append-nil, length-append, length-drop, eqb-true, true, false}
+use Rattle.std.proofs.Common.{◌≡◌, ℕ, ◌+◌, ◌-◌, List, [], ◌∷◌, ◌++◌, length, take, drop, map, Option, Some, None, option_map, refl, sym, ap, ◌∙◌, arith, append_assoc, append-nil, length-append, eqb-true, true, false}
 use Rattle.std.specs.List.{AllByRecursion, filter, flat_map, slice_get}
 use Rattle.std.proofs.lemmas.Grind.{flat_map-append}
 use Rattle.std.proofs.lemmas.List.Elements.{filter-append}
@@ -13,7 +13,7 @@ use Rattle.ipc_schema.specs.Schemas.{SchemaModel}
 use Rattle.ipc.specs.Streams.{RecordBatchTree}
 use Rattle.cli_args.specs.Requests.{SelectionTree, RequestTree, columns, rows, all, slice, indices, where_true}
 use Rattle.cli_rows.specs.Selection.{selected_rows}
-use Rattle.cli_rows.specs.RowLaws.{drop-both, rows-length}
+use Rattle.cli_rows.specs.RowLaws.{rows-length, sublist-both}
 use Rattle.cli_rows.specs.Rows.{Row, rows_of}
 use Rattle.cli_rows.specs.Booleans.{is_true_in}
 use Rattle.cli_rows.specs.Text.{json_line, text_of_rows}
@@ -23,18 +23,8 @@ use Rattle.cli_rows.specs.Tables.{MatchesSchema, TableTree, record_rows}
 use Rattle.cli_rows.specs.Records.{record_type, records, side_by_side}
 use Rattle.cli_rows.specs.declared.error.CliError.{CliError}
 use Rattle.cli_read.specs.RemainingRequests.{HasAllRows, IsRequestInRowOrder, batch_table, is_complete_request, remaining_request, table_row_count}
-use Rattle.cli_rows.specs.RowOrder.{IsInRowOrder}
-
-take-both : {X : Type 0} (n : ℕ) (xs ys : List X) → take n (xs ++ ys) ≡ take n xs ++ take (n - length xs) ys
-take-both zero xs ys = let e : 0 ≡ 0 - length xs = omega arith in ap (λ k. take k ys) e
-take-both (suc n) [] ys = let e : suc n ≡ suc n - 0 = omega arith in ap (λ k. take k ys) e
-take-both (suc n) (x ∷ xs) ys = let e : n - length xs ≡ suc n - length (x ∷ xs) = omega arith in ap (λ zs. x ∷ zs) (take-both n xs ys ∙ ap (λ k. take n xs ++ take k ys) e)
-
-cut-both : {X : Type 0} (xs ys : List X) (o n : ℕ) → sublist (xs ++ ys) o n ≡ sublist xs o n ++ sublist ys (o - length xs) (n - (length xs - o))
-cut-both xs ys o n =
-    ap (take n) (drop-both o xs ys)
-    ∙ take-both n (drop o xs) (drop (o - length xs) ys)
-    ∙ ap (λ k. take n (drop o xs) ++ take (n - k) (drop (o - length xs) ys)) (length-drop o xs)
+use Rattle.cli_read.specs.RowBuffers.{table_of_batches}
+use Rattle.cli_rows.specs.RowOrder.{IsInRowOrder, remaining_selection}
 
 abbrev picked : SelectionTree → List Row → List Row
 picked all rs = rs
@@ -48,27 +38,21 @@ choice-is (slice o n) rs h = refl
 choice-is (where_true column) rs h = refl
 choice-is (indices wanted) rs h = absurd h
 
-abbrev pub behind : SelectionTree → ℕ → SelectionTree
-behind (slice o n) k = slice (o - k) (n - (k - o))
-behind all k = all
-behind (where_true column) k = where_true column
-behind (indices wanted) k = indices wanted
-
-pub left-is : (c : SelectionTree) (k : ℕ) → remaining_request (rows c) k ≡ rows (behind c k)
+pub left-is : (c : SelectionTree) (k : ℕ) → remaining_request (rows c) k ≡ rows (remaining_selection c k)
 left-is all k = refl
 left-is (slice o n) k = refl
 left-is (where_true column) k = refl
 left-is (indices wanted) k = refl
 
-pub in-order-behind : (c : SelectionTree) (k : ℕ) → IsInRowOrder c → IsInRowOrder (behind c k)
+pub in-order-behind : (c : SelectionTree) (k : ℕ) → IsInRowOrder c → IsInRowOrder (remaining_selection c k)
 in-order-behind all k h = tt
 in-order-behind (slice o n) k h = tt
 in-order-behind (where_true column) k h = tt
 in-order-behind (indices wanted) k h = h
 
-picked-both : (c : SelectionTree) (xs ys : List Row) → IsInRowOrder c → picked c (xs ++ ys) ≡ picked c xs ++ picked (behind c (length xs)) ys
+picked-both : (c : SelectionTree) (xs ys : List Row) → IsInRowOrder c → picked c (xs ++ ys) ≡ picked c xs ++ picked (remaining_selection c (length xs)) ys
 picked-both all xs ys h = refl
-picked-both (slice o n) xs ys h = cut-both xs ys o n
+picked-both (slice o n) xs ys h = sublist-both xs ys o n
 picked-both (where_true column) xs ys h = filter-append (is_true_in column) xs ys
 picked-both (indices wanted) xs ys h = absurd h
 
@@ -78,7 +62,7 @@ from-twice o n a b =
     let f : (n - (a - o)) - (b - (o - a)) ≡ n - (a + b - o) = omega arith in
     ap (λ x. slice x ((n - (a - o)) - (b - (o - a)))) e ∙ ap (slice (o - (a + b))) f
 
-behind-twice : (c : SelectionTree) (a b : ℕ) → behind (behind c a) b ≡ behind c (a + b)
+behind-twice : (c : SelectionTree) (a b : ℕ) → remaining_selection (remaining_selection c a) b ≡ remaining_selection c (a + b)
 behind-twice all a b = refl
 behind-twice (slice o n) a b = from-twice o n a b
 behind-twice (where_true column) a b = refl
@@ -86,7 +70,7 @@ behind-twice (indices wanted) a b = refl
 
 pub left-twice : (q : RequestTree) (a b : ℕ) → remaining_request (remaining_request q a) b ≡ remaining_request q (a + b)
 left-twice columns a b = refl
-left-twice (rows c) a b = ap (λ z. remaining_request z b) (left-is c a) ∙ left-is (behind c a) b ∙ ap rows (behind-twice c a b) ∙ sym (left-is c (a + b))
+left-twice (rows c) a b = ap (λ z. remaining_request z b) (left-is c a) ∙ left-is (remaining_selection c a) b ∙ ap rows (behind-twice c a b) ∙ sym (left-is c (a + b))
 
 from-none : (o n : ℕ) → slice (o - 0) (n - (0 - o)) ≡ slice o n
 from-none o n =
@@ -110,17 +94,14 @@ rows-append fs (a ∷ as_) bs =
     ap (λ rs. rows_of (records (record_type fs) a.columns) ++ rs) (rows-append fs as_ bs)
     ∙ sym (append_assoc (rows_of (records (record_type fs) a.columns)) (rows_under fs as_) (rows_under fs bs))
 
-abbrev pub of_batches : SchemaModel → List RecordBatchTree → TableTree
-of_batches s bs = record { schema = s; batches = bs }
-
-pub count-append : (s : SchemaModel) (as_ bs : List RecordBatchTree) → table_row_count (of_batches s (as_ ++ bs)) ≡ table_row_count (of_batches s as_) + table_row_count (of_batches s bs)
+pub count-append : (s : SchemaModel) (as_ bs : List RecordBatchTree) → table_row_count (table_of_batches s (as_ ++ bs)) ≡ table_row_count (table_of_batches s as_) + table_row_count (table_of_batches s bs)
 count-append s as_ bs = ap length (rows-append s.fields as_ bs) ∙ length-append (rows_under s.fields as_) (rows_under s.fields bs)
 
 rows-all : (fs : List FieldTree) (as_ bs : List RecordBatchTree) → AllByRecursion Fits (map (records (record_type fs)) (map (λ (b : RecordBatchTree). b.columns) (as_ ++ bs))) → AllByRecursion Fits (map (records (record_type fs)) (map (λ (b : RecordBatchTree). b.columns) bs))
 rows-all fs [] bs h = h
 rows-all fs (a ∷ as_) bs h = rows-all fs as_ bs h.1
 
-pub has-rows : (s : SchemaModel) (as_ bs : List RecordBatchTree) → MatchesSchema (of_batches s (as_ ++ bs)) → MatchesSchema (of_batches s bs)
+pub has-rows : (s : SchemaModel) (as_ bs : List RecordBatchTree) → MatchesSchema (table_of_batches s (as_ ++ bs)) → MatchesSchema (table_of_batches s bs)
 has-rows s as_ bs h = rows-all s.fields as_ bs h
 
 pub count-alone : (s : SchemaModel) (b : RecordBatchTree) → table_row_count (batch_table s (Some b)) ≡ first_len (side_by_side b.columns)
@@ -134,7 +115,7 @@ unless-some : {A : Type 0} (f : Option CliError) (found : Option A) (x : A) → 
 unless-some None found x h = (refl, h)
 unless-some (Some refusal) found x h = absurd cc
 
-error-behind : (c : SelectionTree) (k : ℕ) (fs : List FieldTree) → spec_selection_error (behind c k) fs ≡ spec_selection_error c fs
+error-behind : (c : SelectionTree) (k : ℕ) (fs : List FieldTree) → spec_selection_error (remaining_selection c k) fs ≡ spec_selection_error c fs
 error-behind all k fs = refl
 error-behind (slice o n) k fs = refl
 error-behind (where_true column) k fs = refl
@@ -147,31 +128,31 @@ query-left (rows c) k fs = ap (λ q. request_error q fs) (left-is c k) ∙ error
 some-is : {A : Type 0} (x y : A) → Some x ≡ Some y → x ≡ y
 some-is x y e = grind (arith, e)
 
-text-is : (c : SelectionTree) (s : SchemaModel) (bs : List RecordBatchTree) (text : List ℕ) → IsInRowOrder c → spec_request_text (rows c) (of_batches s bs) ≡ Some text
+text-is : (c : SelectionTree) (s : SchemaModel) (bs : List RecordBatchTree) (text : List ℕ) → IsInRowOrder c → spec_request_text (rows c) (table_of_batches s bs) ≡ Some text
     → (spec_selection_error c s.fields ≡ None) × (text_of_rows (picked c (rows_under s.fields bs)) ≡ text)
 text-is c s bs text h e =
     let u = unless-some (spec_selection_error c s.fields) (option_map text_of_rows (selected_rows c (rows_under s.fields bs))) text e in
     (u.0, some-is _ _ (sym (ap (option_map text_of_rows) (choice-is c (rows_under s.fields bs) h)) ∙ u.1))
 
 is-text : (c : SelectionTree) (s : SchemaModel) (bs : List RecordBatchTree) (text : List ℕ) → IsInRowOrder c → spec_selection_error c s.fields ≡ None → text_of_rows (picked c (rows_under s.fields bs)) ≡ text
-    → spec_request_text (rows c) (of_batches s bs) ≡ Some text
+    → spec_request_text (rows c) (table_of_batches s bs) ≡ Some text
 is-text c s bs text h none e = rw (none, choice-is c (rows_under s.fields bs) h, e) refl
 
-pub answer-both : (c : SelectionTree) (s : SchemaModel) (as_ bs : List RecordBatchTree) (text more : List ℕ) → IsInRowOrder c → spec_request_text (rows c) (of_batches s as_) ≡ Some text
-    → spec_request_text (remaining_request (rows c) (table_row_count (of_batches s as_))) (of_batches s bs) ≡ Some more → spec_request_text (rows c) (of_batches s (as_ ++ bs)) ≡ Some (text ++ more)
+pub answer-both : (c : SelectionTree) (s : SchemaModel) (as_ bs : List RecordBatchTree) (text more : List ℕ) → IsInRowOrder c → spec_request_text (rows c) (table_of_batches s as_) ≡ Some text
+    → spec_request_text (remaining_request (rows c) (table_row_count (table_of_batches s as_))) (table_of_batches s bs) ≡ Some more → spec_request_text (rows c) (table_of_batches s (as_ ++ bs)) ≡ Some (text ++ more)
 answer-both c s as_ bs text more h e f =
     let xs = rows_under s.fields as_ in
     let ys = rows_under s.fields bs in
     let front = text-is c s as_ text h e in
-    let rest = text-is (behind c (length xs)) s bs more (in-order-behind c (length xs) h) (ap (λ q. spec_request_text q (of_batches s bs)) (sym (left-is c (length xs))) ∙ f) in
+    let rest = text-is (remaining_selection c (length xs)) s bs more (in-order-behind c (length xs) h) (ap (λ q. spec_request_text q (table_of_batches s bs)) (sym (left-is c (length xs))) ∙ f) in
     is-text c s (as_ ++ bs) (text ++ more) h front.0
     (ap (λ rs. text_of_rows (picked c rs)) (rows-append s.fields as_ bs)
     ∙ ap text_of_rows (picked-both c xs ys h)
-    ∙ flat_map-append json_line (picked c xs) (picked (behind c (length xs)) ys)
-    ∙ ap (λ t. t ++ text_of_rows (picked (behind c (length xs)) ys)) front.1
+    ∙ flat_map-append json_line (picked c xs) (picked (remaining_selection c (length xs)) ys)
+    ∙ ap (λ t. t ++ text_of_rows (picked (remaining_selection c (length xs)) ys)) front.1
     ∙ ap (λ t. text ++ t) rest.1)
 
-pub no-place : (q : RequestTree) (s : SchemaModel) (bs : List RecordBatchTree) → IsRequestInRowOrder q → request_error q s.fields ≡ None → spec_request_text q (of_batches s bs) ≡ None → ⊥
+pub no-place : (q : RequestTree) (s : SchemaModel) (bs : List RecordBatchTree) → IsRequestInRowOrder q → request_error q s.fields ≡ None → spec_request_text q (table_of_batches s bs) ≡ None → ⊥
 no-place columns s bs h none e = absurd cc
 no-place (rows c) s bs h none e = absurd (grind (arith, sym (is-text c s bs (text_of_rows (picked c (rows_under s.fields bs))) h none refl) ∙ e))
 
@@ -189,7 +170,7 @@ not-enough (rows (slice o n)) h e is = let z : n - (table_row_count h - o) ≡ 0
 not-enough (rows (where_true column)) h e is = is
 not-enough (rows (indices wanted)) h e is = is
 
-pub enough-is-all : (q : RequestTree) (s : SchemaModel) (as_ bs : List RecordBatchTree) → HasAllRows q (of_batches s as_) → spec_request_text q (of_batches s as_) ≡ spec_request_text q (of_batches s (as_ ++ bs))
+pub enough-is-all : (q : RequestTree) (s : SchemaModel) (as_ bs : List RecordBatchTree) → HasAllRows q (table_of_batches s as_) → spec_request_text q (table_of_batches s as_) ≡ spec_request_text q (table_of_batches s (as_ ++ bs))
 enough-is-all columns s as_ bs h = refl
 enough-is-all (rows all) s as_ bs h = absurd h
 enough-is-all (rows (slice o n)) s as_ bs h =
@@ -198,7 +179,7 @@ enough-is-all (rows (slice o n)) s as_ bs h =
     let none : n - (length xs - o) ≡ 0 = omega (arith, h) in
     let same : sublist xs o n ≡ sublist (rows_under s.fields (as_ ++ bs)) o n =
     sym (ap (λ rs. sublist rs o n) (rows-append s.fields as_ bs)
-    ∙ cut-both xs ys o n
+    ∙ sublist-both xs ys o n
     ∙ ap (λ k. sublist xs o n ++ take k (drop (o - length xs) ys)) none
     ∙ append-nil (sublist xs o n)) in
     ap (λ rs. Some (text_of_rows rs)) same

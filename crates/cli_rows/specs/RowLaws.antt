@@ -24,6 +24,12 @@ take-both zero xs ys = let e : 0 ≡ 0 - length xs = omega arith in ap (λ k. ta
 take-both (suc n) [] ys = let e : suc n ≡ suc n - 0 = omega arith in ap (λ k. take k ys) e
 take-both (suc n) (x ∷ xs) ys = let e : n - length xs ≡ suc n - length (x ∷ xs) = omega arith in ap (λ zs. x ∷ zs) (take-both n xs ys ∙ ap (λ k. take n xs ++ take k ys) e)
 
+pub sublist-both : {X : Type 0} (xs ys : List X) (o n : ℕ) → sublist (xs ++ ys) o n ≡ sublist xs o n ++ sublist ys (o - length xs) (n - (length xs - o))
+sublist-both xs ys o n =
+    ap (take n) (drop-both o xs ys)
+    ∙ take-both n (drop o xs) (drop (o - length xs) ys)
+    ∙ ap (λ k. take n (drop o xs) ++ take (n - k) (drop (o - length xs) ys)) (length-drop o xs)
+
 -- a slice of two lists, one after the other
 cut-both : {X : Type 0} (xs ys : List X) (o n from many : ℕ) → from ≡ min o (length xs) → many ≡ min n (length xs - from)
     → sublist (xs ++ ys) o n ≡ sublist xs from many ++ sublist ys (o - from) (n - many)

@@ -1,7 +1,7 @@
 -- Selected rows of record batches.
-use Rattle.std.proofs.Common.{Ok, append-nil, ◌≡◌, ℕ, zero, suc, ◌+◌, ◌-◌, ◌≤◌, List, [], ◌∷◌, ◌++◌, length, Option, Some, None, true, false, refl, sym, ap, ◌∙◌, subst, arith, append_assoc, eqb-true, length-drop, length-append}
+use Rattle.std.proofs.Common.{Ok, append-nil, ◌≡◌, ℕ, ◌+◌, ◌-◌, ◌≤◌, List, [], ◌∷◌, ◌++◌, length, Option, Some, None, true, false, refl, sym, ap, ◌∙◌, subst, arith, append_assoc, eqb-true, length-append}
 use Rattle.std.specs.List.{filter, flat_map, slice_get}
-use Rattle.std.specs.Prelude.{◌==◌, Bool, map, take, drop, if◌then◌else◌}
+use Rattle.std.specs.Prelude.{◌==◌, Bool, map, if◌then◌else◌}
 use Rattle.std.proofs.lemmas.List.Elements.{filter-append}
 use Rattle.nest_memory.specs.Sublist.{sublist}
 use Rattle.nest_memory.specs.TypeTree.{FieldTree, field_type}
@@ -16,7 +16,7 @@ use Rattle.cli_rows.specs.ColumnNames.{field_of_column, spec_boolean_error, spec
 use Rattle.cli_rows.specs.Records.{side_by_side}
 use Rattle.cli_rows.specs.declared.error.CliError.{CliError}
 use Rattle.cli_rows.specs.Selection.{selected_rows}
-use Rattle.cli_rows.specs.RowLaws.{cut-none, drop-both, rows-length}
+use Rattle.cli_rows.specs.RowLaws.{cut-none, rows-length, sublist-both}
 use Rattle.cli_rows.specs.Rows.{Row, rows_of}
 use Rattle.cli_rows.specs.Booleans.{spec_is_boolean, is_true_in}
 use Rattle.cli_read.specs.RowBuffers.{table_of_batches}
@@ -35,17 +35,6 @@ use Rattle.cli_write.specs.Copies.{IsCopy, HasAllRows}
 pub rows-both : (fs : List FieldTree) (as_ bs : List RecordBatchTree) → batch_rows fs (as_ ++ bs) ≡ batch_rows fs as_ ++ batch_rows fs bs
 rows-both fs [] bs = refl
 rows-both fs (a ∷ as_) bs = ap (λ rs. rows_of (batch_array fs a) ++ rs) (rows-both fs as_ bs) ∙ sym (append_assoc (rows_of (batch_array fs a)) (batch_rows fs as_) (batch_rows fs bs))
-
-take-two : {X : Type 0} (n : ℕ) (xs ys : List X) → take n (xs ++ ys) ≡ take n xs ++ take (n - length xs) ys
-take-two zero xs ys = let e : 0 ≡ 0 - length xs = omega arith in ap (λ k. take k ys) e
-take-two (suc n) [] ys = let e : suc n ≡ suc n - 0 = omega arith in ap (λ k. take k ys) e
-take-two (suc n) (x ∷ xs) ys = let e : n - length xs ≡ suc n - length (x ∷ xs) = omega arith in ap (λ zs. x ∷ zs) (take-two n xs ys ∙ ap (λ k. take n xs ++ take k ys) e)
-
-cut-two : {X : Type 0} (xs ys : List X) (o n : ℕ) → sublist (xs ++ ys) o n ≡ sublist xs o n ++ sublist ys (o - length xs) (n - (length xs - o))
-cut-two xs ys o n =
-    ap (λ zs. take n zs) (drop-both o xs ys)
-    ∙ take-two n (drop o xs) (drop (o - length xs) ys)
-    ∙ ap (λ k. take n (drop o xs) ++ take (n - k) (drop (o - length xs) ys)) (length-drop o xs)
 
 pub behind-none : (c : SelectionTree) → remaining_selection c 0 ≡ c
 behind-none all = refl
@@ -102,7 +91,7 @@ copied-more (slice o n) fs bs vs more ws h e f =
     let x : sublist (batch_rows fs bs) o n ≡ batch_rows fs vs = some-is (sublist (batch_rows fs bs) o n) (batch_rows fs vs) e in
     let y : sublist (batch_rows fs more) (o - k) (n - (k - o)) ≡ batch_rows fs ws = some-is (sublist (batch_rows fs more) (o - k) (n - (k - o))) (batch_rows fs ws) f in
     ap (λ rs. Some (sublist rs o n)) (rows-both fs bs more)
-    ∙ ap Some (cut-two (batch_rows fs bs) (batch_rows fs more) o n ∙ (λ i. x i ++ y i) ∙ sym (rows-both fs vs ws))
+    ∙ ap Some (sublist-both (batch_rows fs bs) (batch_rows fs more) o n ∙ (λ i. x i ++ y i) ∙ sym (rows-both fs vs ws))
 copied-more (where_true column) fs bs vs more ws h e f =
     let x : filter (is_true_in column) (batch_rows fs bs) ≡ batch_rows fs vs = some-is (filter (is_true_in column) (batch_rows fs bs)) (batch_rows fs vs) e in
     let y : filter (is_true_in column) (batch_rows fs more) ≡ batch_rows fs ws = some-is (filter (is_true_in column) (batch_rows fs more)) (batch_rows fs ws) f in
