@@ -25,6 +25,7 @@ use Rattle.cli_rows.specs.declared.error.CliError.{CliError}
 use Rattle.cli_read.specs.RemainingRequests.{HasAllRows, IsRequestInRowOrder, batch_table, is_complete_request, remaining_request, table_row_count}
 use Rattle.cli_read.specs.RowBuffers.{table_of_batches}
 use Rattle.cli_rows.specs.RowOrder.{IsInRowOrder, remaining_selection}
+use Rattle.cli_rows.proofs.RemainingSelections.{remaining-error, remaining-none, remaining-twice}
 
 abbrev picked : SelectionTree → List Row → List Row
 picked all rs = rs
@@ -56,34 +57,13 @@ picked-both (slice o n) xs ys h = sublist-both xs ys o n
 picked-both (where_true column) xs ys h = filter-append (is_true_in column) xs ys
 picked-both (indices wanted) xs ys h = absurd h
 
-from-twice : (o n a b : ℕ) → slice ((o - a) - b) ((n - (a - o)) - (b - (o - a))) ≡ slice (o - (a + b)) (n - (a + b - o))
-from-twice o n a b =
-    let e : (o - a) - b ≡ o - (a + b) = omega arith in
-    let f : (n - (a - o)) - (b - (o - a)) ≡ n - (a + b - o) = omega arith in
-    ap (λ x. slice x ((n - (a - o)) - (b - (o - a)))) e ∙ ap (slice (o - (a + b))) f
-
-behind-twice : (c : SelectionTree) (a b : ℕ) → remaining_selection (remaining_selection c a) b ≡ remaining_selection c (a + b)
-behind-twice all a b = refl
-behind-twice (slice o n) a b = from-twice o n a b
-behind-twice (where_true column) a b = refl
-behind-twice (indices wanted) a b = refl
-
 pub left-twice : (q : RequestTree) (a b : ℕ) → remaining_request (remaining_request q a) b ≡ remaining_request q (a + b)
 left-twice columns a b = refl
-left-twice (rows c) a b = ap (λ z. remaining_request z b) (left-is c a) ∙ left-is (remaining_selection c a) b ∙ ap rows (behind-twice c a b) ∙ sym (left-is c (a + b))
-
-from-none : (o n : ℕ) → slice (o - 0) (n - (0 - o)) ≡ slice o n
-from-none o n =
-    let e : o - 0 ≡ o = omega arith in
-    let f : n - (0 - o) ≡ n = omega arith in
-    ap (λ x. slice x (n - (0 - o))) e ∙ ap (slice o) f
+left-twice (rows c) a b = ap (λ z. remaining_request z b) (left-is c a) ∙ left-is (remaining_selection c a) b ∙ ap rows (remaining-twice c a b) ∙ sym (left-is c (a + b))
 
 pub left-none : (q : RequestTree) → remaining_request q 0 ≡ q
 left-none columns = refl
-left-none (rows all) = refl
-left-none (rows (slice o n)) = ap rows (from-none o n)
-left-none (rows (where_true column)) = refl
-left-none (rows (indices wanted)) = refl
+left-none (rows c) = left-is c 0 ∙ ap rows (remaining-none c)
 
 abbrev rows_under : List FieldTree → List RecordBatchTree → List Row
 rows_under fs bs = flat_map rows_of (map (records (record_type fs)) (map (λ (b : RecordBatchTree). b.columns) bs))
@@ -115,15 +95,9 @@ unless-some : {A : Type 0} (f : Option CliError) (found : Option A) (x : A) → 
 unless-some None found x h = (refl, h)
 unless-some (Some refusal) found x h = absurd cc
 
-error-behind : (c : SelectionTree) (k : ℕ) (fs : List FieldTree) → spec_selection_error (remaining_selection c k) fs ≡ spec_selection_error c fs
-error-behind all k fs = refl
-error-behind (slice o n) k fs = refl
-error-behind (where_true column) k fs = refl
-error-behind (indices wanted) k fs = refl
-
 pub query-left : (q : RequestTree) (k : ℕ) (fs : List FieldTree) → request_error (remaining_request q k) fs ≡ request_error q fs
 query-left columns k fs = refl
-query-left (rows c) k fs = ap (λ q. request_error q fs) (left-is c k) ∙ error-behind c k fs
+query-left (rows c) k fs = ap (λ q. request_error q fs) (left-is c k) ∙ remaining-error c k fs
 
 some-is : {A : Type 0} (x y : A) → Some x ≡ Some y → x ≡ y
 some-is x y e = grind (arith, e)

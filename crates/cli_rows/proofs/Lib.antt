@@ -9,6 +9,7 @@ mod ByName
 pub mod BatchArrays
 pub mod SelectedBatches
 pub mod Resolved
+pub mod RemainingSelections
 mod Collected
 mod ConcatenatedRows
 mod OneDifference

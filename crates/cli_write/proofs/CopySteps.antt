@@ -31,7 +31,8 @@ use Rattle.cli_write.specs.Copies.{IsSufficient, Copies, IsCopy, HasAllRows, IsW
 use Rattle.cli_write.specs.Writers.{FailsFinish, FailsBatch, FailsBatches, FailsSchema, HasWritten, WritesTableBatches}
 use Rattle.cli_write.specs.CopyStates.{CopyEnd, CopyState, FailsNextBatch, FailsToWriteSelection, FailsAfter, IsCopyStateError, WritesSelection}
 use Rattle.cli_write.specs.declared.writer.BatchWriter.{BatchWriter}
-use Rattle.cli_write.proofs.Lists.{IsOfColumn, rows-both, behind-none, behind-twice, column-behind, copied-more, copied-none, enough, is-copy, no-place, not-enough, of-column}
+use Rattle.cli_rows.proofs.RemainingSelections.{remaining-error, remaining-none, remaining-twice}
+use Rattle.cli_write.proofs.Lists.{IsOfColumn, rows-both, copied-more, copied-none, enough, is-copy, no-place, not-enough, of-column}
 
 pub held-why : (error : CliError) (c : SelectionTree) (form : forms.Format) (front : List RecordBatchTree) (read : Result TableTree formats.IpcReadError) → IsReadFailure error read → IsCopyError error c form front read
 held-why (causes.Read error) c form front read h = h
@@ -57,8 +58,8 @@ next-stops causes.NotBoolean c form front s t u k bs at h = absurd h
 
 batch-stops : (error : CliError) (c : SelectionTree) (form : forms.Format) (front : List RecordBatchTree) (s : SchemaModel) (came : List RecordBatchTree) (b : RecordBatchTree) (k : ℕ) → IsInRowOrder c → IsBatchSelectionError error (remaining_selection c k) s.fields (b ∷ []) → IsCopyError error c form front (Ok (table_of_batches s (came ++ b ∷ [])))
 batch-stops (causes.Read error) c form front s came b k order h = λ real. absurd (h real)
-batch-stops causes.UnknownColumn c form front s came b k order h = sym (column-behind c k s.fields) ∙ h
-batch-stops causes.NotBoolean c form front s came b k order h = sym (column-behind c k s.fields) ∙ h
+batch-stops causes.UnknownColumn c form front s came b k order h = sym (remaining-error c k s.fields) ∙ h
+batch-stops causes.NotBoolean c form front s came b k order h = sym (remaining-error c k s.fields) ∙ h
 batch-stops causes.MismatchedColumns c form front s came b k order h = λ fit. h (fits-last s.fields came (b ∷ []) fit)
 batch-stops causes.IndexOutOfRange c form front s came b k order h = no-place c k (batch_rows s.fields (b ∷ [])) order h
 batch-stops causes.Memory c form front s came b k order h = tt
@@ -134,7 +135,7 @@ none-enough c s read bs e few = held-at s bs read (λ h. HasAllRows c h → ⊥)
 rest-more : (c : SelectionTree) (s : SchemaModel) (bs : List RecordBatchTree) (b : RecordBatchTree) (now : SelectionTree) → now ≡ remaining_selection c (length (batch_rows s.fields bs)) → remaining_selection now (length (batch_rows s.fields (b ∷ []))) ≡ remaining_selection c (length (batch_rows s.fields (bs ++ b ∷ [])))
 rest-more c s bs b now is =
     ap (λ (x : SelectionTree). remaining_selection x (length (batch_rows s.fields (b ∷ [])))) is
-    ∙ behind-twice c (length (batch_rows s.fields bs)) (length (batch_rows s.fields (b ∷ [])))
+    ∙ remaining-twice c (length (batch_rows s.fields bs)) (length (batch_rows s.fields (b ∷ [])))
     ∙ ap (remaining_selection c) (sym (ap length (rows-both s.fields bs (b ∷ [])) ∙ length-append (batch_rows s.fields bs) (batch_rows s.fields (b ∷ []))))
 
 all-of : (c : SelectionTree) (s : SchemaModel) (t : Remaining) (k : ℕ) (bs : List RecordBatchTree) → t.first k ≡ Ok bs → (t.first k ≡ t.whole) ⊎ HasAllRows c (table_of_batches s bs) → IsSufficient c (with_schema s t) k
@@ -152,7 +153,7 @@ module _ {W : Type 0} (contents : W → Option (List ℕ)) where
     went = [];
     at = none-behind t fresh;
     are = copied-none c s.fields order;
-    rest = sym (behind-none c);
+    rest = sym (remaining-none c);
     in_order = order;
     has_column = column;
     put = subst (λ (bs : List RecordBatchTree). HasWritten contents form start s bs writer) (sym (append-nil front)) put;

@@ -36,30 +36,6 @@ pub rows-both : (fs : List FieldTree) (as_ bs : List RecordBatchTree) → batch_
 rows-both fs [] bs = refl
 rows-both fs (a ∷ as_) bs = ap (λ rs. rows_of (batch_array fs a) ++ rs) (rows-both fs as_ bs) ∙ sym (append_assoc (rows_of (batch_array fs a)) (batch_rows fs as_) (batch_rows fs bs))
 
-pub behind-none : (c : SelectionTree) → remaining_selection c 0 ≡ c
-behind-none all = refl
-behind-none (slice o n) =
-    let e : o - 0 ≡ o = omega arith in
-    let f : n - (0 - o) ≡ n = omega arith in
-    ap (λ x. slice x (n - (0 - o))) e ∙ ap (slice o) f
-behind-none (where_true column) = refl
-behind-none (indices places) = refl
-
-pub behind-twice : (c : SelectionTree) (a b : ℕ) → remaining_selection (remaining_selection c a) b ≡ remaining_selection c (a + b)
-behind-twice all a b = refl
-behind-twice (slice o n) a b =
-    let e : (o - a) - b ≡ o - (a + b) = omega arith in
-    let f : (n - (a - o)) - (b - (o - a)) ≡ n - (a + b - o) = omega arith in
-    ap (λ x. slice x ((n - (a - o)) - (b - (o - a)))) e ∙ ap (slice (o - (a + b))) f
-behind-twice (where_true column) a b = refl
-behind-twice (indices places) a b = refl
-
-pub column-behind : (c : SelectionTree) (k : ℕ) (fs : List FieldTree) → spec_selection_error (remaining_selection c k) fs ≡ spec_selection_error c fs
-column-behind all k fs = refl
-column-behind (slice o n) k fs = refl
-column-behind (where_true column) k fs = refl
-column-behind (indices places) k fs = refl
-
 pub enough : (c : SelectionTree) (s : SchemaModel) (bs : List RecordBatchTree) → is_complete_selection (remaining_selection c (length (batch_rows s.fields bs))) ≡ true → HasAllRows c (table_of_batches s bs)
 enough all s bs h = absurd cc
 enough (slice o n) s bs h = let e = eqb-true (n - (length (batch_rows s.fields bs) - o)) 0 h in omega (arith, e)
