@@ -2,7 +2,8 @@
 //!
 //! `rt try --test --fail-alloc FAILED` fails one allocation of each test, the one of the number `FAILED`. The test of allocation
 //! n of a scenario first allocates and frees `FAILED - n` blocks, so that allocation n of the scenario fails. The call that made
-//! it returns `Memory` and changes nothing, the same call succeeds when it is made again, and the result is the right one.
+//! it returns `Memory` and changes nothing, the same call succeeds when it is made again, and the result is the right one. If the
+//! scenario makes fewer than n allocations, one of the n blocks after it fails, and so does the test.
 //!
 //! The folders `failed_allocations_NAME` have the scenarios. Their module `allocations` has a test for each scenario, which
 //! states how many allocations it makes. `scripts/test` adds a test for each of these allocations.
@@ -16,8 +17,8 @@ use failures::{Failure, Failures, expect};
 use std::alloc::{AllocError, Global};
 use std::process::Abort;
 
-/// The number of the allocation of a test that fails, the first being 1.
-const FAILED: usize = 1000;
+/// The number of the allocation of a test that fails, the first being 1. No scenario makes as many.
+const FAILED: usize = 600;
 
 /// Allocates blocks, and frees each before the next.
 fn allocate(alloc: Global, count: usize) -> Result<(), AllocError> {
@@ -36,7 +37,7 @@ fn run_failing<F: FnOnce(&mut Failures, Global) -> Result<(), Failure>>(
     let before = allocate(alloc, FAILED.saturating_sub(number));
     expect(before.is_ok(), "an allocation before the scenario")?;
     scenario(&mut Failures::new(), alloc)?;
-    let after = allocate(alloc, FAILED);
+    let after = allocate(alloc, number);
     expect(after.is_ok(), "an allocation after the scenario")
 }
 
