@@ -10,7 +10,9 @@ use crate::dictionary_columns::{
 use crate::dictionary_model::{are_written, is_written, model_of, unread, unwritten, written};
 use crate::samples::{READ_DICTIONARIES, READ_DICTIONARY_FILES, Sample};
 use crate::samples_read::bytes_of;
-use crate::stream_text::{is_file_read, is_read, text_of_file, text_of_stream};
+use crate::stream_text::{
+    is_file_read, is_read, put_parts, read_alike, text_of_file, text_of_stream,
+};
 use ipc::{Batch, read_file, read_stream, write_file, write_stream};
 use ipc_flatbuf::{IpcReadError, IpcWriteError};
 use ipc_schema::Schema;
@@ -296,17 +298,17 @@ fn each_beginning_of_a_file(rt: HostRuntime) {
 
 // Whether what is read of bytes, if anything is, is written and round-trip, or has a reason not to be written.
 fn is_decoded(alloc: Global, bytes: &[u8]) -> Result<bool, IpcReadError> {
-    let Some(read) = is_read(alloc, bytes) else {
+    let Some(read) = read_alike(alloc, bytes) else {
         return Ok(false);
     };
-    if !read {
+    let Ok(stream) = read else {
         return Ok(true);
-    }
-    let stream = read_stream(alloc, bytes)?;
+    };
     match write_stream(alloc, &stream.schema, &stream.batches) {
         Err(why) => Ok(why != IpcWriteError::Memory),
         Ok(again) => {
-            let text = text_of_stream(alloc, &bytes[..stream.read])?;
+            let mut text = String::new(alloc);
+            put_parts(&mut text, &stream.schema, &stream.batches)?;
             Ok(text.as_str() == text_of_stream(alloc, &again)?.as_str())
         }
     }

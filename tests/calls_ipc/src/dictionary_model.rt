@@ -1,8 +1,8 @@
 //! What is written of batches with dictionaries: the messages of it, a plain model of which of them come, and whether it is read
 //! back the same.
 use crate::files::{blocks_of, blocks_of_kind};
-use crate::stream_text::{is_file_read, is_read, slot_text};
-use ipc::{Batch, read_file, read_file_projected, read_stream, write_file, write_stream};
+use crate::stream_text::{read_alike, read_file_alike, slot_text};
+use ipc::{Batch, read_file_projected, write_file, write_stream};
 use ipc_flatbuf::batch::read_batch;
 use ipc_flatbuf::message::{Message, MessageKind, next_message};
 use ipc_flatbuf::{IpcReadError, IpcWriteError, i64_field, read_table, u8_field};
@@ -232,12 +232,14 @@ fn is_stream_of(
     schema: &Schema,
     batches: &[Batch],
 ) -> Result<bool, IpcReadError> {
-    let stream = read_stream(alloc, bytes)?;
+    let Some(read) = read_alike(alloc, bytes) else {
+        return Ok(false);
+    };
+    let stream = read?;
     Ok(
         stream.read == bytes.len()
             && stream.schema.fields == schema.fields
-            && are_same(&stream.batches, batches)
-            && is_read(alloc, bytes) == Some(true),
+            && are_same(&stream.batches, batches),
     )
 }
 
@@ -273,11 +275,13 @@ fn is_file_of(
     schema: &Schema,
     batches: &[Batch],
 ) -> Result<bool, IpcReadError> {
-    let file = read_file(alloc, bytes)?;
+    let Some(read) = read_file_alike(alloc, bytes) else {
+        return Ok(false);
+    };
+    let file = read?;
     Ok(
         file.schema.fields == schema.fields
             && are_same(&file.batches, batches)
-            && is_file_read(alloc, bytes) == Some(true)
             && is_by_columns(alloc, bytes, batches)?
             && names_all(alloc, bytes)?,
     )

@@ -8,9 +8,9 @@ use crate::dictionary_columns::any_keys;
 use crate::dictionary_model::{are_same, unread, unwritten};
 use crate::random_dictionaries::random_dictionary_type;
 use crate::schemas::{count_dictionaries, wanted_of};
-use crate::stream_text::{is_file_read, is_read};
+use crate::stream_text::{read_alike, read_file_alike};
 use ipc::dictionaries::pending_dictionaries;
-use ipc::{Batch, read_file, read_stream, read_stream_projected};
+use ipc::{Batch, read_stream_projected};
 use ipc_schema::{Projection, Schema, write_schema_with_dictionaries};
 use nest_array::DictionaryArray;
 use nest_array::any::AnyArray;
@@ -196,8 +196,11 @@ fn is_stream_of(
     columns: &[Delta],
     batches: &[Batch],
 ) -> Result<bool, Error> {
-    let stream = read_stream(alloc, bytes).map_err(unread)?;
-    if !are_same(&stream.batches, batches) || is_read(alloc, bytes) != Some(true) {
+    let Some(read) = read_alike(alloc, bytes) else {
+        return Ok(false);
+    };
+    let stream = read.map_err(unread)?;
+    if !are_same(&stream.batches, batches) {
         return Ok(false);
     }
     for k in 0..PARTS {
@@ -223,8 +226,11 @@ fn is_file_of(
     columns: &[Delta],
     batches: &[Batch],
 ) -> Result<bool, Error> {
-    let file = read_file(alloc, bytes).map_err(unread)?;
-    if !are_same(&file.batches, batches) || is_file_read(alloc, bytes) != Some(true) {
+    let Some(read) = read_file_alike(alloc, bytes) else {
+        return Ok(false);
+    };
+    let file = read.map_err(unread)?;
+    if !are_same(&file.batches, batches) {
         return Ok(false);
     }
     for k in 0..PARTS {

@@ -1,6 +1,6 @@
 //! What a reader returns, as the text that is beside the samples.
 use crate::schema_text::put_schema;
-use ipc::{Batch, SliceFileReader, SliceStreamReader, read_file, read_stream};
+use ipc::{Batch, File, SliceFileReader, SliceStreamReader, Stream, read_file, read_stream};
 use ipc_flatbuf::IpcReadError;
 use ipc_io::{FileReader, ReadError};
 use ipc_schema::Schema;
@@ -202,24 +202,33 @@ fn put_read(text: &mut String, alloc: Global, bytes: &[u8]) -> Result<(), IpcRea
     Ok(())
 }
 
-fn put_array(text: &mut String, alloc: Global, bytes: &[u8]) -> Result<(), IpcReadError> {
-    let stream = read_stream(alloc, bytes)?;
-    for batch in &stream.batches {
-        append_batch(text, batch)?;
+fn text_of_batches(alloc: Global, batches: &[Batch]) -> Result<String, IpcReadError> {
+    let mut text = String::new(alloc);
+    for batch in batches {
+        append_batch(&mut text, batch)?;
     }
-    Ok(())
+    Ok(text)
 }
 
-/// Whether the bytes are read, by `read_stream` and by a reader alike: both return the same error, or the same batches. None where
-/// they differ.
-pub fn is_read(alloc: Global, bytes: &[u8]) -> Option<bool> {
+/// What `read_stream` and a reader both return: the same error, or the same batches. None where they differ.
+pub fn read_alike(alloc: Global, bytes: &[u8]) -> Option<Result<Stream, IpcReadError>> {
     let mut one_by_one = String::new(alloc);
-    let mut whole = String::new(alloc);
     let read = put_read(&mut one_by_one, alloc, bytes);
-    if read != put_array(&mut whole, alloc, bytes) || read.is_ok() && one_by_one != whole {
+    let stream = match read_stream(alloc, bytes) {
+        Ok(stream) => stream,
+        Err(failure) if read == Err(failure) => return Some(Err(failure)),
+        Err(_) => return None,
+    };
+    let whole = text_of_batches(alloc, &stream.batches).ok()?;
+    if read.is_err() || one_by_one != whole {
         return None;
     }
-    Some(read.is_ok())
+    Some(Ok(stream))
+}
+
+/// Whether the bytes are read, by `read_stream` and by a reader alike. None where they differ.
+pub fn is_read(alloc: Global, bytes: &[u8]) -> Option<bool> {
+    Some(read_alike(alloc, bytes)?.is_ok())
 }
 
 /// What a file is, or its error.
@@ -251,14 +260,6 @@ fn put_file_read(text: &mut String, alloc: Global, bytes: &[u8]) -> Result<(), I
     put_projected(text, &reader, alloc)
 }
 
-fn put_file(text: &mut String, alloc: Global, bytes: &[u8]) -> Result<(), IpcReadError> {
-    let file = read_file(alloc, bytes)?;
-    for batch in &file.batches {
-        append_batch(text, batch)?;
-    }
-    Ok(())
-}
-
 // The batches that a reader of the bytes as a stream returns, asked for in the same order.
 fn put_device_read(text: &mut String, alloc: Global, bytes: &[u8]) -> Result<(), ReadError> {
     let mut reader = FileReader::new(alloc, Cursor::new(bytes))?;
@@ -284,19 +285,29 @@ fn same_read(
     }
 }
 
-/// Whether a file is read, by `read_file`, by a reader and by a reader of a stream alike. None where they differ.
-pub fn is_file_read(alloc: Global, bytes: &[u8]) -> Option<bool> {
+/// What `read_file`, a reader and a reader of the bytes as `Read` and `Seek` all return: the same error, or the same batches. None where they
+/// differ.
+pub fn read_file_alike(alloc: Global, bytes: &[u8]) -> Option<Result<File, IpcReadError>> {
     let mut one_by_one = String::new(alloc);
-    let mut whole = String::new(alloc);
-    let mut by_device = String::new(alloc);
     let read = put_file_read(&mut one_by_one, alloc, bytes);
-    if read != put_file(&mut whole, alloc, bytes) || read.is_ok() && one_by_one != whole {
+    let mut by_device = String::new(alloc);
+    let device = put_device_read(&mut by_device, alloc, bytes);
+    if !same_read(read, one_by_one.as_str(), device, by_device.as_str()) {
         return None;
     }
-    let device = put_device_read(&mut by_device, alloc, bytes);
-    if same_read(read, one_by_one.as_str(), device, by_device.as_str()) {
-        Some(read.is_ok())
-    } else {
-        None
+    let file = match read_file(alloc, bytes) {
+        Ok(file) => file,
+        Err(failure) if read == Err(failure) => return Some(Err(failure)),
+        Err(_) => return None,
+    };
+    let whole = text_of_batches(alloc, &file.batches).ok()?;
+    if read.is_err() || one_by_one != whole {
+        return None;
     }
+    Some(Ok(file))
+}
+
+/// Whether a file is read, by all three alike. None where they differ.
+pub fn is_file_read(alloc: Global, bytes: &[u8]) -> Option<bool> {
+    Some(read_file_alike(alloc, bytes)?.is_ok())
 }
