@@ -6,18 +6,23 @@ use std::process::Abort;
 
 const KINDS: [Kind; 4] = [Kind::Rows, Kind::Squares, Kind::Noise, Kind::Zeros];
 
-/// Writes a frame and a block of a content, and decodes both. Returns the length of the frame.
+/// Writes a frame of a content and decodes it. Returns its length.
+fn expect_frame(rt: &(impl Abort + AllocGlobal), wanted: &[u8]) -> usize {
+    let frame = encode_frame(rt.alloc(), wanted).expect(rt, "a frame");
+    let found = decode_frame(rt.alloc(), &frame, wanted.len()).expect(rt, "a content");
+    assert!(rt; found.as_slice() == wanted);
+    frame.len()
+}
+
+/// Writes a block and a frame of a content, and decodes both. Returns the length of the frame.
 fn expect_round_trip(rt: &(impl Abort + AllocGlobal), kind: Kind, length: usize) -> usize {
     let wanted = content(rt.alloc(), kind, length).expect(rt, "a content");
-    let frame = encode_frame(rt.alloc(), &wanted).expect(rt, "a frame");
     let mut block = Vec::new(rt.alloc());
     compress_block(rt.alloc(), &mut block, &wanted).expect(rt, "a block");
     let mut out = Vec::new(rt.alloc());
     assert!(rt; decode_block(&mut out, 0, length, &block) == Ok(()));
     assert!(rt; out == wanted);
-    let size = frame.len();
-    assert!(rt; decode_frame(rt.alloc(), &frame, length) == Ok(wanted));
-    size
+    expect_frame(rt, &wanted)
 }
 
 #[test]
@@ -32,9 +37,14 @@ fn sizes_up_to_300(rt: HostRuntime) {
 
 #[test]
 fn several_blocks(rt: HostRuntime) {
-    for length in [65_535usize, 65_536, 70_000, 4_194_304, 4_194_305] {
+    for length in [65_535usize, 65_536, 70_000] {
         assert!(rt; expect_round_trip(&rt, Kind::Zeros, length) < length / 200 + 100);
     }
+    // A frame has one block of up to 4 MiB, and then another.
+    let mut zeros = content(rt.alloc(), Kind::Zeros, 4_194_304).expect(&rt, "a content");
+    assert!(rt; expect_frame(&rt, &zeros) < zeros.len() / 200 + 100);
+    zeros.push(0).expect(&rt, "a content");
+    assert!(rt; expect_frame(&rt, &zeros) < zeros.len() / 200 + 100);
     assert!(rt; expect_round_trip(&rt, Kind::Noise, 70_000) == 70_015);
     assert!(rt; expect_round_trip(&rt, Kind::Squares, 300_000) < 2000);
 }
