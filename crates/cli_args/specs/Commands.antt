@@ -28,14 +28,14 @@ pub record ArgumentsTree : Type 0 where
   pub command : CommandTree
 
 -- what clap finds of a command's own arguments
-abbrev pub rows_in : ArgMatches → List Row
-rows_in m = rows_of (found_of m)
+abbrev pub found_rows : ArgMatches → List Row
+found_rows m = rows_of (found_of m)
 
 -- Of arguments that clap accepts, a required one has a value, and a value that must be an integer is one. The other cases are never used.
 
 -- the value of a required argument
-abbrev pub text_of : Text → List Row → Text
-text_of id found = unwrap_or (first_of id found) []
+abbrev pub argument_text : Text → List Row → Text
+argument_text id found = unwrap_or (first_of id found) []
 
 -- the values of an argument that can have several
 abbrev pub texts_of : Text → List Row → List Text
@@ -45,11 +45,11 @@ abbrev pub is_integer : Text → Bool
 is_integer digits = is_numeral digits && nat_lt (digits_value 10 digits) (2 ^ 64)
 
 -- the integer of 64 bits that the text encodes: digits, after a plus sign or none
-abbrev pub integer_of : Text → ℕ
-integer_of text = if is_integer (without_leading_plus text) then digits_value 10 (without_leading_plus text) else 0
+abbrev pub argument_integer : Text → ℕ
+argument_integer text = if is_integer (without_leading_plus text) then digits_value 10 (without_leading_plus text) else 0
 
 abbrev pub integer_in : Text → List Row → Option ℕ
-integer_in id found = option_map integer_of (first_of id found)
+integer_in id found = option_map argument_integer (first_of id found)
 
 abbrev pub required_integer : Text → List Row → ℕ
 required_integer id found = unwrap_or (integer_in id found) 0
@@ -67,20 +67,20 @@ selection_of name found =
     if bytes_eq name (codes "rows") then Some (rows_selection (integer_in (codes "START") found) (integer_in (codes "COUNT") found))
     else if bytes_eq name (codes "head") then Some (slice 0 (required_integer (codes "COUNT") found))
     else if bytes_eq name (codes "slice") then Some (slice (required_integer (codes "START") found) (required_integer (codes "COUNT") found))
-    else if bytes_eq name (codes "take") then Some (indices (map integer_of (texts_of (codes "INDEX") found)))
-    else if bytes_eq name (codes "where") then Some (where_true (named (text_of (codes "COLUMN") found)))
+    else if bytes_eq name (codes "take") then Some (indices (map argument_integer (texts_of (codes "INDEX") found)))
+    else if bytes_eq name (codes "where") then Some (where_true (named (argument_text (codes "COLUMN") found)))
     else None
 
 abbrev pub select_of : Text → List Row → Option CommandTree
-select_of name found = option_map (λ s. select (text_of (codes "FILE") found) s (first_of (codes "OUT") found)) (selection_of name found)
+select_of name found = option_map (λ s. select (argument_text (codes "FILE") found) s (first_of (codes "OUT") found)) (selection_of name found)
 
 abbrev pub command_of : Text → List Row → Option CommandTree
 command_of name found =
-    if bytes_eq name (codes "schema") then Some (schema (text_of (codes "FILE") found))
-    else if bytes_eq name (codes "equal") then Some (equal (text_of (codes "FILE") found) (text_of (codes "OTHER") found))
-    else if bytes_eq name (codes "concat") then Some (concat (texts_of (codes "FILE") found) (text_of (codes "OUT") found))
-    else if bytes_eq name (codes "convert") then Some (convert (text_of (codes "FILE") found) (text_of (codes "OUT") found))
-    else if bytes_eq name (codes "from-json") then Some (from_json (text_of (codes "TYPE") found) (text_of (codes "LINES") found) (text_of (codes "OUT") found))
+    if bytes_eq name (codes "schema") then Some (schema (argument_text (codes "FILE") found))
+    else if bytes_eq name (codes "equal") then Some (equal (argument_text (codes "FILE") found) (argument_text (codes "OTHER") found))
+    else if bytes_eq name (codes "concat") then Some (concat (texts_of (codes "FILE") found) (argument_text (codes "OUT") found))
+    else if bytes_eq name (codes "convert") then Some (convert (argument_text (codes "FILE") found) (argument_text (codes "OUT") found))
+    else if bytes_eq name (codes "from-json") then Some (from_json (argument_text (codes "TYPE") found) (argument_text (codes "LINES") found) (argument_text (codes "OUT") found))
     else select_of name found
 
 abbrev pub arguments_in : Text → List Row → Option ArgumentsTree

@@ -4,7 +4,7 @@ ghost use Rattle.clap.specs.Faults.{fault_of};
 ghost use Rattle.clap.specs.Kinds.{FailsBy, HasKind};
 ghost use Rattle.clap.specs.Words.{subcommand_of, subcommand_rows_of};
 ghost use Rattle.cli_args.specs.CommandLine.{nest_app};
-ghost use Rattle.cli_args.specs.Commands.{arguments_found, arguments_in, arguments_of, command_of, concat, rows_in, rows_selection, select_of, selection_of, text_of, texts_of};
+ghost use Rattle.cli_args.specs.Commands.{arguments_found, arguments_in, arguments_of, command_of, concat, found_rows, rows_selection, select_of, selection_of, argument_text, texts_of};
 ghost use Rattle.cli_args.specs.CommandTrees.{arguments_tree, command_tree};
 ghost use Rattle.cli_args.specs.Requests.{named, where_true};
 ghost use Rattle.cli_args.specs.RequestTrees.{selection_tree};
@@ -42,7 +42,7 @@ fn selection_named(
     name: &str,
     matches: &ArgMatches<'_>,
 ) -> Result<Option<Selection>, AllocError>
-    ensures { IfOk result (λ s. option_map selection_tree s ≡ selection_of name.now (rows_in matches.now)) }
+    ensures { IfOk result (λ s. option_map selection_tree s ≡ selection_of name.now (found_rows matches.now)) }
 {
     if name == "rows" {
         let start = integer(matches, "START");
@@ -68,7 +68,7 @@ fn select_named<'a>(
     name: &str,
     matches: &ArgMatches<'a>,
 ) -> Result<Option<Command<'a>>, AllocError>
-    ensures { IfOk result (λ c. option_map command_tree c ≡ select_of name.now (rows_in matches.now)) }
+    ensures { IfOk result (λ c. option_map command_tree c ≡ select_of name.now (found_rows matches.now)) }
 {
     let file = text(matches, "FILE");
     let out = value(matches, "OUT");
@@ -80,7 +80,7 @@ fn select_named<'a>(
 }
 
 fn concat_of<'a>(alloc: Global, matches: &ArgMatches<'a>) -> Result<Command<'a>, AllocError>
-    ensures { IfOk result (λ c. command_tree c ≡ concat (texts_of (codes "FILE") (rows_in matches.now)) (text_of (codes "OUT") (rows_in matches.now))) }
+    ensures { IfOk result (λ c. command_tree c ≡ concat (texts_of (codes "FILE") (found_rows matches.now)) (argument_text (codes "OUT") (found_rows matches.now))) }
 {
     let out = text(matches, "OUT");
     match texts(alloc, matches, "FILE") {
@@ -90,9 +90,9 @@ fn concat_of<'a>(alloc: Global, matches: &ArgMatches<'a>) -> Result<Command<'a>,
 }
 
 fn import_of<'a>(matches: &ArgMatches<'a>) -> ImportRequest<'a>
-    ensures row_type { result.row_type.now ≡ text_of (codes "TYPE") (rows_in matches.now) }
-    ensures input { result.input.now ≡ text_of (codes "LINES") (rows_in matches.now) }
-    ensures output { result.output.now ≡ text_of (codes "OUT") (rows_in matches.now) }
+    ensures row_type { result.row_type.now ≡ argument_text (codes "TYPE") (found_rows matches.now) }
+    ensures input { result.input.now ≡ argument_text (codes "LINES") (found_rows matches.now) }
+    ensures output { result.output.now ≡ argument_text (codes "OUT") (found_rows matches.now) }
 {
     ImportRequest {
         row_type: text(matches, "TYPE"),
@@ -107,7 +107,7 @@ fn command_named<'a>(
     name: &str,
     matches: &ArgMatches<'a>,
 ) -> Result<Option<Command<'a>>, AllocError>
-    ensures { IfOk result (λ c. option_map command_tree c ≡ command_of name.now (rows_in matches.now)) }
+    ensures { IfOk result (λ c. option_map command_tree c ≡ command_of name.now (found_rows matches.now)) }
 {
     let file = text(matches, "FILE");
     if name == "schema" {
@@ -133,7 +133,7 @@ fn arguments_named<'a>(
     name: &str,
     matches: &ArgMatches<'a>,
 ) -> Result<Option<Arguments<'a>>, AllocError>
-    ensures { IfOk result (λ a. option_map arguments_tree a ≡ arguments_in name.now (rows_in matches.now)) }
+    ensures { IfOk result (λ a. option_map arguments_tree a ≡ arguments_in name.now (found_rows matches.now)) }
 {
     let columns = value(matches, "NAMES");
     match command_named(alloc, name, matches) {

@@ -1,21 +1,21 @@
 //! The values of a command's arguments, as clap finds them.
 ghost use Rattle.std.specs.Prelude.{◌≡◌, IfOk, codes, map, option_map};
 ghost use Rattle.clap.specs.Words.{first_of};
-ghost use Rattle.cli_args.specs.Commands.{integer_in, integer_of, required_integer, rows_in, text_of, texts_of};
+ghost use Rattle.cli_args.specs.Commands.{integer_in, argument_integer, required_integer, found_rows, argument_text, texts_of};
 
 use clap::ArgMatches;
 use std::alloc::{AllocError, Global};
 
 /// Returns the value of an argument.
 pub(crate) fn value<'a>(matches: &ArgMatches<'a>, id: &str) -> Option<&'a str>
-    ensures { option_map (λ s. s.now) result ≡ first_of id.now (rows_in matches.now) }
+    ensures { option_map (λ s. s.now) result ≡ first_of id.now (found_rows matches.now) }
 {
     matches.get_str(id)
 }
 
 /// Returns the value of a required argument.
 pub(crate) fn text<'a>(matches: &ArgMatches<'a>, id: &str) -> &'a str
-    ensures { result.now ≡ text_of id.now (rows_in matches.now) }
+    ensures { result.now ≡ argument_text id.now (found_rows matches.now) }
 {
     match value(matches, id) {
         Some(text) => text,
@@ -29,7 +29,7 @@ pub(crate) fn texts<'a>(
     matches: &ArgMatches<'a>,
     id: &str,
 ) -> Result<Vec<&'a str>, AllocError>
-    ensures { IfOk result (λ v. map (λ s. s.now) v.items ≡ texts_of id.now (rows_in matches.now)) }
+    ensures { IfOk result (λ v. map (λ s. s.now) v.items ≡ texts_of id.now (found_rows matches.now)) }
 {
     match matches.get_strs(id) {
         Some(texts) => texts.to_vec(alloc),
@@ -38,14 +38,14 @@ pub(crate) fn texts<'a>(
 }
 
 fn parse_integer(text: &str) -> usize
-    ensures { result ≡ integer_of text.now }
+    ensures { result ≡ argument_integer text.now }
 {
     text.parse::<usize>().unwrap_or(0)
 }
 
 /// Returns the value of an argument that is an integer.
 pub(crate) fn integer(matches: &ArgMatches<'_>, id: &str) -> Option<usize>
-    ensures { result ≡ integer_in id.now (rows_in matches.now) }
+    ensures { result ≡ integer_in id.now (found_rows matches.now) }
 {
     match value(matches, id) {
         Some(text) => Some(parse_integer(text)),
@@ -55,7 +55,7 @@ pub(crate) fn integer(matches: &ArgMatches<'_>, id: &str) -> Option<usize>
 
 /// Returns the value of a required argument that is an integer.
 pub(crate) fn required_integer(matches: &ArgMatches<'_>, id: &str) -> usize
-    ensures { result ≡ required_integer id.now (rows_in matches.now) }
+    ensures { result ≡ required_integer id.now (found_rows matches.now) }
 {
     match integer(matches, id) {
         Some(number) => number,
@@ -64,7 +64,7 @@ pub(crate) fn required_integer(matches: &ArgMatches<'_>, id: &str) -> usize
 }
 
 fn parse_integers(alloc: Global, texts: &[&str]) -> Result<Vec<usize>, AllocError>
-    ensures { IfOk result (λ v. v.items ≡ map integer_of (map (λ t. t.now) texts.now)) }
+    ensures { IfOk result (λ v. v.items ≡ map argument_integer (map (λ t. t.now) texts.now)) }
 {
     let mut integers = Vec::new(alloc);
     for text in texts {
@@ -75,7 +75,7 @@ fn parse_integers(alloc: Global, texts: &[&str]) -> Result<Vec<usize>, AllocErro
 
 /// Returns the indices of `take`.
 pub(crate) fn indices(alloc: Global, matches: &ArgMatches<'_>) -> Result<Vec<usize>, AllocError>
-    ensures { IfOk result (λ v. v.items ≡ map integer_of (texts_of (codes "INDEX") (rows_in matches.now))) }
+    ensures { IfOk result (λ v. v.items ≡ map argument_integer (texts_of (codes "INDEX") (found_rows matches.now))) }
 {
     match texts(alloc, matches, "INDEX") {
         Ok(texts) => parse_integers(alloc, &texts),

@@ -14,8 +14,8 @@ use Rattle.ipc.specs.Files.{SliceFileReaderTree, batches_at, batches_of_file, bl
 use Rattle.cli_args.specs.Requests.{RequestTree}
 use Rattle.cli_rows.specs.Tables.{TableTree, decoded_table, table_of_file, table_of_stream, is_file_prefix}
 use Rattle.cli_rows.specs.Output.{printed_text}
-use Rattle.cli_read.specs.Decoded.{first_of_file, first_of_stream, table_with, decoded_file, decoded_stream}
-use Rattle.cli_read.specs.Printed.{IsSufficient}
+use Rattle.cli_read.specs.Decoded.{first_of_file, first_of_stream, table_with, file_contents, stream_contents}
+use Rattle.cli_read.specs.Printed.{HasRowsToPrint}
 use Rattle.cli_read.specs.RowBuffers.{table_of_batches}
 use Rattle.cli_read.proofs.SelectedRows.{enough-is-all}
 
@@ -119,7 +119,7 @@ behind-schema : (bytes : List ℕ) (read : Result (ProjectedSchemaModel × List 
 behind-schema bytes (Ok p) = stream-held p.0.schema (length bytes) (batches_in (start p.0) p.1)
 behind-schema bytes (Err error) = refl
 
-pub stream-whole : (picks : ProjectionModel) (bytes : List ℕ) → (decoded_stream picks bytes).whole ≡ (reader_in picks bytes >>= λ r. table_with r.state.picked.schema (batches_of r))
+pub stream-whole : (picks : ProjectionModel) (bytes : List ℕ) → (stream_contents picks bytes).whole ≡ (reader_in picks bytes >>= λ r. table_with r.state.picked.schema (batches_of r))
 unfolding projected_stream_in reader_in
 stream-whole picks bytes = behind-schema bytes (stream_projected_schema_at picks bytes)
 
@@ -132,7 +132,7 @@ file-behind : (read : Result SliceFileReaderTree IpcReadError)
 file-behind (Ok r) = file-held r.state.picked.schema (batches_of_file r)
 file-behind (Err error) = refl
 
-pub file-whole : (picks : ProjectionModel) (bytes : List ℕ) → (decoded_file picks bytes).whole ≡ (file_reader_in picks bytes >>= λ r. table_with r.state.picked.schema (batches_of_file r))
+pub file-whole : (picks : ProjectionModel) (bytes : List ℕ) → (file_contents picks bytes).whole ≡ (file_reader_in picks bytes >>= λ r. table_with r.state.picked.schema (batches_of_file r))
 unfolding projected_file_in
 file-whole picks bytes = file-behind (file_reader_in picks bytes)
 
@@ -144,11 +144,11 @@ else-second : {A : Type 0} (b : Bool) (x y : A) → b ≡ false → y ≡ (if b 
 else-second true x y e = absurd cc
 else-second false x y e = refl
 
-pub file-is-held : (picks : ProjectionModel) (bytes : List ℕ) → is_file_prefix bytes ≡ true → (decoded_file picks bytes).whole ≡ decoded_table picks bytes
-file-is-held picks bytes e = then-first (is_file_prefix bytes) (decoded_file picks bytes).whole (decoded_stream picks bytes).whole e
+pub file-is-held : (picks : ProjectionModel) (bytes : List ℕ) → is_file_prefix bytes ≡ true → (file_contents picks bytes).whole ≡ decoded_table picks bytes
+file-is-held picks bytes e = then-first (is_file_prefix bytes) (file_contents picks bytes).whole (stream_contents picks bytes).whole e
 
-pub stream-is-held : (picks : ProjectionModel) (bytes : List ℕ) → is_file_prefix bytes ≡ false → (decoded_stream picks bytes).whole ≡ decoded_table picks bytes
-stream-is-held picks bytes e = else-second (is_file_prefix bytes) (decoded_file picks bytes).whole (decoded_stream picks bytes).whole e
+pub stream-is-held : (picks : ProjectionModel) (bytes : List ℕ) → is_file_prefix bytes ≡ false → (stream_contents picks bytes).whole ≡ decoded_table picks bytes
+stream-is-held picks bytes e = else-second (is_file_prefix bytes) (file_contents picks bytes).whole (stream_contents picks bytes).whole e
 
 stream-by : (k : ℕ) (read : Result SliceStreamReaderTree IpcReadError) → AreFirstHeld k (read >>= λ r. table_with r.state.picked.schema (first_of_stream k r)) (read >>= λ r. table_with r.state.picked.schema (batches_of r))
 stream-by k (Ok r) = held-first k r.state.picked.schema (first_of_stream k r) (batches_of r) (of-stream k r)
@@ -158,16 +158,16 @@ file-by : (k : ℕ) (read : Result SliceFileReaderTree IpcReadError) → AreFirs
 file-by k (Ok r) = held-first k r.state.picked.schema (first_of_file k r) (batches_of_file r) (of-file k r.state r.bytes r.blocks)
 file-by k (Err error) = failed-held k error
 
-pub in-stream : (picks : ProjectionModel) (bytes : List ℕ) (k : ℕ) → AreFirstHeld k ((decoded_stream picks bytes).first k) (decoded_stream picks bytes).whole
-in-stream picks bytes k = subst (AreFirstHeld k ((decoded_stream picks bytes).first k)) (sym (stream-whole picks bytes)) (stream-by k (reader_in picks bytes))
+pub in-stream : (picks : ProjectionModel) (bytes : List ℕ) (k : ℕ) → AreFirstHeld k ((stream_contents picks bytes).first k) (stream_contents picks bytes).whole
+in-stream picks bytes k = subst (AreFirstHeld k ((stream_contents picks bytes).first k)) (sym (stream-whole picks bytes)) (stream-by k (reader_in picks bytes))
 
-pub in-file : (picks : ProjectionModel) (bytes : List ℕ) (k : ℕ) → AreFirstHeld k ((decoded_file picks bytes).first k) (decoded_file picks bytes).whole
-in-file picks bytes k = subst (AreFirstHeld k ((decoded_file picks bytes).first k)) (sym (file-whole picks bytes)) (file-by k (file_reader_in picks bytes))
+pub in-file : (picks : ProjectionModel) (bytes : List ℕ) (k : ℕ) → AreFirstHeld k ((file_contents picks bytes).first k) (file_contents picks bytes).whole
+in-file picks bytes k = subst (AreFirstHeld k ((file_contents picks bytes).first k)) (sym (file-whole picks bytes)) (file-by k (file_reader_in picks bytes))
 
-pub enough-held : (q : RequestTree) (k : ℕ) (first whole : Result TableTree IpcReadError) (h : TableTree) → AreFirstHeld k first whole → whole ≡ Ok h → IsSufficient q first → printed_text q first ≡ printed_text q (Ok h)
+pub enough-held : (q : RequestTree) (k : ℕ) (first whole : Result TableTree IpcReadError) (h : TableTree) → AreFirstHeld k first whole → whole ≡ Ok h → HasRowsToPrint q first → printed_text q first ≡ printed_text q (Ok h)
 enough-held q k first whole h are is has =
     let e = are.some h is in
     let same = take-append-drop k h.batches in
     ap (printed_text q) e
-    ∙ enough-is-all q h.schema (take k h.batches) (drop k h.batches) (subst (IsSufficient q) e has)
+    ∙ enough-is-all q h.schema (take k h.batches) (drop k h.batches) (subst (HasRowsToPrint q) e has)
     ∙ ap (λ (bs : List RecordBatchTree). printed_text q (Ok (table_of_batches h.schema bs))) same

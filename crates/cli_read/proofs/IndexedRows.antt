@@ -7,7 +7,7 @@ use Rattle.std.proofs.lemmas.List.{get_or-drop, take_all}
 use Rattle.std.proofs.lemmas.List.Elements.{All-from_recursion, recursion_from_All}
 use Rattle.std.proofs.lemmas.List.Sorted.{All-permutation, IsPermutation-sym}
 use Rattle.cli_rows.specs.Rows.{rows_at_indices}
-use Rattle.cli_read.specs.Indices.{ArePositions, AreIndicesInBatch}
+use Rattle.cli_read.specs.Indices.{HaveRanks, AreIndicesInBatch}
 use Rattle.cli_read.proofs.Positions.{all-both}
 use Rattle.cli_read.proofs.RowsAtIndices.{rows-behind, rows-both, rows-front, rows-ranked}
 
@@ -116,7 +116,7 @@ module _ {X : Type 0} where
             omega (arith, behind, here, both, at, is);
       }
 
-  pub ranked : (xs : List X) (wanted risen rs : List ℕ) (next : ℕ) (taken out : List X) → IsPermutation wanted risen → length risen ≤ next → AreThere (length xs) (take next risen) → taken ≡ rows_at_indices xs (take next risen) → ArePositions risen wanted rs
+  pub ranked : (xs : List X) (wanted risen rs : List ℕ) (next : ℕ) (taken out : List X) → IsPermutation wanted risen → length risen ≤ next → AreThere (length xs) (take next risen) → taken ≡ rows_at_indices xs (take next risen) → HaveRanks risen wanted rs
       → at_places rs taken ≡ Some out → at_places wanted xs ≡ Some out
   ranked xs wanted risen rs next taken out same over there are r some =
       let whole : take next risen ≡ risen = take_all next risen over in

@@ -12,8 +12,8 @@ use Rattle.cli_rows.specs.declared.error.BatchError.{BatchError}
 use Rattle.cli_rows.specs.declared.error.CliError.{CliError}
 use Rattle.cli_rows.specs.declared.error.CliError.TheVariants.{Input, Read, Write, MismatchedColumns, IndexOutOfRange, UnknownColumn, NotBoolean, Output, Memory}
 use Rattle.cli_read.specs.Decoded.{Decoded, table_with}
-use Rattle.cli_read.specs.Printed.{FailsAt, FailsWith, IsSufficient, Prints, WritesText}
-use Rattle.cli_read.specs.Remaining.{FailsNext, FailsToOpen, IsOpened, IsReadFailure, Remaining, ReturnsNext, StartsEmpty, with_schema}
+use Rattle.cli_read.specs.Printed.{FailsWhilePrinting, FailsWith, HasRowsToPrint, Prints, WritesText}
+use Rattle.cli_read.specs.Remaining.{FailsToReadNext, FailsToOpen, IsOpened, IsReadErrorOf, Remaining, ReturnsNext, StartsEmpty, with_schema}
 use Rattle.cli_read.specs.RemainingRequests.{IsRequestInRowOrder, batch_table, is_complete_request, remaining_request, table_row_count}
 use Rattle.cli_read.specs.RowBuffers.{IsAfter, prepended, table_of_batches}
 use Rattle.cli_read.proofs.RequestSteps.{Going, begun, gone-on, halted, is-enough, is-not-enough, wrote-first}
@@ -41,7 +41,7 @@ complete q left s k None u old new w e = tt
 complete q left s k (Some t) None old new w e = absurd w
 complete q left s k (Some t) (Some u) old new (bs, at, going) e =
     let is = held-is s bs (t.first k) (behind-first t u k bs at) in
-    (k, subst (λ read. WritesText q read old new) is (wrote-first q left s bs old new going), inr (subst (IsSufficient q) is (is-enough q left s bs old new going e)))
+    (k, subst (λ read. WritesText q read old new) is (wrote-first q left s bs old new going), inr (subst (HasRowsToPrint q) is (is-enough q left s bs old new going e)))
 
 pub at-end : (q left : RequestTree) (s : SchemaModel) (k : ℕ) (t u v : Option Remaining) (old new : Option (List ℕ)) → PrintState q left s k t u old new → ReturnsNext u v None → Prints q (option_map (with_schema s) t) (Ok tt) old new
 at-end q left s k None u v old new w n = tt
@@ -53,11 +53,11 @@ at-end q left s k (Some t) (Some u) (Some v) old new (bs, at, going) n =
     (k, subst (λ read. WritesText q read old new) first (wrote-first q left s bs old new going), inl (sym first ∙ whole))
 
 stopped : (error : CliError) (q left : RequestTree) (s : SchemaModel) (k : ℕ) (t u : Remaining) (bs : List RecordBatchTree) (old new mid : Option (List ℕ)) → IsAfter t k bs u → Going q left s bs old mid → is_complete_request left ≡ false
-    → FailsWith error q ((with_schema s t).first (k + 1)) (WritesText q (Ok (table_of_batches s bs)) old new) old new → FailsAt q (with_schema s t) (Some k) error old new
+    → FailsWith error q ((with_schema s t).first (k + 1)) (WritesText q (Ok (table_of_batches s bs)) old new) old new → FailsWhilePrinting q (with_schema s t) (Some k) error old new
 stopped error q left s k t u bs old new mid at going e h =
     let is = held-is s bs (t.first k) (behind-first t u k bs at) in (
       subst (λ read. FailsWith error q ((with_schema s t).first (k + 1)) (WritesText q read old new) old new) is h,
-      subst (λ read. IsSufficient q read → ⊥) is (is-not-enough q left s bs old mid going e),
+      subst (λ read. HasRowsToPrint q read → ⊥) is (is-not-enough q left s bs old mid going e),
     )
 
 pub batch-printed : (q left next : RequestTree) (s : SchemaModel) (k : ℕ) (t u v : Option Remaining) (old mid new : Option (List ℕ)) (b : RecordBatchTree) → PrintState q left s k t u old mid → is_complete_request left ≡ false → ReturnsNext u v (Some b)
@@ -76,7 +76,7 @@ batch-fails q left s k (Some t) (Some u) (Some v) old mid new b error (bs, at, g
     let next = held-is s (bs ++ b ∷ []) (t.first (k + 1)) (behind-first t v (k + 1) (bs ++ b ∷ []) (behind-more t u v k bs b at n)) in
     stopped error q left s k t u bs old new mid at going e (subst (λ read. FailsWith error q read (WritesText q (Ok (table_of_batches s bs)) old new) old new) next (halted error q left s bs old mid new b going e h))
 
-fails-next : (error : CliError) (q : RequestTree) (s : SchemaModel) (t u : Remaining) (k : ℕ) (bs : List RecordBatchTree) (Earlier : Type 0) (old new : Option (List ℕ)) → IsAfter t k bs u → IsReadFailure error (u.first 1) → Earlier
+fails-next : (error : CliError) (q : RequestTree) (s : SchemaModel) (t u : Remaining) (k : ℕ) (bs : List RecordBatchTree) (Earlier : Type 0) (old new : Option (List ℕ)) → IsAfter t k bs u → IsReadErrorOf error (u.first 1) → Earlier
     → FailsWith error q ((with_schema s t).first (k + 1)) Earlier old new
 fails-next Input q s t u k bs Earlier old new at h earlier = earlier
 fails-next (Read error) q s t u k bs Earlier old new at h earlier = (earlier, λ real. ap (table_with s) (at.first 1 ∙ ap (prepended bs) (h real)))
@@ -88,7 +88,7 @@ fails-next NotBoolean q s t u k bs Earlier old new at h earlier = absurd h
 fails-next Output q s t u k bs Earlier old new at h earlier = absurd h
 fails-next Memory q s t u k bs Earlier old new at h earlier = absurd h
 
-pub batch-unread : (q left : RequestTree) (s : SchemaModel) (k : ℕ) (t u : Option Remaining) (old new : Option (List ℕ)) (error : CliError) → PrintState q left s k t u old new → is_complete_request left ≡ false → FailsNext error u
+pub batch-unread : (q left : RequestTree) (s : SchemaModel) (k : ℕ) (t u : Option Remaining) (old new : Option (List ℕ)) (error : CliError) → PrintState q left s k t u old new → is_complete_request left ≡ false → FailsToReadNext error u
     → Prints q (option_map (with_schema s) t) (Err (record { batch = Some k; error = error })) old new
 batch-unread q left s k None u old new error w e h = tt
 batch-unread q left s k (Some t) None old new error w e h = absurd w
@@ -105,7 +105,7 @@ opened q None s t result old new h a = tt
 opened q (Some x) s None result old new h a = absurd h
 opened q (Some x) s (Some t) result old new h a = subst (λ (z : Decoded). Prints q (Some z) result old new) (sym h) a
 
-unopened-by : (error : CliError) (q : RequestTree) (x : Decoded) (old : Option (List ℕ)) → IsReadFailure error (x.first 0) → FailsWith error q (x.first 0) (Keeps old old) old old
+unopened-by : (error : CliError) (q : RequestTree) (x : Decoded) (old : Option (List ℕ)) → IsReadErrorOf error (x.first 0) → FailsWith error q (x.first 0) (Keeps old old) old old
 unopened-by Input q x old h = Keeps-refl old
 unopened-by (Read error) q x old h = (Keeps-refl old, h)
 unopened-by (Write why) q x old h = absurd h

@@ -17,11 +17,11 @@ use Rattle.ipc_io.specs.declared.error.ReadError.{ReadError}
 use Rattle.ipc_io.specs.declared.error.ReadError.TheVariants.{Ipc as Unread, Io}
 use Rattle.ipc_io.specs.FileReaders.{DecodesAs as Read, FileReaderTree, as_batch, bytes_of, of_bytes}
 use Rattle.ipc_io.specs.StreamReaders.{StreamReaderTree, FailsNext as FailsReaderNext, ReadsNext, Opens, DecodesNext, DecodesReader, as_slice_reader}
-use Rattle.cli_read.specs.Decoded.{first_of_stream, decoded_file, decoded_stream}
+use Rattle.cli_read.specs.Decoded.{first_of_stream, file_contents, stream_contents}
 use Rattle.cli_rows.specs.Errors.{read_error}
 use Rattle.cli_read.proofs.FileBatches as files
 use Rattle.cli_read.proofs.StreamBatches as streams
-use Rattle.cli_read.specs.Remaining.{FailsNext, ReturnsNext, StartsEmpty, IsOpened, Advances, remaining_in_file, remaining_in_stream, with_schema}
+use Rattle.cli_read.specs.Remaining.{FailsToReadNext, ReturnsNext, StartsEmpty, IsOpened, Advances, remaining_in_file, remaining_in_stream, with_schema}
 use Rattle.cli_read.specs.Readers.{remaining_batches}
 use Rattle.cli_read.specs.declared.reader.BatchReader.{BatchReader}
 use Rattle.cli_read.specs.declared.reader.BatchReader.TheVariants.{File, Stream}
@@ -39,26 +39,26 @@ stream-next None v next h = tt
 stream-next (Some u) None next h = absurd h
 stream-next (Some u) (Some v) next h = step-of u v next h
 
-stream-error : (error : formats.IpcReadError) (u : Option SliceStreamReaderTree) → FailsReaderNext error u → FailsNext (read_error (Unread error)) (option_map remaining_in_stream u)
+stream-error : (error : formats.IpcReadError) (u : Option SliceStreamReaderTree) → FailsReaderNext error u → FailsToReadNext (read_error (Unread error)) (option_map remaining_in_stream u)
 stream-error error None h = tt
 stream-error error (Some u) h = λ real. streams.first-fails 0 u error (h real)
 
 module _ {R : Type 0} (remaining : R → Option (List ℕ)) where
-  pub stream-fails : (old new : StreamReaderTree R) (e : ReadError) → ReadsNext remaining old new (Err e) → FailsNext (read_error e) (option_map remaining_in_stream (as_slice_reader remaining old))
+  pub stream-fails : (old new : StreamReaderTree R) (e : ReadError) → ReadsNext remaining old new (Err e) → FailsToReadNext (read_error e) (option_map remaining_in_stream (as_slice_reader remaining old))
   stream-fails old new (Unread error) goes = stream-error error (as_slice_reader remaining old) goes.0
   stream-fails old new (Io e) goes = no-error (as_slice_reader remaining old)
     where
-      no-error : (u : Option SliceStreamReaderTree) → FailsNext (read_error (Io e)) (option_map remaining_in_stream u)
+      no-error : (u : Option SliceStreamReaderTree) → FailsToReadNext (read_error (Io e)) (option_map remaining_in_stream u)
       no-error None = tt
       no-error (Some u) = tt
 
-opened : (picks : ProjectionModel) (known : Option (List ℕ)) (u : Option SliceStreamReaderTree) (s : SchemaModel) → DecodesReader picks known u → ((t : SliceStreamReaderTree) → u ≡ Some t → s ≡ t.state.picked.schema) → IsOpened (option_map (decoded_stream picks) known) s (option_map remaining_in_stream u)
+opened : (picks : ProjectionModel) (known : Option (List ℕ)) (u : Option SliceStreamReaderTree) (s : SchemaModel) → DecodesReader picks known u → ((t : SliceStreamReaderTree) → u ≡ Some t → s ≡ t.state.picked.schema) → IsOpened (option_map (stream_contents picks) known) s (option_map remaining_in_stream u)
 opened picks None u s h same = tt
 opened picks (Some bytes) None s h same = absurd h
 opened picks (Some bytes) (Some t) s h same = streams.spelled-is picks bytes t h ∙ ap (λ (x : SchemaModel). with_schema x (remaining_in_stream t)) (sym (same t refl))
 
 module _ {R : Type 0} (remaining : R → Option (List ℕ)) where
-  pub stream-opened : (picks : ProjectionModel) (device : R) (r : StreamReaderTree R) → Opens remaining picks device (Ok r) → IsOpened (option_map (decoded_stream picks) (remaining device)) r.state.picked.schema (option_map remaining_in_stream (as_slice_reader remaining r))
+  pub stream-opened : (picks : ProjectionModel) (device : R) (r : StreamReaderTree R) → Opens remaining picks device (Ok r) → IsOpened (option_map (stream_contents picks) (remaining device)) r.state.picked.schema (option_map remaining_in_stream (as_slice_reader remaining r))
   stream-opened picks device r h =
       opened picks (remaining device) (as_slice_reader remaining r) r.state.picked.schema h
       (λ t e. ap (λ (x : StateTree). x.picked.schema) (streams.state-of r.state (if r.over then Some [] else remaining r.inner) t e))
@@ -115,14 +115,14 @@ pub file-end : (s : StateTree) (blocks : List Block) (k : ℕ) (known : Option (
 file-end s blocks k None h = tt
 file-end s blocks k (Some xs) h = ap (λ (l : List Block). batches_at s xs l) (drop_all k blocks h) ∙ no-blocks s xs
 
-pub file-fails : (s : StateTree) (blocks : List Block) (k : ℕ) (known : Option (List ℕ)) (e : ReadError) → k < length blocks → Gave s blocks k known (Err e) → FailsNext (read_error e) (option_map (remaining_in_file s (drop k blocks)) known)
+pub file-fails : (s : StateTree) (blocks : List Block) (k : ℕ) (known : Option (List ℕ)) (e : ReadError) → k < length blocks → Gave s blocks k known (Err e) → FailsToReadNext (read_error e) (option_map (remaining_in_file s (drop k blocks)) known)
 file-fails s blocks k None e h gave = tt
 file-fails s blocks k (Some xs) (Unread error) h gave = λ real.
     ap (λ (l : List Block). batches_at s xs (take 1 l)) (drop_more blocks k no_block h) ∙ fails-first s xs (get_or blocks k no_block) (drop (k + 1) blocks) 0 error (gave real)
 file-fails s blocks k (Some xs) (Io e) h gave = tt
 
 pub file-opened : {R : Type 0} (picks : ProjectionModel) (known now : Option (List ℕ)) (r : FileReaderTree R) → Read of_bytes (file_reader_in picks) known (Ok r) → Keeps known now
-    → IsOpened (option_map (decoded_file picks) known) r.state.picked.schema (option_map (remaining_in_file r.state r.blocks) now)
+    → IsOpened (option_map (file_contents picks) known) r.state.picked.schema (option_map (remaining_in_file r.state r.blocks) now)
 file-opened picks None now r h kept = tt
 file-opened picks (Some xs) None r h kept = absurd kept
 file-opened picks (Some xs) (Some ys) r h kept = files.spelled-is picks xs (of_bytes xs r) h ∙ ap (λ (z : List ℕ). with_schema r.state.picked.schema (remaining_in_file r.state r.blocks z)) (sym kept)

@@ -13,7 +13,7 @@ use Rattle.cli_rows.specs.Output.{printed_text}
 use Rattle.cli_rows.specs.declared.error.CliError.{CliError}
 use Rattle.cli_rows.specs.declared.error.CliError.TheVariants.{Input, Read, Write, MismatchedColumns, IndexOutOfRange, UnknownColumn, NotBoolean, Output, Memory}
 use Rattle.cli_read.specs.RemainingRequests.{IsRequestInRowOrder, batch_table, is_complete_request, remaining_request, table_row_count}
-use Rattle.cli_read.specs.Printed.{FailsWith, IsSufficient, WritesText}
+use Rattle.cli_read.specs.Printed.{FailsWith, HasRowsToPrint, WritesText}
 use Rattle.cli_read.specs.RowBuffers.{table_of_batches}
 use Rattle.cli_read.proofs.SelectedRows.{answer-both, count-append, enough, has-rows, in-order-behind, left-is, left-none, left-twice, no-place, not-enough, query-left}
 
@@ -93,8 +93,8 @@ halted UnknownColumn q left s bs old mid new b g more_asked h = (wrote-kept q le
 halted NotBoolean q left s bs old mid new b g more_asked h = (wrote-kept q left s bs old mid new g h.0, sym (columns-left q left s bs old mid g) ∙ h.1)
 halted Memory q left s bs old mid new b g more_asked h = (wrote-kept q left s bs old mid new g h.0, tt)
 
-pub is-enough : (q left : RequestTree) (s : SchemaModel) (bs : List RecordBatchTree) (old new : Option (List ℕ)) → Going q left s bs old new → is_complete_request left ≡ true → IsSufficient q (Ok (table_of_batches s bs))
+pub is-enough : (q left : RequestTree) (s : SchemaModel) (bs : List RecordBatchTree) (old new : Option (List ℕ)) → Going q left s bs old new → is_complete_request left ≡ true → HasRowsToPrint q (Ok (table_of_batches s bs))
 is-enough q left s bs old new g e = enough q (table_of_batches s bs) (ap is_complete_request (sym g.left_is) ∙ e)
 
-pub is-not-enough : (q left : RequestTree) (s : SchemaModel) (bs : List RecordBatchTree) (old new : Option (List ℕ)) → Going q left s bs old new → is_complete_request left ≡ false → IsSufficient q (Ok (table_of_batches s bs)) → ⊥
+pub is-not-enough : (q left : RequestTree) (s : SchemaModel) (bs : List RecordBatchTree) (old new : Option (List ℕ)) → Going q left s bs old new → is_complete_request left ≡ false → HasRowsToPrint q (Ok (table_of_batches s bs)) → ⊥
 is-not-enough q left s bs old new g e is = not-enough q (table_of_batches s bs) (ap is_complete_request (sym g.left_is) ∙ e) is

@@ -20,9 +20,9 @@ use Rattle.cli_rows.specs.declared.error.CliError.{CliError}
 use Rattle.cli_rows.specs.declared.error.CliError.TheVariants.{Input, Read, Write, MismatchedColumns, IndexOutOfRange, UnknownColumn, NotBoolean, Output, Memory}
 use Rattle.cli_rows.proofs.Resolved.{records-typed, resolved-error, resolved-rows}
 use Rattle.cli_read.specs.Decoded.{table_with}
-use Rattle.cli_read.specs.Printed.{FailsAt, FailsWith, IsSufficient, Prints, WritesText, WritesTextPrefix}
+use Rattle.cli_read.specs.Printed.{FailsWhilePrinting, FailsWith, HasRowsToPrint, Prints, WritesText, WritesTextPrefix}
 use Rattle.cli_read.specs.Remaining.{Remaining, with_schema}
-use Rattle.cli_read.specs.RemainingRequests.{HasAllRows, IsRequestInRowOrder}
+use Rattle.cli_read.specs.RemainingRequests.{HasRequestedRows, IsRequestInRowOrder}
 use Rattle.cli_read.specs.RowBuffers.{table_of_batches}
 
 pub in-order : (fs : List FieldTree) (q : RequestTree) → IsRequestInRowOrder q → IsRequestInRowOrder (resolved_request fs q)
@@ -56,25 +56,25 @@ writes-text s q read old new (text, is, appends) = (text, sym (printed-same s q 
 writes-prefix : (s : SchemaModel) (q : RequestTree) (read : Batches) (old new : Option (List ℕ)) → WritesTextPrefix (resolved_request s.fields q) (table_with s read) old new → WritesTextPrefix q (table_with s read) old new
 writes-prefix s q read old new (text, is, prefix) = (text, sym (printed-same s q read) ∙ is, prefix)
 
-all-rows : (s : SchemaModel) (q : RequestTree) (t : TableTree) → HasAllRows (resolved_request s.fields q) t → HasAllRows q t
+all-rows : (s : SchemaModel) (q : RequestTree) (t : TableTree) → HasRequestedRows (resolved_request s.fields q) t → HasRequestedRows q t
 all-rows s columns t h = tt
 all-rows s (rows all) t h = h
 all-rows s (rows (slice o n)) t h = h
 all-rows s (rows (indices places)) t h = h
 all-rows s (rows (where_true column)) t h = h
 
-all-rows-back : (s : SchemaModel) (q : RequestTree) (t : TableTree) → HasAllRows q t → HasAllRows (resolved_request s.fields q) t
+all-rows-back : (s : SchemaModel) (q : RequestTree) (t : TableTree) → HasRequestedRows q t → HasRequestedRows (resolved_request s.fields q) t
 all-rows-back s columns t h = tt
 all-rows-back s (rows all) t h = h
 all-rows-back s (rows (slice o n)) t h = h
 all-rows-back s (rows (indices places)) t h = h
 all-rows-back s (rows (where_true column)) t h = h
 
-sufficient : (s : SchemaModel) (q : RequestTree) (read : Batches) → IsSufficient (resolved_request s.fields q) (table_with s read) → IsSufficient q (table_with s read)
+sufficient : (s : SchemaModel) (q : RequestTree) (read : Batches) → HasRowsToPrint (resolved_request s.fields q) (table_with s read) → HasRowsToPrint q (table_with s read)
 sufficient s q (Ok bs) h = all-rows s q (table_of_batches s bs) h
 sufficient s q (Err error) h = absurd h
 
-sufficient-back : (s : SchemaModel) (q : RequestTree) (read : Batches) → IsSufficient q (table_with s read) → IsSufficient (resolved_request s.fields q) (table_with s read)
+sufficient-back : (s : SchemaModel) (q : RequestTree) (read : Batches) → HasRowsToPrint q (table_with s read) → HasRowsToPrint (resolved_request s.fields q) (table_with s read)
 sufficient-back s q (Ok bs) h = all-rows-back s q (table_of_batches s bs) h
 sufficient-back s q (Err error) h = absurd h
 
@@ -105,7 +105,7 @@ fails-with UnknownColumn s q read Earlier Before old new k h = (k h.0, print-err
 fails-with NotBoolean s q read Earlier Before old new k h = (k h.0, print-error NotBoolean s q read h.1)
 fails-with Memory s q read Earlier Before old new k h = (k h.0, tt)
 
-fails-at : (error : CliError) (batch : Option ℕ) (s : SchemaModel) (q : RequestTree) (t : Remaining) (old new : Option (List ℕ)) → FailsAt (resolved_request s.fields q) (with_schema s t) batch error old new → FailsAt q (with_schema s t) batch error old new
+fails-at : (error : CliError) (batch : Option ℕ) (s : SchemaModel) (q : RequestTree) (t : Remaining) (old new : Option (List ℕ)) → FailsWhilePrinting (resolved_request s.fields q) (with_schema s t) batch error old new → FailsWhilePrinting q (with_schema s t) batch error old new
 fails-at error None s q t old new h = fails-with error s q (t.first 0) (Keeps old new) (Keeps old new) old new (λ kept. kept) h
 fails-at error (Some k) s q t old new h = (
   fails-with error s q (t.first (k + 1)) (WritesText (resolved_request s.fields q) (table_with s (t.first k)) old new) (WritesText q (table_with s (t.first k)) old new) old new (writes-text s q (t.first k) old new) h.0,

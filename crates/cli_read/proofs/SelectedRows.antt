@@ -14,7 +14,7 @@ use Rattle.ipc.specs.Streams.{RecordBatchTree}
 use Rattle.cli_args.specs.Requests.{SelectionTree, RequestTree, columns, rows, all, slice, indices, where_true}
 use Rattle.cli_rows.specs.Selection.{selected_rows}
 use Rattle.cli_rows.specs.RowLaws.{rows-length, sublist-both}
-use Rattle.cli_rows.specs.Rows.{Row, rows_of}
+use Rattle.cli_rows.specs.Rows.{TypedRow, rows_of}
 use Rattle.cli_rows.specs.Booleans.{is_true_in}
 use Rattle.cli_rows.specs.Text.{json_line, text_of_rows}
 use Rattle.cli_rows.specs.RequestText.{spec_request_text, unless_error}
@@ -22,18 +22,18 @@ use Rattle.cli_rows.specs.ColumnNames.{spec_selection_error, request_error}
 use Rattle.cli_rows.specs.Tables.{MatchesSchema, TableTree, record_rows}
 use Rattle.cli_rows.specs.Records.{record_type, records, side_by_side}
 use Rattle.cli_rows.specs.declared.error.CliError.{CliError}
-use Rattle.cli_read.specs.RemainingRequests.{HasAllRows, IsRequestInRowOrder, batch_table, is_complete_request, remaining_request, table_row_count}
+use Rattle.cli_read.specs.RemainingRequests.{HasRequestedRows, IsRequestInRowOrder, batch_table, is_complete_request, remaining_request, table_row_count}
 use Rattle.cli_read.specs.RowBuffers.{table_of_batches}
 use Rattle.cli_rows.specs.RowOrder.{IsInRowOrder, remaining_selection}
 use Rattle.cli_rows.proofs.RemainingSelections.{remaining-error, remaining-none, remaining-twice}
 
-abbrev picked : SelectionTree → List Row → List Row
+abbrev picked : SelectionTree → List TypedRow → List TypedRow
 picked all rs = rs
 picked (slice o n) rs = sublist rs o n
 picked (where_true column) rs = filter (is_true_in column) rs
 picked (indices wanted) rs = []
 
-choice-is : (c : SelectionTree) (rs : List Row) → IsInRowOrder c → selected_rows c rs ≡ Some (picked c rs)
+choice-is : (c : SelectionTree) (rs : List TypedRow) → IsInRowOrder c → selected_rows c rs ≡ Some (picked c rs)
 choice-is all rs h = refl
 choice-is (slice o n) rs h = refl
 choice-is (where_true column) rs h = refl
@@ -51,7 +51,7 @@ in-order-behind (slice o n) k h = tt
 in-order-behind (where_true column) k h = tt
 in-order-behind (indices wanted) k h = h
 
-picked-both : (c : SelectionTree) (xs ys : List Row) → IsInRowOrder c → picked c (xs ++ ys) ≡ picked c xs ++ picked (remaining_selection c (length xs)) ys
+picked-both : (c : SelectionTree) (xs ys : List TypedRow) → IsInRowOrder c → picked c (xs ++ ys) ≡ picked c xs ++ picked (remaining_selection c (length xs)) ys
 picked-both all xs ys h = refl
 picked-both (slice o n) xs ys h = sublist-both xs ys o n
 picked-both (where_true column) xs ys h = filter-append (is_true_in column) xs ys
@@ -65,7 +65,7 @@ pub left-none : (q : RequestTree) → remaining_request q 0 ≡ q
 left-none columns = refl
 left-none (rows c) = left-is c 0 ∙ ap rows (remaining-none c)
 
-abbrev rows_under : List FieldTree → List RecordBatchTree → List Row
+abbrev rows_under : List FieldTree → List RecordBatchTree → List TypedRow
 rows_under fs bs = flat_map rows_of (map (records (record_type fs)) (map (λ (b : RecordBatchTree). b.columns) bs))
 
 rows-append : (fs : List FieldTree) (as_ bs : List RecordBatchTree) → rows_under fs (as_ ++ bs) ≡ rows_under fs as_ ++ rows_under fs bs
@@ -130,21 +130,21 @@ pub no-place : (q : RequestTree) (s : SchemaModel) (bs : List RecordBatchTree) �
 no-place columns s bs h none e = absurd cc
 no-place (rows c) s bs h none e = absurd (grind (arith, sym (is-text c s bs (text_of_rows (picked c (rows_under s.fields bs))) h none refl) ∙ e))
 
-pub enough : (q : RequestTree) (h : TableTree) → is_complete_request (remaining_request q (table_row_count h)) ≡ true → HasAllRows q h
+pub enough : (q : RequestTree) (h : TableTree) → is_complete_request (remaining_request q (table_row_count h)) ≡ true → HasRequestedRows q h
 enough columns h e = tt
 enough (rows all) h e = absurd cc
 enough (rows (slice o n)) h e = let z = eqb-true (n - (table_row_count h - o)) 0 e in omega (arith, z)
 enough (rows (where_true column)) h e = absurd cc
 enough (rows (indices wanted)) h e = absurd cc
 
-pub not-enough : (q : RequestTree) (h : TableTree) → is_complete_request (remaining_request q (table_row_count h)) ≡ false → HasAllRows q h → ⊥
+pub not-enough : (q : RequestTree) (h : TableTree) → is_complete_request (remaining_request q (table_row_count h)) ≡ false → HasRequestedRows q h → ⊥
 not-enough columns h e is = absurd cc
 not-enough (rows all) h e is = is
 not-enough (rows (slice o n)) h e is = let z : n - (table_row_count h - o) ≡ 0 = omega (arith, is) in absurd (grind (arith, z, e))
 not-enough (rows (where_true column)) h e is = is
 not-enough (rows (indices wanted)) h e is = is
 
-pub enough-is-all : (q : RequestTree) (s : SchemaModel) (as_ bs : List RecordBatchTree) → HasAllRows q (table_of_batches s as_) → spec_request_text q (table_of_batches s as_) ≡ spec_request_text q (table_of_batches s (as_ ++ bs))
+pub enough-is-all : (q : RequestTree) (s : SchemaModel) (as_ bs : List RecordBatchTree) → HasRequestedRows q (table_of_batches s as_) → spec_request_text q (table_of_batches s as_) ≡ spec_request_text q (table_of_batches s (as_ ++ bs))
 enough-is-all columns s as_ bs h = refl
 enough-is-all (rows all) s as_ bs h = absurd h
 enough-is-all (rows (slice o n)) s as_ bs h =

@@ -8,7 +8,7 @@ use Rattle.ipc.specs.SliceStreamReaders.{SliceStreamReaderTree, batches_of, befo
 use Rattle.ipc.specs.ReaderLaws.{reader_step}
 use Rattle.ipc_io.specs.StreamReaders.{with_left}
 use Rattle.cli_rows.specs.Tables.{TableTree}
-use Rattle.cli_read.specs.Decoded.{Decoded, decoded_stream, first_of_stream, table_with}
+use Rattle.cli_read.specs.Decoded.{Decoded, stream_contents, first_of_stream, table_with}
 use Rattle.cli_read.specs.Remaining.{remaining_in_stream, with_schema}
 use Rattle.cli_read.proofs.FirstLaws.{stream-whole}
 
@@ -37,7 +37,7 @@ spelled_by read = record {
   whole = read >>= λ r. table_with r.state.picked.schema (batches_of r);
 }
 
-pub spelled-is : (picks : ProjectionModel) (bytes : List ℕ) (t : SliceStreamReaderTree) → reader_in picks bytes ≡ Ok t → decoded_stream picks bytes ≡ with_schema t.state.picked.schema (remaining_in_stream t)
+pub spelled-is : (picks : ProjectionModel) (bytes : List ℕ) (t : SliceStreamReaderTree) → reader_in picks bytes ≡ Ok t → stream_contents picks bytes ≡ with_schema t.state.picked.schema (remaining_in_stream t)
 spelled-is picks bytes t e =
-    ap (λ (w : Result TableTree formats.IpcReadError). record { first = (decoded_stream picks bytes).first; whole = w }) (stream-whole picks bytes)
+    ap (λ (w : Result TableTree formats.IpcReadError). record { first = (stream_contents picks bytes).first; whole = w }) (stream-whole picks bytes)
     ∙ ap spelled_by e

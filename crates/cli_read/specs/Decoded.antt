@@ -28,15 +28,15 @@ abbrev pub first_of_file : ℕ → SliceFileReaderTree → Result (List RecordBa
 first_of_file k r = batches_at r.state r.bytes (take k r.blocks)
 
 -- a stream from the first byte on
-abbrev pub decoded_stream : ProjectionModel → List ℕ → Decoded
-decoded_stream picks bytes = record {
+abbrev pub stream_contents : ProjectionModel → List ℕ → Decoded
+stream_contents picks bytes = record {
   first = λ k. reader_in picks bytes >>= λ r. table_with r.state.picked.schema (first_of_stream k r);
   whole = projected_stream_in picks bytes >>= λ s. Ok (table_of_stream s);
 }
 
 -- a file
-abbrev pub decoded_file : ProjectionModel → List ℕ → Decoded
-decoded_file picks bytes = record {
+abbrev pub file_contents : ProjectionModel → List ℕ → Decoded
+file_contents picks bytes = record {
   first = λ k. file_reader_in picks bytes >>= λ r. table_with r.state.picked.schema (first_of_file k r);
   whole = projected_file_in picks bytes >>= λ f. Ok (table_of_file f);
 }

@@ -16,8 +16,8 @@ abbrev pub AreElementsOf : List ℕ → List ℕ → Type 0
 AreElementsOf wanted ps = All (Contains wanted) ps
 
 -- each position is that of its index
-abbrev pub ArePositions : List ℕ → List ℕ → List ℕ → Type 0
-ArePositions wanted ps ranks = (map (λ i. get_or wanted i 0) ranks ≡ ps) × AllByRecursion (λ i. i < length wanted) ranks
+abbrev pub HaveRanks : List ℕ → List ℕ → List ℕ → Type 0
+HaveRanks wanted ps ranks = (map (λ i. get_or wanted i 0) ranks ≡ ps) × AllByRecursion (λ i. i < length wanted) ranks
 
 -- these are the first of the wanted indices, in n rows after k others, relative to them
 pub record AreIndicesInBatch (wanted : List ℕ) (k n : ℕ) (found : List ℕ) : Type 0 where

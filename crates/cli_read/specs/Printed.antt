@@ -9,7 +9,7 @@ use Rattle.cli_rows.specs.Output.{HasTable, IsPrintError, printed_text}
 use Rattle.cli_rows.specs.declared.error.BatchError.{BatchError}
 use Rattle.cli_rows.specs.declared.error.CliError.{CliError}
 use Rattle.cli_rows.specs.declared.error.CliError.TheVariants.{Input, Output}
-use Rattle.cli_read.specs.RemainingRequests.{HasAllRows}
+use Rattle.cli_read.specs.RemainingRequests.{HasRequestedRows}
 use Rattle.cli_read.specs.Decoded.{Decoded}
 
 -- the request prints this text of a table
@@ -36,21 +36,21 @@ abbrev pub FailsToPrint : CliError → RequestTree → Result TableTree formats.
 FailsToPrint error q read old new = FailsWith error q read (Keeps old new) old new
 
 -- the decoded record batches have all rows that the request prints
-abbrev pub IsSufficient : RequestTree → Result TableTree formats.IpcReadError → Type 0
-IsSufficient q read = HasTable read (HasAllRows q)
+abbrev pub HasRowsToPrint : RequestTree → Result TableTree formats.IpcReadError → Type 0
+HasRowsToPrint q read = HasTable read (HasRequestedRows q)
 
 -- the first record batches, where they are sufficient, print the text that all record batches print
 abbrev pub SufficientBatchesPrint : RequestTree → Decoded → Type 0
-SufficientBatchesPrint q s = (k : ℕ) (h : TableTree) → s.whole ≡ Ok h → IsSufficient q (s.first k) → printed_text q (s.first k) ≡ printed_text q (Ok h)
+SufficientBatchesPrint q s = (k : ℕ) (h : TableTree) → s.whole ≡ Ok h → HasRowsToPrint q (s.first k) → printed_text q (s.first k) ≡ printed_text q (Ok h)
 
 -- The error occurred before the first record batch, and nothing was written. Or it occurred in a record batch, the batches before it were
 -- not sufficient, and their text was written.
-abbrev pub FailsAt : RequestTree → Decoded → Option ℕ → CliError → Option (List ℕ) → Option (List ℕ) → Type 0
-FailsAt q s None error old new = FailsWith error q (s.first 0) (Keeps old new) old new
-FailsAt q s (Some k) error old new = FailsWith error q (s.first (k + 1)) (WritesText q (s.first k) old new) old new × (IsSufficient q (s.first k) → ⊥)
+abbrev pub FailsWhilePrinting : RequestTree → Decoded → Option ℕ → CliError → Option (List ℕ) → Option (List ℕ) → Type 0
+FailsWhilePrinting q s None error old new = FailsWith error q (s.first 0) (Keeps old new) old new
+FailsWhilePrinting q s (Some k) error old new = FailsWith error q (s.first (k + 1)) (WritesText q (s.first k) old new) old new × (HasRowsToPrint q (s.first k) → ⊥)
 
 -- The text of the first record batches was written: of all, or of sufficient ones. Or an error occurred.
 abbrev pub Prints : RequestTree → Option Decoded → Result ⊤ BatchError → Option (List ℕ) → Option (List ℕ) → Type 0
 Prints q None result old new = Unit {0}
-Prints q (Some s) (Ok done) old new = (k : ℕ) × WritesText q (s.first k) old new × ((s.first k ≡ s.whole) ⊎ IsSufficient q (s.first k))
-Prints q (Some s) (Err e) old new = FailsAt q s e.batch e.error old new
+Prints q (Some s) (Ok done) old new = (k : ℕ) × WritesText q (s.first k) old new × ((s.first k ≡ s.whole) ⊎ HasRowsToPrint q (s.first k))
+Prints q (Some s) (Err e) old new = FailsWhilePrinting q s e.batch e.error old new

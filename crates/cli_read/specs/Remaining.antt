@@ -43,20 +43,20 @@ ReturnsNext (Some old) None batch = ⊥
 ReturnsNext (Some old) (Some new) batch = Advances old new batch
 
 -- reading failed, or it is the first error of the bytes
-abbrev pub IsReadFailure : {Y : Type 0} → CliError → Result Y formats.IpcReadError → Type 0
-IsReadFailure (Read error) read = FailsOrRunsOut error read
-IsReadFailure Input read = Unit {0}
-IsReadFailure Memory read = ⊥
-IsReadFailure (Write why) read = ⊥
-IsReadFailure MismatchedColumns read = ⊥
-IsReadFailure IndexOutOfRange read = ⊥
-IsReadFailure UnknownColumn read = ⊥
-IsReadFailure NotBoolean read = ⊥
-IsReadFailure Output read = ⊥
+abbrev pub IsReadErrorOf : {Y : Type 0} → CliError → Result Y formats.IpcReadError → Type 0
+IsReadErrorOf (Read error) read = FailsOrRunsOut error read
+IsReadErrorOf Input read = Unit {0}
+IsReadErrorOf Memory read = ⊥
+IsReadErrorOf (Write why) read = ⊥
+IsReadErrorOf MismatchedColumns read = ⊥
+IsReadErrorOf IndexOutOfRange read = ⊥
+IsReadErrorOf UnknownColumn read = ⊥
+IsReadErrorOf NotBoolean read = ⊥
+IsReadErrorOf Output read = ⊥
 
-abbrev pub FailsNext : CliError → Option Remaining → Type 0
-FailsNext error None = Unit {0}
-FailsNext error (Some old) = IsReadFailure error (old.first 1)
+abbrev pub FailsToReadNext : CliError → Option Remaining → Type 0
+FailsToReadNext error None = Unit {0}
+FailsToReadNext error (Some old) = IsReadErrorOf error (old.first 1)
 
 -- the input was opened, and decodes to the schema and the remaining record batches
 abbrev pub IsOpened : Option Decoded → SchemaModel → Option Remaining → Type 0
@@ -67,4 +67,4 @@ IsOpened (Some spelled) s (Some l) = spelled ≡ with_schema s l
 -- or this is why not
 abbrev pub FailsToOpen : CliError → Option Decoded → Type 0
 FailsToOpen error None = Unit {0}
-FailsToOpen error (Some spelled) = IsReadFailure error (spelled.first 0)
+FailsToOpen error (Some spelled) = IsReadErrorOf error (spelled.first 0)

@@ -16,12 +16,12 @@ abbrev pub table_row_count : TableTree → ℕ
 table_row_count t = length (record_rows t)
 
 -- no further record batch is needed: the schema is printed, or the slice has all its rows
-abbrev pub HasAllRows : RequestTree → TableTree → Type 0
-HasAllRows columns t = Unit {0}
-HasAllRows (rows (slice o n)) t = n ≤ table_row_count t - o
-HasAllRows (rows all) t = ⊥
-HasAllRows (rows (where_true column)) t = ⊥
-HasAllRows (rows (indices wanted)) t = ⊥
+abbrev pub HasRequestedRows : RequestTree → TableTree → Type 0
+HasRequestedRows columns t = Unit {0}
+HasRequestedRows (rows (slice o n)) t = n ≤ table_row_count t - o
+HasRequestedRows (rows all) t = ⊥
+HasRequestedRows (rows (where_true column)) t = ⊥
+HasRequestedRows (rows (indices wanted)) t = ⊥
 
 -- what is printed after so many rows
 abbrev pub remaining_request : RequestTree → ℕ → RequestTree

@@ -11,7 +11,7 @@ ghost use Rattle.cli_rows.specs.declared.difference.Difference.{Difference};
 ghost use Rattle.cli_rows.specs.declared.difference.Difference.TheVariants.{Row, Schema};
 ghost use Rattle.cli_rows.specs.declared.error.CliError.TheVariants.{IndexOutOfRange, Read};
 ghost use Rattle.cli_read.specs.Comparisons.{FailsIn, FailsInSecond, FindsDifference, FindsTableDifference};
-ghost use Rattle.cli_read.specs.Decoded.{Decoded, decoded_file, decoded_stream};
+ghost use Rattle.cli_read.specs.Decoded.{Decoded, file_contents, stream_contents};
 ghost use Rattle.cli_read.specs.InputExamples.{broken_input, complete_input, first_batches, unreadable_input};
 ghost use Rattle.cli_read.specs.Inputs.{IsDecodedFrom};
 ghost use Rattle.cli_read.specs.Printed.{HasText, SufficientBatchesPrint};
@@ -19,26 +19,26 @@ ghost use Rattle.cli_read.specs.Takes.{IsTakeError, Takes};
 
 /// All record batches of a stream or a file are its decoded table, by the first bytes.
 pub fn all_batches_are_the_decoded_table()
-    ensures stream { (picks : ProjectionModel) (bytes : List ℕ) → is_file_prefix bytes ≡ false → (decoded_stream picks bytes).whole ≡ decoded_table picks bytes }
-    ensures file { (picks : ProjectionModel) (bytes : List ℕ) → is_file_prefix bytes ≡ true → (decoded_file picks bytes).whole ≡ decoded_table picks bytes }
+    ensures stream { (picks : ProjectionModel) (bytes : List ℕ) → is_file_prefix bytes ≡ false → (stream_contents picks bytes).whole ≡ decoded_table picks bytes }
+    ensures file { (picks : ProjectionModel) (bytes : List ℕ) → is_file_prefix bytes ≡ true → (file_contents picks bytes).whole ≡ decoded_table picks bytes }
 {}
 
 /// An error in the first record batches is the error of all.
 pub fn an_error_in_a_prefix_is_the_error()
-    ensures stream { (picks : ProjectionModel) (bytes : List ℕ) (k : ℕ) (e : read_errors.IpcReadError) → (decoded_stream picks bytes).first k ≡ Err e → (decoded_stream picks bytes).whole ≡ Err e }
-    ensures file { (picks : ProjectionModel) (bytes : List ℕ) (k : ℕ) (e : read_errors.IpcReadError) → (decoded_file picks bytes).first k ≡ Err e → (decoded_file picks bytes).whole ≡ Err e }
+    ensures stream { (picks : ProjectionModel) (bytes : List ℕ) (k : ℕ) (e : read_errors.IpcReadError) → (stream_contents picks bytes).first k ≡ Err e → (stream_contents picks bytes).whole ≡ Err e }
+    ensures file { (picks : ProjectionModel) (bytes : List ℕ) (k : ℕ) (e : read_errors.IpcReadError) → (file_contents picks bytes).first k ≡ Err e → (file_contents picks bytes).whole ≡ Err e }
 {}
 
 /// Without an error the first record batches are those of the decoded table.
 pub fn prefixes_are_the_first_batches()
-    ensures stream { (picks : ProjectionModel) (bytes : List ℕ) (k : ℕ) (h : TableTree) → (decoded_stream picks bytes).whole ≡ Ok h → (decoded_stream picks bytes).first k ≡ Ok (first_batches h k) }
-    ensures file { (picks : ProjectionModel) (bytes : List ℕ) (k : ℕ) (h : TableTree) → (decoded_file picks bytes).whole ≡ Ok h → (decoded_file picks bytes).first k ≡ Ok (first_batches h k) }
+    ensures stream { (picks : ProjectionModel) (bytes : List ℕ) (k : ℕ) (h : TableTree) → (stream_contents picks bytes).whole ≡ Ok h → (stream_contents picks bytes).first k ≡ Ok (first_batches h k) }
+    ensures file { (picks : ProjectionModel) (bytes : List ℕ) (k : ℕ) (h : TableTree) → (file_contents picks bytes).whole ≡ Ok h → (file_contents picks bytes).first k ≡ Ok (first_batches h k) }
 {}
 
 /// If the first record batches have all selected rows, they print the text that all record batches print.
 pub fn sufficient_batches_print_the_text()
-    ensures stream { (q : RequestTree) (picks : ProjectionModel) (bytes : List ℕ) → SufficientBatchesPrint q (decoded_stream picks bytes) }
-    ensures file { (q : RequestTree) (picks : ProjectionModel) (bytes : List ℕ) → SufficientBatchesPrint q (decoded_file picks bytes) }
+    ensures stream { (q : RequestTree) (picks : ProjectionModel) (bytes : List ℕ) → SufficientBatchesPrint q (stream_contents picks bytes) }
+    ensures file { (q : RequestTree) (picks : ProjectionModel) (bytes : List ℕ) → SufficientBatchesPrint q (file_contents picks bytes) }
 {}
 
 /// If both inputs are read without an error, the difference found is the first difference of their tables.

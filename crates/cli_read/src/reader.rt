@@ -4,7 +4,7 @@ ghost use Rattle.ipc.specs.Streams.{record_batch_of};
 ghost use Rattle.ipc_schema.specs.Projections.{projection_of};
 ghost use Rattle.ipc_schema.specs.Schemas.{schema_of};
 ghost use Rattle.cli_read.specs.Inputs.{decoded_input};
-ghost use Rattle.cli_read.specs.Remaining.{FailsNext, FailsToOpen, ReturnsNext};
+ghost use Rattle.cli_read.specs.Remaining.{FailsToReadNext, FailsToOpen, ReturnsNext};
 ghost use Rattle.cli_read.specs.Readers.{IsReaderOf, ReturnsBatch, reader_schema, remaining_batches, remaining_of_stream};
 ghost use Rattle.cli_read.specs.declared.reader.BatchReader.TheVariants.{File};
 
@@ -55,7 +55,7 @@ fn next_in_stream<R: Read + Drop>(
     reader: &mut StreamReader<R>,
 ) -> Result<Option<Batch>, CliError>
     ensures next { IfOk result (λ n. ReturnsNext (remaining_of_stream R.remaining reader.old) (remaining_of_stream R.remaining reader.new) (option_map record_batch_of n)) }
-    ensures error { IfErr result (λ e. FailsNext e (remaining_of_stream R.remaining reader.old)) }
+    ensures error { IfErr result (λ e. FailsToReadNext e (remaining_of_stream R.remaining reader.old)) }
     ensures schema { reader.new.state.picked ≡ reader.old.state.picked }
 {
     match reader.next_batch(alloc) {
@@ -71,7 +71,7 @@ fn next_in_file<R: SeekRead + Drop>(
     next: &mut usize,
 ) -> Result<Option<Batch>, CliError>
     ensures next { IfOk result (λ n. ReturnsBatch R.remaining R.stream_position R.stream_bytes (File reader.old next.old) (File reader.new next.new) (option_map record_batch_of n)) }
-    ensures error { IfErr result (λ e. FailsNext e (remaining_batches R.remaining R.stream_position R.stream_bytes (File reader.old next.old))) }
+    ensures error { IfErr result (λ e. FailsToReadNext e (remaining_batches R.remaining R.stream_position R.stream_bytes (File reader.old next.old))) }
     ensures schema { reader.new.state ≡ reader.old.state }
 {
     let k = *next;
@@ -106,7 +106,7 @@ impl<R: SeekRead + Drop> BatchReader<R> {
     /// Those of [`open`].
     pub fn next_batch(&mut self, alloc: Global) -> Result<Option<Batch>, CliError>
         ensures next { IfOk result (λ n. ReturnsBatch R.remaining R.stream_position R.stream_bytes self.old self.new (option_map record_batch_of n)) }
-        ensures error { IfErr result (λ e. FailsNext e (remaining_batches R.remaining R.stream_position R.stream_bytes self.old)) }
+        ensures error { IfErr result (λ e. FailsToReadNext e (remaining_batches R.remaining R.stream_position R.stream_bytes self.old)) }
         ensures schema { reader_schema self.new ≡ reader_schema self.old }
     {
         match self {

@@ -10,9 +10,9 @@ use Rattle.cli_args.specs.declared.format.Format.TheVariants.{File, Stream}
 use Rattle.cli_rows.specs.Tables.{TableTree}
 
 -- what bytes of a format decode to: the schema, and the record batches without validity bitmaps of columns that have no null
-abbrev pub DecodesTo : Format → TableTree → List ℕ → Type 0
-DecodesTo File t bytes = file_in bytes ≡ Ok (decoded_file t.schema t.batches)
-DecodesTo Stream t bytes = (rest : List ℕ) → stream_in (bytes ++ rest) ≡ Ok (decoded_stream t.schema t.batches (length bytes))
+abbrev pub DecodesToTable : Format → TableTree → List ℕ → Type 0
+DecodesToTable File t bytes = file_in bytes ≡ Ok (decoded_file t.schema t.batches)
+DecodesToTable Stream t bytes = (rest : List ℕ) → stream_in (bytes ++ rest) ≡ Ok (decoded_stream t.schema t.batches (length bytes))
 
 -- the record batches as they are decoded
 abbrev pub decoded_table_batches : Format → TableTree → List RecordBatchTree
@@ -21,7 +21,7 @@ decoded_table_batches Stream t = decoded_batches t.batches
 
 -- the bytes decode to an equal schema and, of each record batch, equal rows and arrays
 abbrev pub IsEncodingOf : Format → TableTree → List ℕ → Type 0
-IsEncodingOf form t bytes = DecodesTo form t bytes × AreSameBatches t.batches (decoded_table_batches form t)
+IsEncodingOf form t bytes = DecodesToTable form t bytes × AreSameBatches t.batches (decoded_table_batches form t)
 
 -- the first reason why it cannot be written
 abbrev pub write_refusal : Format → TableTree → Option IpcWriteError

@@ -8,13 +8,13 @@ use Rattle.cli_rows.specs.declared.other_formats.OtherFormat.TheVariants.{Empty,
 abbrev pub is_text_byte : ℕ → Bool
 is_text_byte b = (b == 9) || ((b == 10) || ((b == 13) || (nat_le 32 b && (nat_le b 244 && not (b == 127)))))
 
-abbrev pub is_text : ℕ → ℕ → ℕ → ℕ → Bool
-is_text a b c d = is_text_byte a && (is_text_byte b && (is_text_byte c && is_text_byte d))
+abbrev pub spec_is_text : ℕ → ℕ → ℕ → ℕ → Bool
+spec_is_text a b c d = is_text_byte a && (is_text_byte b && (is_text_byte c && is_text_byte d))
 
 -- a length below 2^24 may begin a stream
 abbrev pub unmarked_format : List ℕ → Option OtherFormat
 unmarked_format [] = Some Empty
-unmarked_format (a ∷ b ∷ c ∷ d ∷ bytes) = if is_text a b c d then Some Text else (if d == 0 then None else Some Unknown)
+unmarked_format (a ∷ b ∷ c ∷ d ∷ bytes) = if spec_is_text a b c d then Some Text else (if d == 0 then None else Some Unknown)
 unmarked_format bytes = Some Unknown
 
 -- the format of bytes that do not begin with the magic of a file; FF FF FF FF begins a stream

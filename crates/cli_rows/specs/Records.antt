@@ -22,5 +22,5 @@ abbrev pub record_type : List FieldTree → TypeTree
 record_type fields = types.struct (field_trees fields)
 
 -- the layouts of columns
-abbrev pub columns_of : List AnyArray → List Layout
-columns_of columns = map layout_of columns
+abbrev pub column_layouts : List AnyArray → List Layout
+column_layouts columns = map layout_of columns

@@ -6,28 +6,28 @@ use Rattle.nest_model.specs.Slot as slots
 use Rattle.nest_model.specs.Slot.{Slot, more_slots, no_slots}
 use Rattle.cli_args.specs.Requests.{slice}
 use Rattle.cli_rows.specs.Selection.{selected_rows}
-use Rattle.cli_rows.specs.Rows.{Row}
+use Rattle.cli_rows.specs.Rows.{TypedRow}
 
 -- an integer that is not nullable, a boolean, and another boolean of the same name
 abbrev pub record_type : TypeTree
 record_type = types.struct (more_fields (field (codes "id") types.int64 false []) (more_fields (field (codes "ok") types.boolean true []) (more_fields (field (codes "ok") types.boolean true []) no_fields)))
 
-abbrev pub row : ℕ → Slot → Row
+abbrev pub row : ℕ → Slot → TypedRow
 row n ok = (record_type, slots.record_of (more_slots (slots.number (pos n ∷ [])) (more_slots ok (more_slots (slots.boolean true) no_slots))))
 
-abbrev pub first : Row
+abbrev pub first : TypedRow
 first = row 5 (slots.boolean true)
 
-abbrev pub second : Row
+abbrev pub second : TypedRow
 second = row 6 slots.null
 
-abbrev pub third : Row
+abbrev pub third : TypedRow
 third = row 7 (slots.boolean false)
 
-abbrev pub null_record : Row
+abbrev pub null_record : TypedRow
 null_record = (record_type, slots.null)
 
-abbrev pub three : List Row
+abbrev pub three : List TypedRow
 three = first ∷ second ∷ third ∷ []
 
 -- 18446744073709551615 is the largest index

@@ -1,6 +1,6 @@
 //! The formats of files that are no Arrow IPC files or streams, by their first bytes.
 ghost use Rattle.std.specs.Prelude.{◌≡◌, []};
-ghost use Rattle.cli_rows.specs.OtherFormats.{is_text, is_text_byte, other_format_of, unmarked_format};
+ghost use Rattle.cli_rows.specs.OtherFormats.{spec_is_text, is_text_byte, other_format_of, unmarked_format};
 
 use thiserror::Error;
 
@@ -33,7 +33,7 @@ fn is_text_byte(byte: u8) -> bool
 
 /// Returns whether four bytes may begin text.
 fn is_text(a: u8, b: u8, c: u8, d: u8) -> bool
-    ensures { result ≡ is_text a b c d }
+    ensures { result ≡ spec_is_text a b c d }
 {
     is_text_byte(a) && is_text_byte(b) && is_text_byte(c) && is_text_byte(d)
 }

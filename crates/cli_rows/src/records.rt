@@ -7,7 +7,7 @@ ghost use Rattle.nest_array.specs.Seen.{layout_of};
 ghost use Rattle.ipc.specs.Streams.{record_batch_of};
 ghost use Rattle.ipc_schema.specs.Schemas.{schema_of};
 ghost use Rattle.cli_rows.specs.RowErrors.{IsRowError};
-ghost use Rattle.cli_rows.specs.Records.{columns_of, record_type, records};
+ghost use Rattle.cli_rows.specs.Records.{column_layouts, record_type, records};
 ghost use Rattle.cli_rows.specs.Compared.{IsRowsError, batch_array};
 ghost use Rattle.cli_rows.specs.Tables.{MatchesSchema, table_of_parts, table_records};
 
@@ -25,8 +25,8 @@ fn record_array(
     fields: &[Field],
     columns: Vec<AnyArray>,
 ) -> Result<AnyArray, CliError>
-    ensures made { IfOk result (λ a. layout_of a ≡ records (record_type (map field_of fields.now)) (columns_of columns.items)) }
-    ensures error { IfErr result (λ e. IsRowError e (Fits (records (record_type (map field_of fields.now)) (columns_of columns.items)))) }
+    ensures made { IfOk result (λ a. layout_of a ≡ records (record_type (map field_of fields.now)) (column_layouts columns.items)) }
+    ensures error { IfErr result (λ e. IsRowError e (Fits (records (record_type (map field_of fields.now)) (column_layouts columns.items)))) }
 {
     match row_type(alloc, fields) {
         Err(_) => {
@@ -46,8 +46,8 @@ fn arrays_of_fields(
     fields: &[Field],
     batches: Vec<Batch>,
 ) -> Result<Vec<AnyArray>, CliError>
-    ensures made { IfOk result (λ v. map layout_of v.items ≡ map (records (record_type (map field_of fields.now))) (map (λ b. columns_of b.columns.items) batches.items)) }
-    ensures error { IfErr result (λ e. IsRowError e (AllByRecursion Fits (map (records (record_type (map field_of fields.now))) (map (λ b. columns_of b.columns.items) batches.items)))) }
+    ensures made { IfOk result (λ v. map layout_of v.items ≡ map (records (record_type (map field_of fields.now))) (map (λ b. column_layouts b.columns.items) batches.items)) }
+    ensures error { IfErr result (λ e. IsRowError e (AllByRecursion Fits (map (records (record_type (map field_of fields.now))) (map (λ b. column_layouts b.columns.items) batches.items)))) }
 {
     let mut arrays = Vec::new(alloc);
     for batch in batches {

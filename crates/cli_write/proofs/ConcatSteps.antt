@@ -11,10 +11,10 @@ use Rattle.cli_read.proofs.BufferSteps.{held-at}
 use Rattle.cli_rows.specs.declared.error.CliError.{CliError}
 use Rattle.cli_args.specs.Requests.{all}
 use Rattle.cli_args.specs.declared.format.Format as forms
-use Rattle.cli_write.specs.Copies.{HasAllRows, FailsAt}
+use Rattle.cli_write.specs.Copies.{HasSelectedRows, FailsWhileCopying}
 use Rattle.cli_write.specs.Concat.{HasSchema, IsAppendError, WritesRemaining, WritesFirst, AppendsInput}
 use Rattle.cli_write.specs.Writers.{HasWritten, writer_schema}
-use Rattle.cli_write.specs.CopyStates.{CopyEnd, CopyState, FailsAfter, IsCopyStateError}
+use Rattle.cli_write.specs.CopyStates.{CopyEnd, CopyState, FailsAfterBatches, IsCopyStateError}
 use Rattle.cli_write.specs.declared.concat.AppendError.{AppendError}
 use Rattle.cli_write.specs.declared.concat.AppendError.TheVariants as whys
 use Rattle.cli_write.specs.declared.writer.BatchWriter.{BatchWriter}
@@ -35,7 +35,7 @@ module _ {W : Type 0} (contents : W → Option (List ℕ)) where
   put-all form s None start front k writer p = tt
   put-all form s (Some t) start front k writer p = (p.came, whole p.are_all, subst (λ (bs : List RecordBatchTree). HasWritten contents form start s (front ++ bs) writer) p.are p.put)
     where
-      whole : (t.first k ≡ t.whole) ⊎ HasAllRows all (table_of_batches s p.came) → t.whole ≡ Ok p.came
+      whole : (t.first k ≡ t.whole) ⊎ HasSelectedRows all (table_of_batches s p.came) → t.whole ≡ Ok p.came
       whole (inl same) = sym same ∙ p.at
       whole (inr enough) = absurd enough
 
@@ -61,7 +61,7 @@ pub stops-more : (form : forms.Format) (r s : SchemaModel) (went : List RecordBa
 stops-more form r s went None stop fresh same h = tt
 stops-more form r s went (Some t) stop fresh same h = by stop.batch h
   where
-    by : (batch : Option ℕ) → FailsAfter batch stop.error form all r went (Some t) → FailsAt all form went (with_schema r t) batch stop.error × HasSchema batch s (with_schema r t)
+    by : (batch : Option ℕ) → FailsAfterBatches batch stop.error form all r went (Some t) → FailsWhileCopying all form went (with_schema r t) batch stop.error × HasSchema batch s (with_schema r t)
     by None h = absurd h
     by (Some k) h = (inl h, held-at r [] (t.first 0) (λ h. h.schema ≡ s) fresh same)
 

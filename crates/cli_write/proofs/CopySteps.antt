@@ -7,7 +7,7 @@ use Rattle.nest_memory.specs.TypeTree.{FieldTree}
 use Rattle.ipc_flatbuf.specs.declared.error.IpcReadError as formats
 use Rattle.ipc_flatbuf.specs.declared.error.IpcWriteError as reasons
 use Rattle.ipc_schema.specs.Schemas.{SchemaModel}
-use Rattle.ipc.specs.Streams.{RecordBatchTree, types_of}
+use Rattle.ipc.specs.Streams.{RecordBatchTree, column_types}
 use Rattle.ipc.specs.EncodedStreams.{IsErrorOrMemory, batches_error, or_error, schema_error}
 use Rattle.ipc.specs.EncodedFiles.{file_batches_error, file_state_start, footer_error, written_footer}
 use Rattle.ipc.specs.EncodedBatches.{first_refused}
@@ -15,7 +15,7 @@ use Rattle.cli_rows.specs.ColumnNames.{spec_selection_error}
 use Rattle.cli_rows.specs.declared.error.CliError.{CliError}
 use Rattle.cli_read.specs.Decoded.{Decoded, table_with}
 use Rattle.cli_rows.specs.declared.error.BatchError.{BatchError}
-use Rattle.cli_read.specs.Remaining.{FailsNext, FailsToOpen, ReturnsNext, StartsEmpty, IsOpened, IsReadFailure, Remaining, with_schema}
+use Rattle.cli_read.specs.Remaining.{FailsToReadNext, FailsToOpen, ReturnsNext, StartsEmpty, IsOpened, IsReadErrorOf, Remaining, with_schema}
 use Rattle.cli_read.specs.RowBuffers.{IsAfter, table_of_batches}
 use Rattle.cli_read.proofs.BufferSteps.{behind-error, behind-first, behind-more, behind-none as none-behind, behind-whole, fits-last, held-at}
 use Rattle.cli_rows.specs.Encodings.{IsEncodingOf, write_refusal}
@@ -27,14 +27,14 @@ use Rattle.cli_args.specs.Requests.{SelectionTree}
 use Rattle.cli_args.specs.declared.format.Format as forms
 use Rattle.cli_write.specs.RemainingSelections.{AreSelectedBatches, IsBatchSelectionError}
 use Rattle.cli_rows.specs.RowOrder.{IsInRowOrder, is_complete_selection, remaining_selection}
-use Rattle.cli_write.specs.Copies.{IsSufficient, Copies, IsCopy, HasAllRows, IsWriteRefusal, FailsAt, IsCopyError}
+use Rattle.cli_write.specs.Copies.{HasSufficientBatches, Copies, IsCopy, HasSelectedRows, IsWriteRefusal, FailsWhileCopying, IsCopyError}
 use Rattle.cli_write.specs.Writers.{FailsFinish, FailsBatch, FailsBatches, FailsSchema, HasWritten, WritesTableBatches}
-use Rattle.cli_write.specs.CopyStates.{CopyEnd, CopyState, FailsNextBatch, FailsToWriteSelection, FailsAfter, IsCopyStateError, WritesSelection}
+use Rattle.cli_write.specs.CopyStates.{CopyEnd, CopyState, FailsNextBatch, FailsToWriteSelection, FailsAfterBatches, IsCopyStateError, WritesSelection}
 use Rattle.cli_write.specs.declared.writer.BatchWriter.{BatchWriter}
 use Rattle.cli_rows.proofs.RemainingSelections.{remaining-error, remaining-none, remaining-twice}
 use Rattle.cli_write.proofs.Lists.{IsOfColumn, rows-both, copied-more, copied-none, enough, is-copy, no-place, not-enough, of-column}
 
-pub held-why : (error : CliError) (c : SelectionTree) (form : forms.Format) (front : List RecordBatchTree) (read : Result TableTree formats.IpcReadError) → IsReadFailure error read → IsCopyError error c form front read
+pub held-why : (error : CliError) (c : SelectionTree) (form : forms.Format) (front : List RecordBatchTree) (read : Result TableTree formats.IpcReadError) → IsReadErrorOf error read → IsCopyError error c form front read
 held-why (causes.Read error) c form front read h = h
 held-why causes.Input c form front read h = tt
 held-why causes.Memory c form front read h = tt
@@ -45,7 +45,7 @@ held-why causes.IndexOutOfRange c form front read h = absurd h
 held-why causes.UnknownColumn c form front read h = absurd h
 held-why causes.NotBoolean c form front read h = absurd h
 
-next-stops : (error : CliError) (c : SelectionTree) (form : forms.Format) (front : List RecordBatchTree) (s : SchemaModel) (t u : Remaining) (k : ℕ) (bs : List RecordBatchTree) → IsAfter t k bs u → IsReadFailure error (u.first 1) → IsCopyError error c form front (table_with s (t.first (k + 1)))
+next-stops : (error : CliError) (c : SelectionTree) (form : forms.Format) (front : List RecordBatchTree) (s : SchemaModel) (t u : Remaining) (k : ℕ) (bs : List RecordBatchTree) → IsAfter t k bs u → IsReadErrorOf error (u.first 1) → IsCopyError error c form front (table_with s (t.first (k + 1)))
 next-stops (causes.Read error) c form front s t u k bs at h = behind-error (causes.Read error) s t u k bs at (λ real. ap (table_with s) (h real))
 next-stops causes.Input c form front s t u k bs at h = tt
 next-stops causes.Memory c form front s t u k bs at h = tt
@@ -90,8 +90,8 @@ end-stops causes.UnknownColumn c form front s came went copy h = absurd h
 end-stops causes.NotBoolean c form front s came went copy h = absurd h
 
 pub empty-refused : (form : forms.Format) (s : SchemaModel) (why : reasons.IpcWriteError) → IsErrorOrMemory (schema_error s) why → IsErrorOrMemory (write_refusal form (table_of_batches s [])) why
-empty-refused forms.TheVariants.Stream s why h = first_refused (schema_error s) (batches_error (types_of s) [] []) why h
-empty-refused forms.TheVariants.File s why h = first_refused (schema_error s) (or_error (file_batches_error (types_of s) (file_state_start s) []) (footer_error (written_footer s []))) why h
+empty-refused forms.TheVariants.Stream s why h = first_refused (schema_error s) (batches_error (column_types s) [] []) why h
+empty-refused forms.TheVariants.File s why h = first_refused (schema_error s) (or_error (file_batches_error (column_types s) (file_state_start s) []) (footer_error (written_footer s []))) why h
 
 schema-stops : (error : CliError) (c : SelectionTree) (form : forms.Format) (s : SchemaModel) → IsCopy c (table_of_batches s []) (table_of_batches s []) → FailsSchema error (schema_error s) → IsCopyError error c form [] (Ok (table_of_batches s []))
 schema-stops (causes.Write why) c form s copy h = (table_of_batches s [], copy, inl (empty-refused form s why h))
@@ -129,8 +129,8 @@ part-of causes.NotBoolean form s went b more all e h = absurd h
 read-stops : (error : CliError) (c : SelectionTree) (form : forms.Format) (front : List RecordBatchTree) (s : SchemaModel) (read : Result (List RecordBatchTree) formats.IpcReadError) (bs : List RecordBatchTree) → read ≡ Ok bs → IsCopyError error c form front (Ok (table_of_batches s bs)) → IsCopyError error c form front (table_with s read)
 read-stops error c form front s read bs e h = subst (λ (r : Result (List RecordBatchTree) formats.IpcReadError). IsCopyError error c form front (table_with s r)) (sym e) h
 
-none-enough : (c : SelectionTree) (s : SchemaModel) (read : Result (List RecordBatchTree) formats.IpcReadError) (bs : List RecordBatchTree) → read ≡ Ok bs → (HasAllRows c (table_of_batches s bs) → ⊥) → HasTable (table_with s read) (λ h. HasAllRows c h → ⊥)
-none-enough c s read bs e few = held-at s bs read (λ h. HasAllRows c h → ⊥) e few
+none-enough : (c : SelectionTree) (s : SchemaModel) (read : Result (List RecordBatchTree) formats.IpcReadError) (bs : List RecordBatchTree) → read ≡ Ok bs → (HasSelectedRows c (table_of_batches s bs) → ⊥) → HasTable (table_with s read) (λ h. HasSelectedRows c h → ⊥)
+none-enough c s read bs e few = held-at s bs read (λ h. HasSelectedRows c h → ⊥) e few
 
 rest-more : (c : SelectionTree) (s : SchemaModel) (bs : List RecordBatchTree) (b : RecordBatchTree) (now : SelectionTree) → now ≡ remaining_selection c (length (batch_rows s.fields bs)) → remaining_selection now (length (batch_rows s.fields (b ∷ []))) ≡ remaining_selection c (length (batch_rows s.fields (bs ++ b ∷ [])))
 rest-more c s bs b now is =
@@ -138,10 +138,10 @@ rest-more c s bs b now is =
     ∙ remaining-twice c (length (batch_rows s.fields bs)) (length (batch_rows s.fields (b ∷ [])))
     ∙ ap (remaining_selection c) (sym (ap length (rows-both s.fields bs (b ∷ [])) ∙ length-append (batch_rows s.fields bs) (batch_rows s.fields (b ∷ []))))
 
-all-of : (c : SelectionTree) (s : SchemaModel) (t : Remaining) (k : ℕ) (bs : List RecordBatchTree) → t.first k ≡ Ok bs → (t.first k ≡ t.whole) ⊎ HasAllRows c (table_of_batches s bs) → IsSufficient c (with_schema s t) k
-all-of c s t k bs at are = held-at s bs (t.first k) (λ h. (table_with s t.whole ≡ Ok h) ⊎ HasAllRows c h) at (by are)
+all-of : (c : SelectionTree) (s : SchemaModel) (t : Remaining) (k : ℕ) (bs : List RecordBatchTree) → t.first k ≡ Ok bs → (t.first k ≡ t.whole) ⊎ HasSelectedRows c (table_of_batches s bs) → HasSufficientBatches c (with_schema s t) k
+all-of c s t k bs at are = held-at s bs (t.first k) (λ h. (table_with s t.whole ≡ Ok h) ⊎ HasSelectedRows c h) at (by are)
   where
-    by : (t.first k ≡ t.whole) ⊎ HasAllRows c (table_of_batches s bs) → (table_with s t.whole ≡ Ok (table_of_batches s bs)) ⊎ HasAllRows c (table_of_batches s bs)
+    by : (t.first k ≡ t.whole) ⊎ HasSelectedRows c (table_of_batches s bs) → (table_with s t.whole ≡ Ok (table_of_batches s bs)) ⊎ HasSelectedRows c (table_of_batches s bs)
     by (inl same) = inl (ap (table_with s) (sym same ∙ at))
     by (inr some) = inr some
 
@@ -206,7 +206,7 @@ module _ {W : Type 0} (contents : W → Option (List ℕ)) where
           put = subst (λ (bs : List RecordBatchTree). HasWritten contents form start s bs new) (append_assoc front p.went out.0) out.2;
         }
 
-    pub unread : (t u : Option Remaining) (writer : BatchWriter W) (error : CliError) → is_complete_selection now ≡ false → FailsNext error u → CopyState contents form c s t start front k now u writer → FailsNextBatch error form c s front t k
+    pub unread : (t u : Option Remaining) (writer : BatchWriter W) (error : CliError) → is_complete_selection now ≡ false → FailsToReadNext error u → CopyState contents form c s t start front k now u writer → FailsNextBatch error form c s front t k
     unread None u writer error some h p = tt
     unread (Some t) None writer error some h p = absurd p
     unread (Some t) (Some u) writer error some h p = (
@@ -258,7 +258,7 @@ module _ {W : Type 0} (contents : W → Option (List ℕ)) where
   stopped form c s None start stop h = tt
   stopped form c s (Some t) start stop h = by stop.batch h
     where
-      by : (batch : Option ℕ) → FailsAfter batch stop.error form c s [] (Some t) → FailsAt c form [] (with_schema s t) batch stop.error
+      by : (batch : Option ℕ) → FailsAfterBatches batch stop.error form c s [] (Some t) → FailsWhileCopying c form [] (with_schema s t) batch stop.error
       by None h = absurd h
       by (Some k) h = inl h
 

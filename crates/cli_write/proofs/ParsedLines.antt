@@ -7,7 +7,7 @@ use Rattle.cli_rows.specs.Records.{record_type}
 use Rattle.cli_rows.specs.Rows.{rows_of}
 use Rattle.cli_rows.specs.Booleans.{is_valid}
 use Rattle.cli_write.specs.Imports.{records_of}
-use Rattle.cli_write.specs.ImportStates.{ReadsBatch, IsLinesError, text_error}
+use Rattle.cli_write.specs.ImportStates.{ReadsBatch, IsLinesError, json_import_error}
 use Rattle.json_read.specs.JsonLines.{AreAllValid, IsJsonReadError, line_row}
 use Rattle.json_read.specs.JsonLines as json_lines
 use Rattle.json_read.specs.LineSplit.{AreFirstLines, lines_of}
@@ -40,7 +40,7 @@ are-records (g ∷ fs) t (s ∷ ss) e f h = ((e, there-true s h.0), are-records 
 pub are-rows : (fs : List FieldTree) (a : Layout) → layout_type a ≡ record_type fs → unsupported_type (record_type fs) ≡ None → AreAllValid (slots_of a) → AreRowsOf fs (rows_of a)
 are-rows fs a e f h = are-records fs (layout_type a) (slots_of a) e f h
 
-pub unread-text : (fs : List FieldTree) (t : TypeTree) (e : JsonReadError) (n : ℕ) (ls : List (List ℕ)) → t ≡ record_type fs → IsJsonReadError e t (take n ls) → IsLinesError (text_error e) fs ls
+pub unread-text : (fs : List FieldTree) (t : TypeTree) (e : JsonReadError) (n : ℕ) (ls : List (List ℕ)) → t ≡ record_type fs → IsJsonReadError e t (take n ls) → IsLinesError (json_import_error e) fs ls
 unread-text fs t (text_faults.Type e) n ls q h = ap unsupported_type (sym q) ∙ h
 unread-text fs t (text_faults.Line line e) n ls q h = first-err (line_row (record_type fs)) 0 n ls (line, e) (ap (λ u. json_lines.line_rows u (take n ls)) (sym q) ∙ h)
 unread-text fs t text_faults.Overflow n ls q h = tt

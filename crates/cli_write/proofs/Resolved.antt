@@ -21,7 +21,7 @@ use Rattle.cli_rows.proofs.SelectedBatches.{held-each}
 use Rattle.cli_read.specs.Decoded.{table_with}
 use Rattle.cli_read.specs.Remaining.{Remaining, with_schema}
 use Rattle.cli_read.specs.RowBuffers.{table_of_batches}
-use Rattle.cli_write.specs.Copies.{Copies, FailsAt, HasAllRows, IsCopy, IsCopyError, WritesCopy}
+use Rattle.cli_write.specs.Copies.{Copies, FailsWhileCopying, HasSelectedRows, IsCopy, IsCopyError, WritesCopy}
 use Rattle.nest_memory.specs.TypeTree.{FieldTree}
 
 pub in-order : (fs : List FieldTree) (c : SelectionTree) → IsInRowOrder c → IsInRowOrder (resolved_selection fs c)
@@ -44,13 +44,13 @@ copy-of s (slice o n) bs t h = h
 copy-of s (indices places) bs t h = h
 copy-of s (where_true column) bs t h = (h.0, sym (selected-same s (where_true column) bs) ∙ h.1)
 
-all-rows : (s : SchemaModel) (c : SelectionTree) (h : TableTree) → HasAllRows (resolved_selection s.fields c) h → HasAllRows c h
+all-rows : (s : SchemaModel) (c : SelectionTree) (h : TableTree) → HasSelectedRows (resolved_selection s.fields c) h → HasSelectedRows c h
 all-rows s all h p = p
 all-rows s (slice o n) h p = p
 all-rows s (indices places) h p = p
 all-rows s (where_true column) h p = p
 
-all-rows-back : (s : SchemaModel) (c : SelectionTree) (h : TableTree) → HasAllRows c h → HasAllRows (resolved_selection s.fields c) h
+all-rows-back : (s : SchemaModel) (c : SelectionTree) (h : TableTree) → HasSelectedRows c h → HasSelectedRows (resolved_selection s.fields c) h
 all-rows-back s all h p = p
 all-rows-back s (slice o n) h p = p
 all-rows-back s (indices places) h p = p
@@ -63,12 +63,12 @@ writes-copy : (form : forms.Format) (s : SchemaModel) (c : SelectionTree) (read 
 writes-copy form s c (Ok bs) old new (t, bytes, copy, encoding, appends) = (t, bytes, copy-of s c bs t copy, encoding, appends)
 writes-copy form s c (Err error) old new h = absurd h
 
-sufficient : (s : SchemaModel) (c : SelectionTree) (read : Batches) (whole : Result TableTree formats.IpcReadError) → HasTable (table_with s read) (λ h. (whole ≡ Ok h) ⊎ HasAllRows (resolved_selection s.fields c) h) → HasTable (table_with s read) (λ h. (whole ≡ Ok h) ⊎ HasAllRows c h)
+sufficient : (s : SchemaModel) (c : SelectionTree) (read : Batches) (whole : Result TableTree formats.IpcReadError) → HasTable (table_with s read) (λ h. (whole ≡ Ok h) ⊎ HasSelectedRows (resolved_selection s.fields c) h) → HasTable (table_with s read) (λ h. (whole ≡ Ok h) ⊎ HasSelectedRows c h)
 sufficient s c (Ok bs) whole (inl e) = inl e
 sufficient s c (Ok bs) whole (inr p) = inr (all-rows s c (table_of_batches s bs) p)
 sufficient s c (Err error) whole h = absurd h
 
-insufficient : (s : SchemaModel) (c : SelectionTree) (read : Batches) → HasTable (table_with s read) (λ h. HasAllRows (resolved_selection s.fields c) h → ⊥) → HasTable (table_with s read) (λ h. HasAllRows c h → ⊥)
+insufficient : (s : SchemaModel) (c : SelectionTree) (read : Batches) → HasTable (table_with s read) (λ h. HasSelectedRows (resolved_selection s.fields c) h → ⊥) → HasTable (table_with s read) (λ h. HasSelectedRows c h → ⊥)
 insufficient s c (Ok bs) h = λ p. h (all-rows-back s c (table_of_batches s bs) p)
 insufficient s c (Err error) h = absurd h
 
@@ -86,7 +86,7 @@ copy-error Memory form front s c read h = tt
 copy-error Input form front s c read h = tt
 copy-error Output form front s c read h = tt
 
-fails-at : (error : CliError) (batch : Option ℕ) (form : forms.Format) (front : List RecordBatchTree) (s : SchemaModel) (c : SelectionTree) (t : Remaining) → FailsAt (resolved_selection s.fields c) form front (with_schema s t) batch error → FailsAt c form front (with_schema s t) batch error
+fails-at : (error : CliError) (batch : Option ℕ) (form : forms.Format) (front : List RecordBatchTree) (s : SchemaModel) (c : SelectionTree) (t : Remaining) → FailsWhileCopying (resolved_selection s.fields c) form front (with_schema s t) batch error → FailsWhileCopying c form front (with_schema s t) batch error
 fails-at error None form front s c t h = copy-error error form front s c (t.first 0) h
 fails-at error (Some k) form front s c t (inl h) = inl (copy-error error form front s c (t.first (k + 1)) h.0, insufficient s c (t.first k) h.1)
 fails-at error (Some k) form front s c t (inr h) = inr (copy-error error form front s c (t.first k) h.0, sufficient s c (t.first k) (table_with s t.whole) h.1)

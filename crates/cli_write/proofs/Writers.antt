@@ -10,7 +10,7 @@ use Rattle.ipc_schema.specs.SchemaBytes.{schema_message}
 use Rattle.ipc_schema.specs.FooterBytes.{file_end, file_head}
 use Rattle.ipc_schema.specs.FooterLaws.{FooterRoundTrips}
 use Rattle.ipc.specs.DictionaryEntries.{DictionaryEntries}
-use Rattle.ipc.specs.Streams.{RecordBatchTree, types_of}
+use Rattle.ipc.specs.Streams.{RecordBatchTree, column_types}
 use Rattle.ipc.specs.EncodedStreams.{BatchRoundTrips, IsErrorOrMemory, batch_error, encoded_batches, batches_error, or_error, encoded_messages, encoded_batch, schema_error, emitted_after, size_error_if, encoded_stream, stream_error, stream_dictionary_batches}
 use Rattle.ipc.specs.EncodedFiles.{FileState, file_batch_error, file_batches_error, encoded_file, file_error, file_state, file_state_after, file_state_start, footer_error, no_blocks, file_dictionary_batches, written_footer}
 use Rattle.ipc.specs.EncodedBatches.{after_more, batches_long, bytes_push, first_accepts, first_refused, from_more, from_refused, later_refused, none_written, emitted_after_all}
@@ -45,21 +45,21 @@ module _ {W : Type 0} (contents : W → Option (List ℕ)) where
 
   pub stream-more : (start : W) (s : SchemaModel) (bs : List RecordBatchTree) (b : RecordBatchTree) (old new : WriterTree W) → IsStreamWriter contents start s bs old → WritesBatch contents b old new → IsStreamWriter contents start s (bs ++ b ∷ []) new
   stream-more start s bs b old new h one =
-      let form : batch_error (types_of s) old.emitted b ≡ None = subst (λ (x : SchemaModel). batch_error (types_of x) old.emitted b ≡ None) h.put.schema one.0.1 in
+      let form : batch_error (column_types s) old.emitted b ≡ None = subst (λ (x : SchemaModel). batch_error (column_types x) old.emitted b ≡ None) h.put.schema one.0.1 in
       record {
         first = h.first;
         begun = h.begun;
         again = h.again;
         written = writes-more bs b h.first old new h.written one;
-        put = has_more contents stream_dictionary_batches (contents start) (schema_message s) s bs b (batch_error (types_of old.schema) old.emitted b) old new h.put one.0;
-        form = from_more emitted_after (batch_error (types_of s)) [] old.emitted bs (bs ++ b ∷ []) b refl h.put.emitted h.form form;
+        put = has_more contents stream_dictionary_batches (contents start) (schema_message s) s bs b (batch_error (column_types old.schema) old.emitted b) old new h.put one.0;
+        form = from_more emitted_after (batch_error (column_types s)) [] old.emitted bs (bs ++ b ∷ []) b refl h.put.emitted h.form form;
       }
 
-  pub stream-refused : (start : W) (s : SchemaModel) (bs more : List RecordBatchTree) (b : RecordBatchTree) (w : WriterTree W) (why : IpcWriteError) → IsStreamWriter contents start s bs w → IsErrorOrMemory (batch_error (types_of w.schema) w.emitted b) why → IsWriteRefusal forms.Stream (table_of_batches s (bs ++ b ∷ more)) why
+  pub stream-refused : (start : W) (s : SchemaModel) (bs more : List RecordBatchTree) (b : RecordBatchTree) (w : WriterTree W) (why : IpcWriteError) → IsStreamWriter contents start s bs w → IsErrorOrMemory (batch_error (column_types w.schema) w.emitted b) why → IsWriteRefusal forms.Stream (table_of_batches s (bs ++ b ∷ more)) why
   stream-refused start s bs more b w why h refused =
-      let here : IsErrorOrMemory (batch_error (types_of s) w.emitted b) why = subst (λ (x : SchemaModel). IsErrorOrMemory (batch_error (types_of x) w.emitted b) why) h.put.schema refused in
-      inl (later_refused (schema_error s) (batches_error (types_of s) [] (bs ++ b ∷ more)) why h.begun.0
-      (from_refused emitted_after (batch_error (types_of s)) [] w.emitted (bs ++ b ∷ more) bs more b why refl h.put.emitted h.form here))
+      let here : IsErrorOrMemory (batch_error (column_types s) w.emitted b) why = subst (λ (x : SchemaModel). IsErrorOrMemory (batch_error (column_types x) w.emitted b) why) h.put.schema refused in
+      inl (later_refused (schema_error s) (batches_error (column_types s) [] (bs ++ b ∷ more)) why h.begun.0
+      (from_refused emitted_after (batch_error (column_types s)) [] w.emitted (bs ++ b ∷ more) bs more b why refl h.put.emitted h.form here))
 
   pub stream-ended : (start end : W) (s : SchemaModel) (bs : List RecordBatchTree) (w : WriterTree W) → IsStreamWriter contents start s bs w → FinishesWriting contents None end_of_stream w (Ok end) → WritesTableBatches forms.Stream s bs (contents start) (contents end)
   stream-ended start end s bs w h ended =
@@ -91,9 +91,9 @@ module _ {W : Type 0} (contents : W → Option (List ℕ)) where
       let emitted : DictionaryEntries = old.stream.emitted in
       let last : emitted ≡ emitted_after_all [] bs = h.put.emitted in
       let more : List RecordBatchTree = bs ++ b ∷ [] in
-      let reason : Option IpcWriteError = placed_error old.position (types_of old.stream.schema) (file_state_so_far old) b in
-      let taken : file_batch_error (types_of old.stream.schema) (file_state_so_far old) b ≡ None = first_accepts (file_batch_error (types_of old.stream.schema) (file_state_so_far old) b) (size_error_if (nat_le (2 ^ 63) (old.position + length (encoded_batch file_dictionary_batches emitted b)))) put.1 in
-      let form : file_batch_error (types_of s) (file_state_so_far old) b ≡ None = subst (λ (x : SchemaModel). file_batch_error (types_of x) (file_state_so_far old) b ≡ None) h.put.schema taken in
+      let reason : Option IpcWriteError = placed_error old.position (column_types old.stream.schema) (file_state_so_far old) b in
+      let taken : file_batch_error (column_types old.stream.schema) (file_state_so_far old) b ≡ None = first_accepts (file_batch_error (column_types old.stream.schema) (file_state_so_far old) b) (size_error_if (nat_le (2 ^ 63) (old.position + length (encoded_batch file_dictionary_batches emitted b)))) put.1 in
+      let form : file_batch_error (column_types s) (file_state_so_far old) b ≡ None = subst (λ (x : SchemaModel). file_batch_error (column_types x) (file_state_so_far old) b ≡ None) h.put.schema taken in
       let bytes : encoded_batches file_dictionary_batches [] more ≡ encoded_batches file_dictionary_batches [] bs ++ encoded_batch file_dictionary_batches emitted b = sym (bytes_push file_dictionary_batches [] (encoded_batches file_dictionary_batches [] bs) (encoded_batches file_dictionary_batches [] bs ++ encoded_batch file_dictionary_batches emitted b) [] emitted bs more b refl last refl refl) in
       let long : length (encoded_batches file_dictionary_batches [] more) ≡ length (encoded_batches file_dictionary_batches [] bs) + length (encoded_batch file_dictionary_batches emitted b) = ap length bytes ∙ length-append (encoded_batches file_dictionary_batches [] bs) (encoded_batch file_dictionary_batches emitted b) in
       let now : new.stream.emitted ≡ emitted_after emitted b = ap (λ (x : WriterTree W). x.emitted) put.3 in
@@ -103,7 +103,7 @@ module _ {W : Type 0} (contents : W → Option (List ℕ)) where
         put = has_more contents file_dictionary_batches (contents start) (header_bytes s) s bs b reason old.stream new.stream h.put put;
         position = omega (arith, wrote.1.1, h.position, long);
         known = after_more file_state_after (file_state_start s) (file_state_so_far old) (file_state_so_far new) bs more b refl h.known known;
-        form = from_more file_state_after (file_batch_error (types_of s)) (file_state_start s) (file_state_so_far old) bs more b refl h.known h.form form;
+        form = from_more file_state_after (file_batch_error (column_types s)) (file_state_start s) (file_state_so_far old) bs more b refl h.known h.form form;
       }
 
   either-refused : (r q : Option IpcWriteError) (why : IpcWriteError) → IsErrorOrMemory (or_error r q) why → IsErrorOrMemory r why ⊎ (q ≡ Some why)
@@ -134,20 +134,20 @@ module _ {W : Type 0} (contents : W → Option (List ℕ)) where
         length-append (encoded_batches file_dictionary_batches [] bs) end_of_stream,
       )
 
-  pub file-refused : (start : W) (s : SchemaModel) (bs more : List RecordBatchTree) (b : RecordBatchTree) (w : FileWriterTree W) (why : IpcWriteError) → IsFileWriter contents start s bs w → IsErrorOrMemory (placed_error w.position (types_of w.stream.schema) (file_state_so_far w) b) why
+  pub file-refused : (start : W) (s : SchemaModel) (bs more : List RecordBatchTree) (b : RecordBatchTree) (w : FileWriterTree W) (why : IpcWriteError) → IsFileWriter contents start s bs w → IsErrorOrMemory (placed_error w.position (column_types w.stream.schema) (file_state_so_far w) b) why
       → IsWriteRefusal forms.File (table_of_batches s (bs ++ b ∷ more)) why
   file-refused start s bs more b w why h refused =
-      by (either-refused (file_batch_error (types_of w.stream.schema) (file_state_so_far w) b) (size_error_if (nat_le (2 ^ 63) (w.position + length (encoded_batch file_dictionary_batches w.stream.emitted b)))) why refused)
+      by (either-refused (file_batch_error (column_types w.stream.schema) (file_state_so_far w) b) (size_error_if (nat_le (2 ^ 63) (w.position + length (encoded_batch file_dictionary_batches w.stream.emitted b)))) why refused)
     where
       all : List RecordBatchTree
       all = bs ++ b ∷ more
 
-      by : IsErrorOrMemory (file_batch_error (types_of w.stream.schema) (file_state_so_far w) b) why ⊎ (size_error_if (nat_le (2 ^ 63) (w.position + length (encoded_batch file_dictionary_batches w.stream.emitted b))) ≡ Some why) → IsWriteRefusal forms.File (table_of_batches s (bs ++ b ∷ more)) why
+      by : IsErrorOrMemory (file_batch_error (column_types w.stream.schema) (file_state_so_far w) b) why ⊎ (size_error_if (nat_le (2 ^ 63) (w.position + length (encoded_batch file_dictionary_batches w.stream.emitted b))) ≡ Some why) → IsWriteRefusal forms.File (table_of_batches s (bs ++ b ∷ more)) why
       by (inl r) =
-          let here : IsErrorOrMemory (file_batch_error (types_of s) (file_state_so_far w) b) why = subst (λ (x : SchemaModel). IsErrorOrMemory (file_batch_error (types_of x) (file_state_so_far w) b) why) h.put.schema r in
-          inl (later_refused (schema_error s) (or_error (file_batches_error (types_of s) (file_state_start s) all) (footer_error (written_footer s all))) why h.run.begun.0
-          (first_refused (file_batches_error (types_of s) (file_state_start s) all) (footer_error (written_footer s all)) why
-          (from_refused file_state_after (file_batch_error (types_of s)) (file_state_start s) (file_state_so_far w) all bs more b why refl h.known h.form here)))
+          let here : IsErrorOrMemory (file_batch_error (column_types s) (file_state_so_far w) b) why = subst (λ (x : SchemaModel). IsErrorOrMemory (file_batch_error (column_types x) (file_state_so_far w) b) why) h.put.schema r in
+          inl (later_refused (schema_error s) (or_error (file_batches_error (column_types s) (file_state_start s) all) (footer_error (written_footer s all))) why h.run.begun.0
+          (first_refused (file_batches_error (column_types s) (file_state_start s) all) (footer_error (written_footer s all)) why
+          (from_refused file_state_after (file_batch_error (column_types s)) (file_state_start s) (file_state_so_far w) all bs more b why refl h.known h.form here)))
       by (inr e) =
           let is = size-is (2 ^ 63) (w.position + length (encoded_batch file_dictionary_batches w.stream.emitted b)) why e in
           let last : length (encoded_batch file_dictionary_batches w.stream.emitted b) ≡ length (encoded_batch file_dictionary_batches (emitted_after_all [] bs) b) = ap (λ (x : DictionaryEntries). length (encoded_batch file_dictionary_batches x b)) h.put.emitted in
@@ -164,14 +164,14 @@ module _ {W : Type 0} (contents : W → Option (List ℕ)) where
 
   pub file-unended : (start : W) (s : SchemaModel) (bs : List RecordBatchTree) (w : FileWriterTree W) (why : IpcWriteError) → IsFileWriter contents start s bs w → IsErrorOrMemory (trailer_error (footer_of w)) why → IsErrorOrMemory (file_error s bs) why
   file-unended start s bs w why h refused =
-      later_refused (schema_error s) (or_error (file_batches_error (types_of s) (file_state_start s) bs) (footer_error (written_footer s bs))) why h.run.begun.0
-      (later_refused (file_batches_error (types_of s) (file_state_start s) bs) (footer_error (written_footer s bs)) why h.form (subst (λ (r : Option IpcWriteError). IsErrorOrMemory r why) (end_is contents s bs start w h.run) refused))
+      later_refused (schema_error s) (or_error (file_batches_error (column_types s) (file_state_start s) bs) (footer_error (written_footer s bs))) why h.run.begun.0
+      (later_refused (file_batches_error (column_types s) (file_state_start s) bs) (footer_error (written_footer s bs)) why h.form (subst (λ (r : Option IpcWriteError). IsErrorOrMemory r why) (end_is contents s bs start w h.run) refused))
 
   pub put-stream : (b : RecordBatchTree) (old new : WriterTree W) → WritesBatch contents b old new → (form : Format) (start : W) (s : SchemaModel) (went : List RecordBatchTree) → HasWritten contents form start s went (Stream old) → HasWritten contents form start s (went ++ b ∷ []) (Stream new)
   put-stream b old new one forms.Stream start s went p = stream-more start s went b old new p one
   put-stream b old new one forms.File start s went p = absurd p
 
-  pub fails-stream : (b : RecordBatchTree) (old new : WriterTree W) (e : WriteError) → WritesBytes contents (batch_error (types_of old.schema) old.emitted b) (encoded_batch stream_dictionary_batches old.emitted b) (emitted_after old.emitted b) old new (Err e) → (form : Format) (start : W) (s : SchemaModel) (went : List RecordBatchTree)
+  pub fails-stream : (b : RecordBatchTree) (old new : WriterTree W) (e : WriteError) → WritesBytes contents (batch_error (column_types old.schema) old.emitted b) (encoded_batch stream_dictionary_batches old.emitted b) (emitted_after old.emitted b) old new (Err e) → (form : Format) (start : W) (s : SchemaModel) (went : List RecordBatchTree)
       → HasWritten contents form start s went (Stream old) → FailsBatch (write_error e) form s went b
   fails-stream b old new (NoForm_ why) put forms.Stream start s went p = λ more. stream-refused start s went more b old why p put.1
   fails-stream b old new (NoForm_ why) put forms.File start s went p = absurd p
@@ -193,7 +193,7 @@ module _ {W : Type 0} (contents : W → Option (List ℕ)) where
   put-file b old new one forms.Stream start s went p = absurd p
 
   pub fails-file : (b : RecordBatchTree) (old : FileWriterTree W) (new : WriterTree W) (e : WriteError)
-      → WritesBytes contents (placed_error old.position (types_of old.stream.schema) (file_state_so_far old) b) (encoded_batch file_dictionary_batches old.stream.emitted b) (emitted_after old.stream.emitted b) old.stream new (Err e) → (form : Format) (start : W) (s : SchemaModel) (went : List RecordBatchTree)
+      → WritesBytes contents (placed_error old.position (column_types old.stream.schema) (file_state_so_far old) b) (encoded_batch file_dictionary_batches old.stream.emitted b) (emitted_after old.stream.emitted b) old.stream new (Err e) → (form : Format) (start : W) (s : SchemaModel) (went : List RecordBatchTree)
       → HasWritten contents form start s went (File old) → FailsBatch (write_error e) form s went b
   fails-file b old new (NoForm_ why) put forms.File start s went p = λ more. file-refused start s went more b old why p put.1
   fails-file b old new (NoForm_ why) put forms.Stream start s went p = absurd p

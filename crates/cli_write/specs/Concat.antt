@@ -9,7 +9,7 @@ use Rattle.cli_rows.specs.Concatenated.{DecodedTables, EncodesConcatenation}
 use Rattle.cli_rows.specs.Output.{HasTable}
 use Rattle.cli_args.specs.Requests.{all}
 use Rattle.cli_args.specs.declared.format.Format as forms
-use Rattle.cli_write.specs.Copies.{FailsAt}
+use Rattle.cli_write.specs.Copies.{FailsWhileCopying}
 use Rattle.cli_write.specs.Writers.{HasWritten}
 use Rattle.cli_write.specs.declared.concat.AppendError.{AppendError}
 use Rattle.cli_write.specs.declared.concat.AppendError.TheVariants.{Schema, Batch}
@@ -45,7 +45,7 @@ IsBeforeBatches (Batch stop) = stop.batch ≡ None
 abbrev pub IsAppendError : AppendError → forms.Format → SchemaModel → List RecordBatchTree → Option Decoded → Type 0
 IsAppendError e form s went None = Unit {0}
 IsAppendError Schema form s went (Some x) = HasTable (x.first 0) (λ h. h.schema ≡ s → ⊥)
-IsAppendError (Batch stop) form s went (Some x) = FailsAt all form went x stop.batch stop.error × HasSchema stop.batch s x
+IsAppendError (Batch stop) form s went (Some x) = FailsWhileCopying all form went x stop.batch stop.error × HasSchema stop.batch s x
 
 module _ {W : Type 0} (contents : W → Option (List ℕ)) where
   -- the record batches of an input were written after those of the writer, whose schema it has

@@ -25,11 +25,11 @@ use Rattle.cli_args.specs.declared.format.Format as forms
 use Rattle.cli_args.specs.declared.format.Format.TheVariants.{File, Stream}
 
 -- no further record batch is needed: the slice has all its rows
-abbrev pub HasAllRows : SelectionTree → TableTree → Type 0
-HasAllRows (slice o n) h = n ≤ length (table_rows h) - o
-HasAllRows all h = ⊥
-HasAllRows (where_true column) h = ⊥
-HasAllRows (indices places) h = ⊥
+abbrev pub HasSelectedRows : SelectionTree → TableTree → Type 0
+HasSelectedRows (slice o n) h = n ≤ length (table_rows h) - o
+HasSelectedRows all h = ⊥
+HasSelectedRows (where_true column) h = ⊥
+HasSelectedRows (indices places) h = ⊥
 
 -- the selected rows with the same schema; of all rows the same record batches
 abbrev pub IsCopy : SelectionTree → TableTree → TableTree → Type 0
@@ -43,8 +43,8 @@ abbrev pub WritesCopy : SelectionTree → forms.Format → Result TableTree form
 WritesCopy c form read old new = HasTable read (λ h. (t : TableTree) × (bytes : List ℕ) × IsCopy c h t × IsEncodingOf form t bytes × Appends old new bytes)
 
 -- the first record batches are all, or have all selected rows
-abbrev pub IsSufficient : SelectionTree → Decoded → ℕ → Type 0
-IsSufficient c s k = HasTable (s.first k) (λ h. (s.whole ≡ Ok h) ⊎ HasAllRows c h)
+abbrev pub HasSufficientBatches : SelectionTree → Decoded → ℕ → Type 0
+HasSufficientBatches c s k = HasTable (s.first k) (λ h. (s.whole ≡ Ok h) ⊎ HasSelectedRows c h)
 
 -- ---- errors
 
@@ -75,12 +75,12 @@ IsCopyError Input c form front read = Unit {0}
 IsCopyError Output c form front read = Unit {0}
 
 -- The error occurred before any record batch; or in one after record batches that are not sufficient; or after sufficient ones.
-abbrev pub FailsAt : SelectionTree → forms.Format → List RecordBatchTree → Decoded → Option ℕ → CliError → Type 0
-FailsAt c form front s None error = IsCopyError error c form front (s.first 0)
-FailsAt c form front s (Some k) error = (IsCopyError error c form front (s.first (k + 1)) × HasTable (s.first k) (λ h. HasAllRows c h → ⊥)) ⊎ (IsCopyError error c form front (s.first k) × IsSufficient c s k)
+abbrev pub FailsWhileCopying : SelectionTree → forms.Format → List RecordBatchTree → Decoded → Option ℕ → CliError → Type 0
+FailsWhileCopying c form front s None error = IsCopyError error c form front (s.first 0)
+FailsWhileCopying c form front s (Some k) error = (IsCopyError error c form front (s.first (k + 1)) × HasTable (s.first k) (λ h. HasSelectedRows c h → ⊥)) ⊎ (IsCopyError error c form front (s.first k) × HasSufficientBatches c s k)
 
 -- A copy of the first record batches was written: of all, or of sufficient ones. Or an error occurred.
 abbrev pub Copies : {W : Type 0} → (W → Option (List ℕ)) → forms.Format → SelectionTree → Option Decoded → W → Result W BatchError → Type 0
 Copies contents form c None start result = Unit {0}
-Copies contents form c (Some s) start (Ok end) = (k : ℕ) × WritesCopy c form (s.first k) (contents start) (contents end) × IsSufficient c s k
-Copies contents form c (Some s) start (Err stop) = FailsAt c form [] s stop.batch stop.error
+Copies contents form c (Some s) start (Ok end) = (k : ℕ) × WritesCopy c form (s.first k) (contents start) (contents end) × HasSufficientBatches c s k
+Copies contents form c (Some s) start (Err stop) = FailsWhileCopying c form [] s stop.batch stop.error

@@ -15,7 +15,7 @@ use Rattle.cli_args.specs.Requests.{SelectionTree}
 use Rattle.cli_args.specs.declared.format.Format as forms
 use Rattle.cli_write.specs.RemainingSelections.{AreSelectedBatches, IsBatchSelectionError}
 use Rattle.cli_rows.specs.RowOrder.{IsInRowOrder, remaining_selection}
-use Rattle.cli_write.specs.Copies.{HasAllRows, IsCopyError}
+use Rattle.cli_write.specs.Copies.{HasSelectedRows, IsCopyError}
 use Rattle.cli_write.specs.Writers.{FailsBatches, HasWritten}
 use Rattle.cli_write.specs.declared.writer.BatchWriter.{BatchWriter}
 
@@ -50,7 +50,7 @@ module _ {W : Type 0} (contents : W → Option (List ℕ)) where
     pub came : List RecordBatchTree
     pub went : List RecordBatchTree
     pub at : t.first k ≡ Ok came
-    pub are_all : (t.first k ≡ t.whole) ⊎ HasAllRows c (table_of_batches s came)
+    pub are_all : (t.first k ≡ t.whole) ⊎ HasSelectedRows c (table_of_batches s came)
     pub are : AreSelectedBatches c s.fields came went
     pub has_column : spec_selection_error c s.fields ≡ None
     pub put : HasWritten contents form start s (front ++ went) writer
@@ -67,11 +67,11 @@ IsCopyStep None Next End = End
 -- the record batch after so many, which are not sufficient, was not copied
 abbrev pub FailsNextBatch : CliError → forms.Format → SelectionTree → SchemaModel → List RecordBatchTree → Option Remaining → ℕ → Type 0
 FailsNextBatch error form c s front None k = Unit {0}
-FailsNextBatch error form c s front (Some t) k = IsCopyError error c form front (table_with s (t.first (k + 1))) × HasTable (table_with s (t.first k)) (λ h. HasAllRows c h → ⊥)
+FailsNextBatch error form c s front (Some t) k = IsCopyError error c form front (table_with s (t.first (k + 1))) × HasTable (table_with s (t.first k)) (λ h. HasSelectedRows c h → ⊥)
 
-abbrev pub FailsAfter : Option ℕ → CliError → forms.Format → SelectionTree → SchemaModel → List RecordBatchTree → Option Remaining → Type 0
-FailsAfter None error form c s front t = ⊥
-FailsAfter (Some k) error form c s front t = FailsNextBatch error form c s front t k
+abbrev pub FailsAfterBatches : Option ℕ → CliError → forms.Format → SelectionTree → SchemaModel → List RecordBatchTree → Option Remaining → Type 0
+FailsAfterBatches None error form c s front t = ⊥
+FailsAfterBatches (Some k) error form c s front t = FailsNextBatch error form c s front t k
 
 abbrev pub IsCopyStateError : BatchError → forms.Format → SelectionTree → SchemaModel → List RecordBatchTree → Option Remaining → Type 0
-IsCopyStateError stop form c s front t = FailsAfter stop.batch stop.error form c s front t
+IsCopyStateError stop form c s front t = FailsAfterBatches stop.batch stop.error form c s front t

@@ -43,11 +43,11 @@ pub record ReadsBatch (fs : List FieldTree) (text : List ℕ) (used count : ℕ)
   pub held : batch_rows fs new ≡ batch_rows fs old ++ records_of (record_type fs) rows
 
 -- the error of a text, and that of lines after others
-abbrev pub text_error : JsonReadError → ImportError
-text_error (text_faults.Type e) = causes.Type e
-text_error (text_faults.Line line e) = causes.Line line e
-text_error text_faults.Overflow = causes.Overflow
-text_error text_faults.Memory = causes.Memory
+abbrev pub json_import_error : JsonReadError → ImportError
+json_import_error (text_faults.Type e) = causes.Type e
+json_import_error (text_faults.Line line e) = causes.Line line e
+json_import_error text_faults.Overflow = causes.Overflow
+json_import_error text_faults.Memory = causes.Memory
 
 abbrev pub spec_after_lines : ℕ → ImportError → ImportError
 spec_after_lines n (causes.Line line e) = causes.Line (n + line) e

@@ -4,7 +4,7 @@ use Rattle.std.specs.Io.KnownBytes.{Appends}
 use Rattle.ipc_flatbuf.specs.declared.error.IpcWriteError as reasons
 use Rattle.ipc_schema.specs.Schemas.{SchemaModel}
 use Rattle.ipc_schema.specs.SchemaBytes.{schema_message}
-use Rattle.ipc.specs.Streams.{RecordBatchTree, types_of}
+use Rattle.ipc.specs.Streams.{RecordBatchTree, column_types}
 use Rattle.ipc.specs.EncodedStreams.{IsErrorOrMemory, encoded_batches, batches_error, schema_error, stream_dictionary_batches}
 use Rattle.ipc.specs.EncodedFiles.{file_batches_error, file_state_end, file_state_start, file_dictionary_batches}
 use Rattle.ipc_io.specs.declared.error.WriteError.{WriteError}
@@ -30,7 +30,7 @@ module _ {W : Type 0} (contents : W → Option (List ℕ)) where
     pub again : SchemaRoundTrips s
     pub written : writers.WritesBatches contents bs first w
     pub put : writers.HasPut contents stream_dictionary_batches (contents start) (schema_message s) s bs w
-    pub form : batches_error (types_of s) [] bs ≡ None
+    pub form : batches_error (column_types s) [] bs ≡ None
 
   -- a file of them
   pub record IsFileWriter (start : W) (s : SchemaModel) (bs : List RecordBatchTree) (w : FileWriterTree W) : Type 0 where
@@ -38,7 +38,7 @@ module _ {W : Type 0} (contents : W → Option (List ℕ)) where
     pub put : writers.HasPut contents file_dictionary_batches (contents start) (header_bytes s) s bs w.stream
     pub position : w.position ≡ length (header_bytes s) + length (encoded_batches file_dictionary_batches [] bs)
     pub known : file_state_so_far w ≡ file_state_end s bs
-    pub form : file_batches_error (types_of s) (file_state_start s) bs ≡ None
+    pub form : file_batches_error (column_types s) (file_state_start s) bs ≡ None
 
   -- in either format
   abbrev pub HasWritten : forms.Format → W → SchemaModel → List RecordBatchTree → BatchWriter W → Type 0

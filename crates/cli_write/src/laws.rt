@@ -15,7 +15,7 @@ ghost use Rattle.cli_rows.specs.declared.error.CliError.TheVariants.{Read, Unkno
 ghost use Rattle.cli_read.specs.InputExamples.{broken_input, complete_input};
 ghost use Rattle.cli_write.specs.Concat.{IsAppendError, WritesConcatenation};
 ghost use Rattle.cli_write.specs.ConcatExamples.{truncated_batch};
-ghost use Rattle.cli_write.specs.Copies.{FailsAt, IsCopy, IsSufficient};
+ghost use Rattle.cli_write.specs.Copies.{FailsWhileCopying, IsCopy, HasSufficientBatches};
 ghost use Rattle.cli_write.specs.Imports.{HasRows, IsImportError, WritesLines};
 ghost use Rattle.cli_write.specs.LineExamples.{IsBooleanLine, float_field};
 ghost use Rattle.cli_write.specs.Writers.{WritesTableBatches};
@@ -37,20 +37,20 @@ pub fn selected_rows_are_copied()
 /// A batch of two rows is sufficient for the first two rows, whatever is after it, and not for the third. It is sufficient for all rows if no
 /// batch is after it.
 pub fn first_batches_are_sufficient()
-    ensures first { IsSufficient (slice 0 2) (broken_input (boolean_table ((true ∷ false ∷ []) ∷ [])) Truncated) 1 }
-    ensures third { IsSufficient (slice 1 2) (broken_input (boolean_table ((true ∷ false ∷ []) ∷ [])) Truncated) 1 → ⊥ }
-    ensures whole { IsSufficient all (complete_input (boolean_table ((true ∷ false ∷ []) ∷ []))) 1 }
-    ensures part { IsSufficient all (broken_input (boolean_table ((true ∷ false ∷ []) ∷ [])) Truncated) 1 → ⊥ }
+    ensures first { HasSufficientBatches (slice 0 2) (broken_input (boolean_table ((true ∷ false ∷ []) ∷ [])) Truncated) 1 }
+    ensures third { HasSufficientBatches (slice 1 2) (broken_input (boolean_table ((true ∷ false ∷ []) ∷ [])) Truncated) 1 → ⊥ }
+    ensures whole { HasSufficientBatches all (complete_input (boolean_table ((true ∷ false ∷ []) ∷ []))) 1 }
+    ensures part { HasSufficientBatches all (broken_input (boolean_table ((true ∷ false ∷ []) ∷ [])) Truncated) 1 → ⊥ }
 {}
 
 /// An error stops a copy in its record batch, not in an earlier or a later one, and not if the rows before it are sufficient. An unknown column
 /// stops it before any record batch.
 pub fn errors_stop_a_copy()
-    ensures after { FailsAt all Stream [] (broken_input (boolean_table ((true ∷ []) ∷ [])) Truncated) (Some 1) (Read Truncated) }
-    ensures early { FailsAt all Stream [] (broken_input (boolean_table ((true ∷ []) ∷ [])) Truncated) (Some 0) (Read Truncated) → ⊥ }
-    ensures late { FailsAt all Stream [] (broken_input (boolean_table ((true ∷ []) ∷ [])) Truncated) (Some 2) (Read Truncated) → ⊥ }
-    ensures enough { FailsAt (slice 0 1) Stream [] (broken_input (boolean_table ((true ∷ []) ∷ [])) Truncated) (Some 1) (Read Truncated) → ⊥ }
-    ensures column { FailsAt (where_true (named (codes "o"))) Stream [] (complete_input three_booleans) None UnknownColumn }
+    ensures after { FailsWhileCopying all Stream [] (broken_input (boolean_table ((true ∷ []) ∷ [])) Truncated) (Some 1) (Read Truncated) }
+    ensures early { FailsWhileCopying all Stream [] (broken_input (boolean_table ((true ∷ []) ∷ [])) Truncated) (Some 0) (Read Truncated) → ⊥ }
+    ensures late { FailsWhileCopying all Stream [] (broken_input (boolean_table ((true ∷ []) ∷ [])) Truncated) (Some 2) (Read Truncated) → ⊥ }
+    ensures enough { FailsWhileCopying (slice 0 1) Stream [] (broken_input (boolean_table ((true ∷ []) ∷ [])) Truncated) (Some 1) (Read Truncated) → ⊥ }
+    ensures column { FailsWhileCopying (where_true (named (codes "o"))) Stream [] (complete_input three_booleans) None UnknownColumn }
 {}
 
 /// An input of the same schema is appended, and one of another schema is not. An error is returned in its record batch, and not for an input

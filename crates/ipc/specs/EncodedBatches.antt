@@ -21,7 +21,7 @@ use Rattle.ipc.specs.DictionaryEntries.{DictionaryEntries}
 use Rattle.ipc.specs.FileDictionaries.{DictionaryBatchTree}
 use Rattle.ipc.specs.Streams.{RecordBatchTree}
 use Rattle.ipc.specs.EncodedStreams.{batch_tree, batch_bytes, dictionary_head, dictionary_bytes, emitted_after, encoded_batch, encoded_batches, or_error, schema_error, metadata_error, error_of, each_error, error_from, IsErrorOrMemory, BatchRoundTrips, BatchesRoundTrip}
-use Rattle.ipc.specs.EncodedFiles.{block_at, dictionary_blocks, Blocks, no_blocks, with_blocks, batch_offset, file_dictionary_batches, blocks_from, length_error, after, FileState, file_state_after}
+use Rattle.ipc.specs.EncodedFiles.{block_at, dictionary_blocks, Blocks, no_blocks, with_blocks, batch_offset, file_dictionary_batches, blocks_from, block_length_error, after, FileState, file_state_after}
 
 module _ {A B : Type 0} (f : A → B) where
   pub taken : (xs : List A) (i : ℕ) (x : A) → i < length xs → x ≡ get_or xs i x → map f (take (i + 1) xs) ≡ map f (take i xs) ++ f x ∷ []
@@ -218,12 +218,12 @@ schema_accepted s form small =
 -- ---- a file
 
 -- a message that is too long for a block
-pub long_refused : (r : Option IpcWriteError) (head : List ℕ) (why : IpcWriteError) → r ≡ None → why ≡ Size → 2 ^ 31 ≤ length head → IsErrorOrMemory (or_error r (length_error head)) why
+pub long_refused : (r : Option IpcWriteError) (head : List ℕ) (why : IpcWriteError) → r ≡ None → why ≡ Size → 2 ^ 31 ≤ length head → IsErrorOrMemory (or_error r (block_length_error head)) why
 long_refused r head why none size long =
     let past : leb (2 ^ 31) (length head) ≡ true = le-leb _ _ long in
     inr (rw (none, past, size) refl)
 
-pub short_accepted : (r : Option IpcWriteError) (head : List ℕ) → r ≡ None → length head < 2 ^ 31 → or_error r (length_error head) ≡ None
+pub short_accepted : (r : Option IpcWriteError) (head : List ℕ) → r ≡ None → length head < 2 ^ 31 → or_error r (block_length_error head) ≡ None
 short_accepted r head none short =
     let fits : leb (2 ^ 31) (length head) ≡ false = lt-leb _ _ short in
     rw (none, fits) refl

@@ -17,12 +17,12 @@ use Rattle.ipc_schema.specs.Footers.{FooterModel}
 use Rattle.ipc_schema.specs.FooterBytes.{footer_bytes, file_head, file_end}
 use Rattle.ipc.specs.DictionaryEntries.{DictionaryEntries}
 use Rattle.ipc.specs.FileDictionaries.{DictionaryBatchTree, spec_dictionary_batches, spec_any_replaced}
-use Rattle.ipc.specs.Streams.{RecordBatchTree, StateTree, start, state_of, types_of, dictionary_in}
+use Rattle.ipc.specs.Streams.{RecordBatchTree, StateTree, start, state_of, column_types, dictionary_in}
 use Rattle.ipc.specs.Files.{FileTree}
 use Rattle.ipc.specs.declared.writing_files.FileBlocks as declared
 use Rattle.ipc.specs.declared.state.DictionaryState as code
 use Rattle.nest_array.specs.declared.any.AnyArray.{AnyArray}
-use Rattle.ipc.specs.EntriesOf.{entries_of}
+use Rattle.ipc.specs.EntriesOf.{dictionary_entries_of}
 use Rattle.ipc.specs.EncodedStreams.{batch_head, batch_bytes, dictionary_head, dictionary_bytes, pending_by, emitted_after, encoded_messages, or_error, size_error_if, schema_error, spec_are_columns, record_batch_error, dictionary_error, error_from, decoded_record_batch, decoded_batches}
 
 -- ---- bytes
@@ -74,8 +74,8 @@ blocks_from position emitted (b ∷ bs) =
     before_blocks (dictionary_blocks position (file_dictionary_batches emitted b)) (written_block (batch_offset position emitted b) b) (blocks_from (batch_offset position emitted b + length (batch_bytes b)) (emitted_after emitted b) bs)
 
 -- those that the code holds
-abbrev pub blocks_of : declared.FileBlocks → Blocks
-blocks_of b = record { dictionaries = b.dictionaries.items; batches = b.batches.items }
+abbrev pub file_blocks_of : declared.FileBlocks → Blocks
+file_blocks_of b = record { dictionaries = b.dictionaries.items; batches = b.batches.items }
 
 -- all follow the first 8 bytes and the schema message
 abbrev pub written_blocks : SchemaModel → List RecordBatchTree → Blocks
@@ -124,7 +124,7 @@ file_state emitted state = record { emitted = emitted; state = state }
 
 -- of the values that the code holds
 abbrev pub file_state_of : List (ℤ × AnyArray) → code.DictionaryState → FileState
-file_state_of emitted state = file_state (entries_of emitted) (state_of state)
+file_state_of emitted state = file_state (dictionary_entries_of emitted) (state_of state)
 
 abbrev pub file_state_after : FileState → RecordBatchTree → FileState
 file_state_after f b = record { emitted = emitted_after f.emitted b; state = after state_after f.state (file_dictionary_batches f.emitted b) }
@@ -140,14 +140,14 @@ file_state_end s bs = after file_state_after (file_state_start s) bs
 -- ---- the first error of a file
 
 -- a block cannot hold the length of a message
-abbrev pub length_error : List ℕ → Option IpcWriteError
-length_error head = size_error_if (nat_le (2 ^ 31) (length head))
+abbrev pub block_length_error : List ℕ → Option IpcWriteError
+block_length_error head = size_error_if (nat_le (2 ^ 31) (length head))
 
 abbrev pub dictionary_block_error : DictionaryBatchTree → Option IpcWriteError
-dictionary_block_error p = or_error (dictionary_error p) (length_error (dictionary_head p))
+dictionary_block_error p = or_error (dictionary_error p) (block_length_error (dictionary_head p))
 
 abbrev pub record_batch_block_error : RecordBatchTree → Option IpcWriteError
-record_batch_block_error b = or_error (record_batch_error b) (length_error (batch_head b))
+record_batch_block_error b = or_error (record_batch_error b) (block_length_error (batch_head b))
 
 -- a pending dictionary replaces an emitted one: the values of an id can only be extended
 abbrev pub replaced_error : DictionaryEntries → DictionaryEntries → Option IpcWriteError
@@ -189,11 +189,11 @@ footer_error f = size_error_if (nat_le (2 ^ 31) (length (footer_bytes f)))
 
 -- the first error of the messages of a file: the schema, then batch by batch
 abbrev pub messages_error : SchemaModel → List RecordBatchTree → Option IpcWriteError
-messages_error s bs = or_error (schema_error s) (file_batches_error (types_of s) (file_state_start s) bs)
+messages_error s bs = or_error (schema_error s) (file_batches_error (column_types s) (file_state_start s) bs)
 
 -- the first error of a file: the schema, then batch by batch, then the footer
 abbrev pub file_error : SchemaModel → List RecordBatchTree → Option IpcWriteError
-file_error s bs = or_error (schema_error s) (or_error (file_batches_error (types_of s) (file_state_start s) bs) (footer_error (written_footer s bs)))
+file_error s bs = or_error (schema_error s) (or_error (file_batches_error (column_types s) (file_state_start s) bs) (footer_error (written_footer s bs)))
 
 -- no record batch needs a delta
 abbrev pub HasNoDeltas : DictionaryEntries → List RecordBatchTree → Type 0

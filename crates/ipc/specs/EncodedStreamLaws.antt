@@ -44,14 +44,14 @@ use Rattle.ipc_arrays.specs.Encoding.{columns_body}
 use Rattle.ipc.specs.DictionaryEntries.{DictionaryEntries, own_entries, columns_own}
 use Rattle.ipc.specs.PendingDictionaries.{entry_at}
 use Rattle.ipc.specs.KnownDictionaries.{IsKnown, Covers, Follows, AreInOrder, AreAllKnown, number_of, read_columns, read_values, known_with}
-use Rattle.ipc.specs.SchemaIds.{ids_of, values_of, IsNamed, AreNamed, seen_of_fields}
+use Rattle.ipc.specs.SchemaIds.{entry_ids, values_of, IsNamed, AreNamed, seen_of_fields}
 use Rattle.ipc.specs.RoundTrips.{written_rest, ColumnsRoundTrip, ValuesRoundTrip}
 use Rattle.ipc.specs.RoundTrips as again
 use Rattle.ipc.specs.RoundTripLaws.{columns_again, covers_all, values_again, columns_known}
 use Rattle.ipc.specs.KnownDictionaryLaws.{columns_needed_of}
 use Rattle.ipc.specs.SchemaIdLaws.{are_named}
 use Rattle.ipc.specs.FileDictionaries.{DictionaryBatchTree, whole}
-use Rattle.ipc.specs.Streams.{RecordBatchTree, StateTree, spec_appendable_after, spec_has_views, start, record_batch_in, dictionary_in, data_in, spec_check_order, known_at, spec_only_column, spec_with_values, message_in, message_by_kind, next_in, batches_in, types_of, values_at, projected_stream_in, stream_in}
+use Rattle.ipc.specs.Streams.{RecordBatchTree, StateTree, spec_appendable_after, spec_has_views, start, record_batch_in, dictionary_in, data_in, spec_check_order, known_at, spec_only_column, spec_with_values, message_in, message_by_kind, next_in, batches_in, column_types, values_at, projected_stream_in, stream_in}
 use Rattle.ipc.specs.StreamLaws.{by_message, one_by_one}
 use Rattle.ipc.specs.EncodedBatches.{first_accepts, others_accept}
 use Rattle.ipc.specs.EncodedStreams.{batch_tree, batch_head, batch_bytes, one_column, dictionary_head, dictionary_bytes, pending_by, stream_dictionary_batches, emitted_after, encoded_batch, encoded_batches, encoded_messages, encoded_stream, spec_is_column, spec_are_columns, batch_error, batches_error, decoded_record_batch, known_after, decoded_batches_from, decoded_batches, decoded_stream, IsSameBatch, AreSameBatches, HasAllColumns, CanReadBatch, CanReadDictionary, RecordBatchRoundTrips, DictionaryRoundTrips, BatchRoundTrips, BatchesRoundTrip, known_more}
@@ -94,7 +94,7 @@ steps_same [] = refl
 steps_same (f ∷ fields) = ap (λ (steps : List FieldAction). Read ∷ steps) (steps_same fields)
 
 -- the values of ids are those of entries
-values_of_ids : (known : DictionaryEntries) (entries : DictionaryEntries) → values_at known (ids_of entries) ≡ again.values_at known entries
+values_of_ids : (known : DictionaryEntries) (entries : DictionaryEntries) → values_at known (entry_ids entries) ≡ again.entry_values known entries
 values_of_ids known [] = refl
 values_of_ids known (e ∷ entries) = ap (λ (vs : List (Option Layout)). entry_at known e.0 ∷ vs) (values_of_ids known entries)
 
@@ -103,12 +103,12 @@ unfolding record_batch_in
 arrays_again b m s batch body over reads =
     let columns : List Layout = b.columns in
     let fields : List FieldTree = s.picked.schema.fields in
-    let types : List TypeTree = types_of s.picked.schema in
+    let types : List TypeTree = column_types s.picked.schema in
     let whole : HasAllColumns s = reads.whole in
     let back : ColumnsRoundTrip s.known columns = columns_again s.known columns over reads.known in
-    let rest : Rest = written_rest columns (again.values_at s.known (columns_own 0 columns)) in
-    let outer : spec_outermost_ids s.picked.seen.named s.picked.seen.ids ≡ ids_of (columns_own 0 columns) = rw whole.seen reads.named.outer in
-    let values : values_at s.known (spec_outermost_ids s.picked.seen.named s.picked.seen.ids) ≡ again.values_at s.known (columns_own 0 columns) = ap (values_at s.known) outer ∙ values_of_ids s.known (columns_own 0 columns) in
+    let rest : Rest = written_rest columns (again.entry_values s.known (columns_own 0 columns)) in
+    let outer : spec_outermost_ids s.picked.seen.named s.picked.seen.ids ≡ entry_ids (columns_own 0 columns) = rw whole.seen reads.named.outer in
+    let values : values_at s.known (spec_outermost_ids s.picked.seen.named s.picked.seen.ids) ≡ again.entry_values s.known (columns_own 0 columns) = ap (values_at s.known) outer ∙ values_of_ids s.known (columns_own 0 columns) in
     let read : decoded_columns types b.rows (columns_body columns) rest ≡ Ok (read_columns s.known columns) =
     ap (λ (ts : List TypeTree). decoded_columns ts b.rows (columns_body columns) rest) (types_are types b.rows columns reads.columns) ∙ back.read b.rows (lengths_are types b.rows columns reads.columns) in
     let picked : decoded_projection (read_actions fields) types b.rows (columns_body columns) (record { rest = rest; more = [] }) ≡ Ok (read_columns s.known columns) =
@@ -173,9 +173,9 @@ values_known p once s message over reads =
     let inside : AllByRecursion (Covers s.known) (own_entries (suc id) c) = subst (λ (n : ℕ). AllByRecursion (Covers s.known) (own_entries (suc n) c)) number reads.inside in
     let back : ValuesRoundTrip s.known id c = values_again s.known id c over inside in
     let v : ValueTypeModel = values_of id c in
-    let values : values_at s.known (spec_outermost_ids s.picked.seen.named v.inside) ≡ again.values_at s.known (own_entries (suc id) c) = ap (values_at s.known) named.outer ∙ values_of_ids s.known (own_entries (suc id) c) in
-    let column : spec_only_column v.values (len c) (columns_body (c ∷ [])) (written_rest (c ∷ []) (again.values_at s.known (own_entries (suc id) c))) ≡ Ok (read_values s.known id c) =
-    only_of v.values (len c) (columns_body (c ∷ [])) (written_rest (c ∷ []) (again.values_at s.known (own_entries (suc id) c))) (read_values s.known id c) back.read in
+    let values : values_at s.known (spec_outermost_ids s.picked.seen.named v.inside) ≡ again.entry_values s.known (own_entries (suc id) c) = ap (values_at s.known) named.outer ∙ values_of_ids s.known (own_entries (suc id) c) in
+    let column : spec_only_column v.values (len c) (columns_body (c ∷ [])) (written_rest (c ∷ []) (again.entry_values s.known (own_entries (suc id) c))) ≡ Ok (read_values s.known id c) =
+    only_of v.values (len c) (columns_body (c ∷ [])) (written_rest (c ∷ []) (again.entry_values s.known (own_entries (suc id) c))) (read_values s.known id c) back.read in
     let at : data_in once (is_some (known_at s.known p.1.0)) m.metadata message.table ≡ Ok (message.position, p.0) = data_again p once s message reads in
     let same : read_values s.known id c ≡ read_values s.known (number_of p.1.0) c = ap (λ (n : ℕ). read_values s.known n c) (sym number) in
     rw (message.visited, message.same_id, named.values, at, message.same_batch, values, message.same_body, column, same) refl
@@ -257,14 +257,14 @@ behind_batch s emitted b = behind_values s (pending_by emitted b)
 pub part_known : (s : StateTree) (emitted : DictionaryEntries) (b : RecordBatchTree) → BatchRoundTrips (stream_dictionary_batches emitted b) b → IsBehind s emitted → AreAllKnown s.known emitted b.columns
 part_known s emitted b ok behind = columns_known s.known emitted b.columns behind.follows (over_each (pending_by emitted b) ok.dictionaries)
 
-pub part_named : (s : StateTree) (emitted : DictionaryEntries) (b : RecordBatchTree) → BatchRoundTrips (stream_dictionary_batches emitted b) b → IsBehind s emitted → spec_are_columns (types_of s.picked.schema) b.rows b.columns ≡ true → AreNamed s.picked.schema.fields b.columns
-part_named s emitted b ok behind columns = are_named s.picked.schema.fields b.columns behind.form (types_are (types_of s.picked.schema) b.rows b.columns columns) ok.fits
+pub part_named : (s : StateTree) (emitted : DictionaryEntries) (b : RecordBatchTree) → BatchRoundTrips (stream_dictionary_batches emitted b) b → IsBehind s emitted → spec_are_columns (column_types s.picked.schema) b.rows b.columns ≡ true → AreNamed s.picked.schema.fields b.columns
+part_named s emitted b ok behind columns = are_named s.picked.schema.fields b.columns behind.form (types_are (column_types s.picked.schema) b.rows b.columns columns) ok.fits
 
 pub still_behind : (s : StateTree) (emitted : DictionaryEntries) (b : RecordBatchTree) → BatchRoundTrips (stream_dictionary_batches emitted b) b → IsBehind s emitted → IsBehind (behind_batch s emitted b) (emitted_after emitted b)
 still_behind s emitted b ok behind = record { whole = record { steps = behind.whole.steps; seen = behind.whole.seen }; form = behind.form; follows = (part_known s emitted b ok behind).follows }
 
 -- a record batch after its pending dictionaries is the next one, and these are known
-pub part_next : (s : StateTree) (emitted : DictionaryEntries) (b : RecordBatchTree) (rest : List ℕ) → BatchRoundTrips (stream_dictionary_batches emitted b) b → IsBehind s emitted → spec_are_columns (types_of s.picked.schema) b.rows b.columns ≡ true
+pub part_next : (s : StateTree) (emitted : DictionaryEntries) (b : RecordBatchTree) (rest : List ℕ) → BatchRoundTrips (stream_dictionary_batches emitted b) b → IsBehind s emitted → spec_are_columns (column_types s.picked.schema) b.rows b.columns ≡ true
     → next_in s (encoded_batch stream_dictionary_batches emitted b ++ rest) ≡ Ok ((Some (decoded_record_batch (known_after s.known emitted b) b), behind_batch s emitted b), rest)
 unfolding encoded_batch
 part_next s emitted b rest ok behind columns =
@@ -293,15 +293,15 @@ pub has_columns : (types : List TypeTree) (emitted : DictionaryEntries) (b : Rec
 has_columns types emitted b h = columns_if (spec_are_columns types b.rows b.columns) _ h
 
 -- record batches are read in order, up to the end-of-stream marker
-pub batches_again : (s : StateTree) (emitted : DictionaryEntries) (bs : List RecordBatchTree) (rest : List ℕ) → BatchesRoundTrip stream_dictionary_batches emitted bs → IsBehind s emitted → batches_error (types_of s.picked.schema) emitted bs ≡ None
+pub batches_again : (s : StateTree) (emitted : DictionaryEntries) (bs : List RecordBatchTree) (rest : List ℕ) → BatchesRoundTrip stream_dictionary_batches emitted bs → IsBehind s emitted → batches_error (column_types s.picked.schema) emitted bs ≡ None
     → batches_in s (encoded_batches stream_dictionary_batches emitted bs ++ (end_of_stream ++ rest)) ≡ Ok (decoded_batches_from s.known emitted bs, rest)
 unfolding encoded_batches
 batches_again s emitted [] rest ok behind none = rw (one_by_one s (end_of_stream ++ rest), end_read s rest) refl
 batches_again s emitted (b ∷ bs) rest ok behind none =
     let others : List ℕ = encoded_batches stream_dictionary_batches (emitted_after emitted b) bs ++ (end_of_stream ++ rest) in
     let bytes : (encoded_batch stream_dictionary_batches emitted b ++ encoded_batches stream_dictionary_batches (emitted_after emitted b) bs) ++ (end_of_stream ++ rest) ≡ encoded_batch stream_dictionary_batches emitted b ++ others = append_assoc (encoded_batch stream_dictionary_batches emitted b) (encoded_batches stream_dictionary_batches (emitted_after emitted b) bs) (end_of_stream ++ rest) in
-    let columns = has_columns (types_of s.picked.schema) emitted b (first_accepts (batch_error (types_of s.picked.schema) emitted b) (batches_error (types_of s.picked.schema) (emitted_after emitted b) bs) none) in
-    let more = others_accept (batch_error (types_of s.picked.schema) emitted b) (batches_error (types_of s.picked.schema) (emitted_after emitted b) bs) none in
+    let columns = has_columns (column_types s.picked.schema) emitted b (first_accepts (batch_error (column_types s.picked.schema) emitted b) (batches_error (column_types s.picked.schema) (emitted_after emitted b) bs) none) in
+    let more = others_accept (batch_error (column_types s.picked.schema) emitted b) (batches_error (column_types s.picked.schema) (emitted_after emitted b) bs) none in
     let next : StateTree = behind_batch s emitted b in
     let back = batches_again next (emitted_after emitted b) bs rest ok.1 (still_behind s emitted b ok.0 behind) more in
     rw (bytes, one_by_one s (encoded_batch stream_dictionary_batches emitted b ++ others), part_next s emitted b others ok.0 behind columns, back) refl
@@ -335,7 +335,7 @@ same_batches s bs form ok = same_each (written_start s) [] bs ok (starts_behind 
 pub whole_schema : (s : SchemaModel) (after : List ℕ) → stream_schema_at (schema_message s ++ after) ≡ Ok (with_dictionary_ids s, after) → stream_projected_schema_at all (schema_message s ++ after) ≡ Ok (all_written s, after)
 whole_schema s after keyed = stream_projection_of_all_is_schema (schema_message s ++ after) ∙ ap (λ (r : Result ((SchemaModel × DictionaryTypesModel) × List ℕ) IpcReadError). r >>= λ x. Ok (all_projected x.0.0 x.0.1, x.1)) keyed
 
-pub stream_round_trips : (s : SchemaModel) (bs : List RecordBatchTree) (rest : List ℕ) → ((after : List ℕ) → stream_schema_at (schema_message s ++ after) ≡ Ok (with_dictionary_ids s, after)) → check_fields s.fields ≡ Ok tt → batches_error (types_of s) [] bs ≡ None → BatchesRoundTrip stream_dictionary_batches [] bs
+pub stream_round_trips : (s : SchemaModel) (bs : List RecordBatchTree) (rest : List ℕ) → ((after : List ℕ) → stream_schema_at (schema_message s ++ after) ≡ Ok (with_dictionary_ids s, after)) → check_fields s.fields ≡ Ok tt → batches_error (column_types s) [] bs ≡ None → BatchesRoundTrip stream_dictionary_batches [] bs
     → stream_in (encoded_stream s bs ++ rest) ≡ Ok (decoded_stream s bs (length (encoded_stream s bs)))
 unfolding encoded_messages projected_stream_in
 stream_round_trips s bs rest keyed form none ok =

@@ -27,7 +27,7 @@ use Rattle.ipc.specs.PendingDictionaries.{entry_at, with_entries, pending}
 use Rattle.ipc.specs.KnownDictionaries.{Covers, CoversColumns, number_of, read_columns, read_values, known_with}
 use Rattle.ipc.specs.SchemaIds.{IsNamed, AreNamed, seen_of_fields}
 use Rattle.ipc.specs.FileDictionaries.{DictionaryBatchTree, whole}
-use Rattle.ipc.specs.Streams.{RecordBatchTree, StateTree, StreamTree, record_batch_in, dictionary_in, spec_check_order, types_of, with_new, spec_with_values}
+use Rattle.ipc.specs.Streams.{RecordBatchTree, StateTree, StreamTree, record_batch_in, dictionary_in, spec_check_order, column_types, with_new, spec_with_values}
 
 -- ---- bytes
 
@@ -148,7 +148,7 @@ batches_error types emitted bs = error_from emitted_after (batch_error types) em
 
 -- the first error of a stream: of the schema, then batch by batch
 abbrev pub stream_error : SchemaModel → List RecordBatchTree → Option IpcWriteError
-stream_error s bs = or_error (schema_error s) (batches_error (types_of s) [] bs)
+stream_error s bs = or_error (schema_error s) (batches_error (column_types s) [] bs)
 
 -- an error is this one, or a failed allocation
 abbrev pub IsErrorOrMemory : Option IpcWriteError → IpcWriteError → Type 0
@@ -203,7 +203,7 @@ pub record HasAllColumns (s : StateTree) : Type 0 where
 -- a record batch can be read in a state: the dictionaries that its columns name are known
 pub record CanReadBatch (s : StateTree) (b : RecordBatchTree) : Type 0 where
   pub whole : HasAllColumns s
-  pub columns : spec_are_columns (types_of s.picked.schema) b.rows b.columns ≡ true
+  pub columns : spec_are_columns (column_types s.picked.schema) b.rows b.columns ≡ true
   pub named : AreNamed s.picked.schema.fields b.columns
   pub known : CoversColumns s.known b.columns
 

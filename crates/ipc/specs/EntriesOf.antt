@@ -6,11 +6,11 @@ use Rattle.nest_array.specs.declared.any.AnyArray.{AnyArray}
 use Rattle.nest_model.specs.Layout.{Layout}
 use Rattle.ipc.specs.DictionaryEntries.{DictionaryEntries}
 
-abbrev pub entries_of : List (ℤ × AnyArray) → DictionaryEntries
-entries_of entries = map (λ e. (e.0, layout_of e.1)) entries
+abbrev pub dictionary_entries_of : List (ℤ × AnyArray) → DictionaryEntries
+dictionary_entries_of entries = map (λ e. (e.0, layout_of e.1)) entries
 
 abbrev pub entry_of : ℤ × Bor AnyArray → ℤ × Layout
 entry_of e = (e.0, layout_of e.1.now)
 
-abbrev pub found_of : List (ℤ × Bor AnyArray) → DictionaryEntries
-found_of found = map entry_of found
+abbrev pub borrowed_entries_of : List (ℤ × Bor AnyArray) → DictionaryEntries
+borrowed_entries_of found = map entry_of found

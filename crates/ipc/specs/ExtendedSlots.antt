@@ -17,7 +17,7 @@ use Rattle.nest_model.specs.SameArrayLaws.{same-len, same-slot, same-from_places
 use Rattle.nest_model.specs.Slot as slots
 use Rattle.nest_model.specs.Slot.{Slot, seal}
 use Rattle.ipc_arrays.specs.RoundTripLaws.{of_same, place_named}
-use Rattle.ipc_arrays.specs.ReplacedValues.{IsExtendedBy, where_valid}
+use Rattle.ipc_arrays.specs.ReplacedValues.{IsExtendedBy, same_where_valid}
 
 -- the same child arrays in order
 abbrev pub EachSame : Layouts → Layouts → Type 0
@@ -126,5 +126,5 @@ pub keyed_same : (t : TypeTree) (ks c d : Layout) → EachValidNames (validity_o
 keyed_same t ks c d named h =
     same-from_places (dictionary t ks c) (dictionary t ks d) refl refl
     (λ i lt.
-    where_valid (valid_at (validity_of ks) i) (slot c (to_index (key_at ks i))) (slot d (to_index (key_at ks i)))
+    same_where_valid (valid_at (validity_of ks) i) (slot c (to_index (key_at ks i))) (slot d (to_index (key_at ks i)))
     (λ valid. grown_slot c d (to_index (key_at ks i)) h (place_named (key_at ks i) (len c) (named i lt valid))))

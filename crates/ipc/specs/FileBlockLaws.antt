@@ -8,7 +8,7 @@ use Rattle.std.proofs.lemmas.List.{append-nil, length-append, take_at, drop_at}
 use Rattle.std.proofs.lemmas.List.Concat.{flat_map-cons}
 use Rattle.std.proofs.lemmas.List.Sums.{sum_by-cons}
 use Rattle.ipc_flatbuf.specs.Messages.{MessageModel, message_at}
-use Rattle.ipc_flatbuf.specs.MessageBytes.{spec_tag_of}
+use Rattle.ipc_flatbuf.specs.MessageBytes.{header_tag}
 use Rattle.ipc_flatbuf.specs.declared.message.types.MessageKind.{MessageKind}
 use Rattle.ipc_schema.specs.ProjectedSchemas.{ProjectedSchemaModel}
 use Rattle.ipc_schema.specs.declared.footer.types.Block.{Block}
@@ -132,7 +132,7 @@ message_found kind p bytes head body m front behind whole ok is long e =
     ap (λ (x : List ℕ). take n (drop (length front) x)) e ∙ ap (take n) (drop_at front (bytes ++ behind) (length front) refl) ∙ take_at bytes behind n long in
     let read : message_at bytes ≡ Ok (Some m, []) = subst (λ (x : List ℕ). message_at x ≡ Ok (Some m, [])) (append-nil bytes) (ok.again []) in
     let same_body = same_number (length m.body) (length body) ok.body_long in
-    let kinds = same_number (spec_tag_of m.root.kind) (spec_tag_of kind) (ap spec_tag_of is) in
+    let kinds = same_number (header_tag m.root.kind) (header_tag kind) (ap header_tag is) in
     rw (named, read, same_body, kinds, ok.version) refl
 
 -- the bytes at a position: the dictionary batches of a record batch, this, and what follows

@@ -21,7 +21,7 @@ use Rattle.ipc_schema.specs.DictionaryIds.{ids_from}
 use Rattle.ipc_schema.specs.OutermostIds.{ValueTypes, spec_outermost_ids}
 use Rattle.ipc.specs.DictionaryEntries.{DictionaryEntries, count_dictionaries, count_each_dictionaries, own_entries, each_own, entries_in, each_entries, columns_entries}
 use Rattle.ipc.specs.KnownDictionaryLaws.{all_both, columns_needed_of}
-use Rattle.ipc.specs.SchemaIds.{ids_of, values_of, IsNamed}
+use Rattle.ipc.specs.SchemaIds.{entry_ids, values_of, IsNamed}
 use Rattle.ipc.specs.PendingDictionaries.{entry_at, pending}
 use Rattle.ipc.specs.FileDictionaries.{DictionaryBatchTree, spec_delta_values, spec_begins_with, batches_for, spec_dictionary_batches}
 
@@ -98,7 +98,7 @@ named_behind named id c n h =
       id = h.id;
       number = h.number;
       values = h.values ∙ ap (λ (v : ValueTypeModel). Some v) same;
-      outer = ap (λ (v : ValueTypeModel). spec_outermost_ids named v.inside) (sym same) ∙ h.outer ∙ ap ids_of (sym (own_cut (suc h.id) c n (len c - n)));
+      outer = ap (λ (v : ValueTypeModel). spec_outermost_ids named v.inside) (sym same) ∙ h.outer ∙ ap entry_ids (sym (own_cut (suc h.id) c n (len c - n)));
     }
 
 -- ---- pending dictionaries, and their batches

@@ -28,7 +28,7 @@ use Rattle.ipc.specs.FilesLikeStreams.{all_as_stream}
 use Rattle.ipc.specs.FileStateLaws.{write_read, starts_file, IsAccepted, is_accepted, IsAtEnd, AreAtEnd, all_next}
 use Rattle.ipc.specs.FileBlockLaws.{batch_long, write_long, blocks_fit, message_found, LiesAt, lies_at}
 use Rattle.ipc.specs.Files.{block_in, block_batch_in, batches_at, dictionaries_at, no_block, file_reader_in, projected_file_in, file_in}
-use Rattle.ipc.specs.Streams.{RecordBatchTree, StateTree, types_of, dictionary_in}
+use Rattle.ipc.specs.Streams.{RecordBatchTree, StateTree, column_types, dictionary_in}
 use Rattle.ipc.specs.EncodedStreams.{batch_head, batch_bytes, dictionary_head, dictionary_bytes, emitted_after, encoded_batches, encoded_messages, decoded_record_batch, decoded_batches, AreSameBatches, DictionaryRoundTrips, BatchesRoundTrip}
 use Rattle.ipc.specs.EncodedFiles.{block_at, written_block, file_dictionary_batches, dictionary_blocks, batch_offset, blocks_from, written_footer, encoded_file, state_after, after, FileState, file_state_after, file_state_start, file_state_end, dictionary_batch_error, dictionary_batches_error, file_batch_error, file_batches_error, HasNoDeltas, decoded_file}
 use Rattle.ipc.specs.EncodedBatches.{first_accepts, others_accept}
@@ -136,10 +136,10 @@ batches_again end emitted (b ∷ bs) position front behind whole ok there e =
 
 -- ---- files
 
-pub at_end : (s : SchemaModel) (bs : List RecordBatchTree) → check_fields s.fields ≡ Ok tt → file_batches_error (types_of s) (file_state_start s) bs ≡ None → BatchesRoundTrip file_dictionary_batches [] bs → AreAtEnd (file_state_start s) (file_state_end s bs).state bs
-at_end s bs form none ok = all_next (types_of s) (file_state_start s) bs refl ok (starts_file s form) none
+pub at_end : (s : SchemaModel) (bs : List RecordBatchTree) → check_fields s.fields ≡ Ok tt → file_batches_error (column_types s) (file_state_start s) bs ≡ None → BatchesRoundTrip file_dictionary_batches [] bs → AreAtEnd (file_state_start s) (file_state_end s bs).state bs
+at_end s bs form none ok = all_next (column_types s) (file_state_start s) bs refl ok (starts_file s form) none
 
-pub file_round_trips : (s : SchemaModel) (bs : List RecordBatchTree) → projected_footer_in all (encoded_file s bs) ≡ Ok (projected_footer_of_all (written_footer s bs)) → check_fields s.fields ≡ Ok tt → file_batches_error (types_of s) (file_state_start s) bs ≡ None → BatchesRoundTrip file_dictionary_batches [] bs → file_in (encoded_file s bs) ≡ Ok (decoded_file s bs)
+pub file_round_trips : (s : SchemaModel) (bs : List RecordBatchTree) → projected_footer_in all (encoded_file s bs) ≡ Ok (projected_footer_of_all (written_footer s bs)) → check_fields s.fields ≡ Ok tt → file_batches_error (column_types s) (file_state_start s) bs ≡ None → BatchesRoundTrip file_dictionary_batches [] bs → file_in (encoded_file s bs) ≡ Ok (decoded_file s bs)
 unfolding projected_file_in file_reader_in
 file_round_trips s bs footer form none ok =
     let end : StateTree = (file_state_end s bs).state in
@@ -150,7 +150,7 @@ file_round_trips s bs footer form none ok =
     let all_at : AreAtEnd (file_state_start s) end bs = at_end s bs form none ok in
     let regrouped : whole ≡ front ++ (encoded_batches file_dictionary_batches [] bs ++ behind) = unfold encoded_file encoded_messages in simp append_assoc in
     let position : start ≡ length front = sym (length-append file_head (schema_message s)) in
-    let dictionaries = dictionaries_again (types_of s) (file_state_start s) bs start front behind whole ok none position regrouped in
+    let dictionaries = dictionaries_again (column_types s) (file_state_start s) bs start front behind whole ok none position regrouped in
     let batches = batches_again end [] bs start front behind whole all_at.each position regrouped in
     let read : file_in whole ≡ Ok (record { schema = end.picked.schema; batches = map (decoded_record_batch end.known) bs }) = rw (footer, dictionaries, batches) refl in
     read ∙ ap (λ (p : ProjectedSchemaModel). Ok (record { schema = p.schema; batches = map (decoded_record_batch end.known) bs })) all_at.later.picked
@@ -162,9 +162,9 @@ same_at_end end (b ∷ bs) ok =
     let back = columns_again end.known b.columns ok.0.again.over ok.0.reads.known in
     (record { rows = refl; types = back.types; slots = back.slots }, same_at_end end bs ok.1)
 
-pub file_same : (s : SchemaModel) (bs : List RecordBatchTree) → check_fields s.fields ≡ Ok tt → file_batches_error (types_of s) (file_state_start s) bs ≡ None → BatchesRoundTrip file_dictionary_batches [] bs → AreSameBatches bs (decoded_file s bs).batches
+pub file_same : (s : SchemaModel) (bs : List RecordBatchTree) → check_fields s.fields ≡ Ok tt → file_batches_error (column_types s) (file_state_start s) bs ≡ None → BatchesRoundTrip file_dictionary_batches [] bs → AreSameBatches bs (decoded_file s bs).batches
 file_same s bs form none ok = same_at_end (file_state_end s bs).state bs (at_end s bs form none ok).each
 
 -- without deltas the record batches are those of the stream
-pub shown_alike : (s : SchemaModel) (bs : List RecordBatchTree) → check_fields s.fields ≡ Ok tt → file_batches_error (types_of s) (file_state_start s) bs ≡ None → BatchesRoundTrip file_dictionary_batches [] bs → HasNoDeltas [] bs → (decoded_file s bs).batches ≡ decoded_batches bs
-shown_alike s bs form none ok still = (all_as_stream (types_of s) (file_state_start s) bs refl ok (starts_file s form) none (inl refl) still).batches
+pub shown_alike : (s : SchemaModel) (bs : List RecordBatchTree) → check_fields s.fields ≡ Ok tt → file_batches_error (column_types s) (file_state_start s) bs ≡ None → BatchesRoundTrip file_dictionary_batches [] bs → HasNoDeltas [] bs → (decoded_file s bs).batches ≡ decoded_batches bs
+shown_alike s bs form none ok still = (all_as_stream (column_types s) (file_state_start s) bs refl ok (starts_file s form) none (inl refl) still).batches

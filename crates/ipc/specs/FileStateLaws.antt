@@ -45,7 +45,7 @@ use Rattle.ipc.specs.DeltaLaws.{delta_joins, delta_type}
 use Rattle.ipc.specs.ExtendedDictionaries.{IsExtended, HoldsArray, AreAllArrays, KnowsMore, HasArrays, IsLater}
 use Rattle.ipc.specs.ExtendedColumns.{columns_fit}
 use Rattle.ipc.specs.KnownMoreLaws.{later_self, later_on, later_known}
-use Rattle.ipc.specs.Streams.{RecordBatchTree, StateTree, types_of, dictionary_in, spec_check_order, with_new, with_delta, spec_with_values}
+use Rattle.ipc.specs.Streams.{RecordBatchTree, StateTree, column_types, dictionary_in, spec_check_order, with_new, with_delta, spec_with_values}
 use Rattle.ipc.specs.EncodedStreams.{dictionary_bytes, pending_by, spec_are_columns, or_error, HasAllColumns, CanReadBatch, RecordBatchRoundTrips, DictionaryRoundTrips, BatchRoundTrips, BatchesRoundTrip, error_from}
 use Rattle.ipc.specs.EncodedFiles.{file_dictionary_batches, state_with, state_or, state_with_dictionary, state_after, after, FileState, file_state_after, file_state_start, dictionary_block_error, record_batch_block_error, replaced_error, unreadable_error, dictionary_batch_error, dictionary_batches_error, file_batch_error, file_batches_error}
 use Rattle.ipc.specs.EncodedStreamLaws.{types_are, columns_if}
@@ -137,14 +137,14 @@ joined_same d c old more begins front rest typed first second = record {
 }
 
 -- values that decode over arrays are an array
-entries_hold : (known es : DictionaryEntries) → HasArrays known → AreAllArrays (again.values_at known es)
+entries_hold : (known es : DictionaryEntries) → HasArrays known → AreAllArrays (again.entry_values known es)
 entries_hold known [] all = tt
 entries_hold known (e ∷ es) all = (all e.0, entries_hold known es all)
 
 values_fit : (known : DictionaryEntries) (id : ℕ) (c : Layout) → HasArrays known → ValuesRoundTrip known id c → IsArray (read_values known id c)
 values_fit known id c all back =
     let own : DictionaryEntries = own_entries (suc id) c in
-    (columns_fit (logical_type (layout_type c) ∷ []) (len c) (columns_body (c ∷ [])) (written_rest (c ∷ []) (again.values_at known own)) (read_values known id c ∷ []) (entries_hold known own all) back.read).0
+    (columns_fit (logical_type (layout_type c) ∷ []) (len c) (columns_body (c ∷ [])) (written_rest (c ∷ []) (again.entry_values known own)) (read_values known id c ∷ []) (entries_hold known own all) back.read).0
 
 -- ---- the batches of one id
 
@@ -366,18 +366,18 @@ still_whole s t same at = record {
 pub record IsNext (f : FileState) (b : RecordBatchTree) : Type 0 where
   pub later : IsLater f.state (file_state_after f b).state
   pub at : IsBehindFile (file_state_after f b)
-  pub columns : spec_are_columns (types_of f.state.picked.schema) b.rows b.columns ≡ true
+  pub columns : spec_are_columns (column_types f.state.picked.schema) b.rows b.columns ≡ true
   pub named : AreNamed f.state.picked.schema.fields b.columns
   pub known : AreKnown (file_state_after f b).state.known b.columns
   pub new : AllByRecursion (λ e. entry_at f.emitted e.0 ≡ None) (pending_by f.emitted b) → AreNew f.state.known (file_state_after f b).state.known (pending_by f.emitted b)
 
-pub part_next : (f : FileState) (b : RecordBatchTree) → BatchRoundTrips (file_dictionary_batches f.emitted b) b → IsBehindFile f → file_batch_error (types_of f.state.picked.schema) f b ≡ None → IsNext f b
+pub part_next : (f : FileState) (b : RecordBatchTree) → BatchRoundTrips (file_dictionary_batches f.emitted b) b → IsBehindFile f → file_batch_error (column_types f.state.picked.schema) f b ≡ None → IsNext f b
 part_next f b ok at none =
     let s : StateTree = f.state in
     let fields = s.picked.schema.fields in
     let es : DictionaryEntries = pending_by f.emitted b in
-    let accepted : IsAccepted (types_of s.picked.schema) f b = is_accepted (types_of s.picked.schema) f b none in
-    let named : AreNamed fields b.columns = are_named fields b.columns at.form (types_are (types_of s.picked.schema) b.rows b.columns accepted.columns) ok.fits in
+    let accepted : IsAccepted (column_types s.picked.schema) f b = is_accepted (column_types s.picked.schema) f b none in
+    let named : AreNamed fields b.columns = are_named fields b.columns at.form (types_are (column_types s.picked.schema) b.rows b.columns accepted.columns) ok.fits in
     let each : AllByRecursion (IsNamed (seen_of_fields fields).named) es = columns_needed_of (IsNamed (seen_of_fields fields).named) f.emitted 0 b.columns named.each in
     let here : AllByRecursion (IsNamed s.picked.seen.named) es = subst (λ (seen : DictionaryTypesModel). AllByRecursion (IsNamed seen.named) es) (sym at.whole.seen) each in
     let emitted = needed_sent f.emitted b.columns in
@@ -420,7 +420,7 @@ batch_at_end f b end ok next later =
       again = ok;
       reads = record {
         whole = still_whole (file_state_after f b).state end later.picked next.at.whole;
-        columns = subst (λ (p : ProjectedSchemaModel). spec_are_columns (types_of p.schema) b.rows b.columns ≡ true) (sym picked) next.columns;
+        columns = subst (λ (p : ProjectedSchemaModel). spec_are_columns (column_types p.schema) b.rows b.columns ≡ true) (sym picked) next.columns;
         named = subst (λ (p : ProjectedSchemaModel). AreNamed p.schema.fields b.columns) (sym picked) next.named;
         known = covers_later (file_state_after f b).state.known end.known (columns_own 0 b.columns) later.grows next.known;
       };
@@ -431,13 +431,13 @@ pub record AreAtEnd (f : FileState) (end : StateTree) (bs : List RecordBatchTree
   pub later : IsLater f.state end
   pub each : AllByRecursion (IsAtEnd end) bs
 
-pub all_next : (types : List TypeTree) (f : FileState) (bs : List RecordBatchTree) → types ≡ types_of f.state.picked.schema → BatchesRoundTrip file_dictionary_batches f.emitted bs → IsBehindFile f → file_batches_error types f bs ≡ None → AreAtEnd f (after file_state_after f bs).state bs
+pub all_next : (types : List TypeTree) (f : FileState) (bs : List RecordBatchTree) → types ≡ column_types f.state.picked.schema → BatchesRoundTrip file_dictionary_batches f.emitted bs → IsBehindFile f → file_batches_error types f bs ≡ None → AreAtEnd f (after file_state_after f bs).state bs
 all_next types f [] typed ok at none = record { later = later_self f.state at.keeps.arrays; each = tt }
 all_next types f (b ∷ bs) typed ok at none =
     let g : FileState = file_state_after f b in
     let end : StateTree = (after file_state_after g bs).state in
     let one : file_batch_error types f b ≡ None = first_accepts (file_batch_error types f b) (file_batches_error types g bs) none in
     let next : IsNext f b = part_next f b ok.0 at (subst (λ (ts : List TypeTree). file_batch_error ts f b ≡ None) typed one) in
-    let still : types ≡ types_of g.state.picked.schema = typed ∙ ap (λ (p : ProjectedSchemaModel). types_of p.schema) (sym next.later.picked) in
+    let still : types ≡ column_types g.state.picked.schema = typed ∙ ap (λ (p : ProjectedSchemaModel). column_types p.schema) (sym next.later.picked) in
     let rest : AreAtEnd g end bs = all_next types g bs still ok.1 next.at (others_accept (file_batch_error types f b) (file_batches_error types g bs) none) in
     record { later = later_on f.state g.state end next.later rest.later; each = (batch_at_end f b end ok.0.batch next rest.later, rest.each) }

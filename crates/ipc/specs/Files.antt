@@ -5,7 +5,7 @@ use Rattle.ipc_flatbuf.specs.ReadResults.{◌>>=◌, check}
 use Rattle.ipc_flatbuf.specs.declared.error.IpcReadError.{IpcReadError}
 use Rattle.ipc_flatbuf.specs.declared.error.IpcReadError.TheVariants as read_errors
 use Rattle.ipc_flatbuf.specs.Messages.{MessageModel, message_at}
-use Rattle.ipc_flatbuf.specs.MessageBytes.{spec_tag_of}
+use Rattle.ipc_flatbuf.specs.MessageBytes.{header_tag}
 use Rattle.ipc_flatbuf.specs.declared.message.types.MessageKind.{MessageKind}
 use Rattle.ipc_flatbuf.specs.declared.message.types.MessageKind.TheVariants.{DictionaryBatch, RecordBatch}
 use Rattle.ipc_schema.specs.Projections.{ProjectionModel, all}
@@ -30,7 +30,7 @@ unfoldable pub spec_message_in_block : MessageKind → ProjectedSchemaModel → 
 spec_message_in_block kind p own b = do
   next ← message_at own
   m ← message_of_block b next.0 next.1
-  same ← check (spec_tag_of m.root.kind == spec_tag_of kind) read_errors.HeaderType
+  same ← check (header_tag m.root.kind == header_tag kind) read_errors.HeaderType
   allowed ← spec_check_projected_version m.root.version p.schema.fields p.steps
   Ok m
 

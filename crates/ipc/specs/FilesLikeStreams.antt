@@ -21,12 +21,12 @@ use Rattle.ipc_arrays.specs.Encoding.{normalized}
 use Rattle.ipc.specs.DictionaryEntries.{DictionaryEntries, count_dictionaries, count_each_dictionaries, own_entries, each_own, columns_own, entries_in, each_entries, columns_entries}
 use Rattle.ipc.specs.KnownDictionaries.{IsKnown, values_or, over_known, each_over, columns_over}
 use Rattle.ipc.specs.KnownDictionaryLaws.{AreWithin, IsSent, all_parts, columns_own_of, columns_needed_of, columns_within, count_columns, needed_sent}
-use Rattle.ipc.specs.SchemaIds.{ids_of, values_of, IsNamed, AreNamed, seen_of_fields}
+use Rattle.ipc.specs.SchemaIds.{entry_ids, values_of, IsNamed, AreNamed, seen_of_fields}
 use Rattle.ipc.specs.PendingDictionaries.{entry_at, is_same, is_none, pending_in, each_pending, columns_pending}
 use Rattle.ipc.specs.FileDictionaries.{DictionaryBatchTree, spec_delta_values, spec_begins_with, batches_for, spec_dictionary_batches, spec_is_replaced, spec_any_replaced}
 use Rattle.ipc.specs.FileDictionaryLaws.{begun_type}
 use Rattle.ipc.specs.FileStateLaws.{Extends, begun_all, was_so, first_false, second_false, IsBehindFile, is_accepted, IsNext, part_next}
-use Rattle.ipc.specs.Streams.{RecordBatchTree, types_of}
+use Rattle.ipc.specs.Streams.{RecordBatchTree, column_types}
 use Rattle.ipc.specs.EncodedStreams.{pending_by, emitted_after, decoded_record_batch, decoded_batches_from, BatchesRoundTrip}
 use Rattle.ipc.specs.EncodedFiles.{file_dictionary_batches, after, FileState, file_state_after, file_batch_error, file_batches_error, HasNoDeltas}
 use Rattle.ipc.specs.EncodedBatches.{first_accepts, others_accept}
@@ -64,13 +64,13 @@ unfolding ids_from
 ids_long next zero = refl
 ids_long next (suc n) = ap suc (ids_long (suc next) n)
 
-same_weight : (named : ValueTypes) (xs ys : DictionaryEntries) → ids_of xs ≡ ids_of ys → AllByRecursion (IsNamed named) xs → AllByRecursion (IsNamed named) ys → weight xs ≡ weight ys
+same_weight : (named : ValueTypes) (xs ys : DictionaryEntries) → entry_ids xs ≡ entry_ids ys → AllByRecursion (IsNamed named) xs → AllByRecursion (IsNamed named) ys → weight xs ≡ weight ys
 same_weight named [] [] same xs-are ys-are = refl
 same_weight named [] (y ∷ ys) same xs-are ys-are = cc same
 same_weight named (x ∷ xs) [] same xs-are ys-are = cc same
 same_weight named (x ∷ xs) (y ∷ ys) same (one, xs-are) (other, ys-are) =
     let id : x.0 ≡ y.0 = cc same in
-    let others : ids_of xs ≡ ids_of ys = cc same in
+    let others : entry_ids xs ≡ entry_ids ys = cc same in
     let values : Some (values_of one.id x.1) ≡ Some (values_of other.id y.1) = sym one.values ∙ ap (λ (k : ℤ). lookup (is_at (int_cmp k)) named) id ∙ other.values in
     let inside : ids_from (suc one.id) (count_dictionaries x.1) ≡ ids_from (suc other.id) (count_dictionaries y.1) = ap (λ (v : ValueTypeModel). v.inside) (same_Some (values_of one.id x.1) (values_of other.id y.1) values) in
     let count : count_dictionaries x.1 ≡ count_dictionaries y.1 = sym (ids_long (suc one.id) (count_dictionaries x.1)) ∙ ap length inside ∙ ids_long (suc other.id) (count_dictionaries y.1) in
@@ -129,10 +129,10 @@ there_columns emitted id (a ∷ columns) all =
     there_both emitted id (id + n) (id + (n + count_columns columns)) (there_in emitted id a parts.0) (λ k low high. rest k low (omega (arith, high)))
 
 -- each id of columns of these fields has values
-abbrev pub AreFull : DictionaryEntries → List FieldTree → Type 0
-AreFull emitted fields = (columns : List Layout) → AreNamed fields columns → AreThere emitted 0 (count_columns columns)
+abbrev pub HaveAllValues : DictionaryEntries → List FieldTree → Type 0
+HaveAllValues emitted fields = (columns : List Layout) → AreNamed fields columns → AreThere emitted 0 (count_columns columns)
 
-full_behind : (fields : List FieldTree) (emitted : DictionaryEntries) (b : RecordBatchTree) → AreNamed fields b.columns → AreFull (emitted_after emitted b) fields
+full_behind : (fields : List FieldTree) (emitted : DictionaryEntries) (b : RecordBatchTree) → AreNamed fields b.columns → HaveAllValues (emitted_after emitted b) fields
 full_behind fields emitted b named columns others k low high =
     let end : k < 0 + count_columns b.columns = omega (arith, high, same_count fields b.columns columns named others) in
     there_columns (emitted_after emitted b) 0 b.columns (needed_sent emitted b.columns).each k low end
@@ -196,7 +196,7 @@ nothing_needed emitted b there old wholes =
 
 -- nothing was emitted yet, or each id has values
 abbrev pub AreNoneOrFull : DictionaryEntries → List FieldTree → Type 0
-AreNoneOrFull emitted fields = (emitted ≡ []) ⊎ AreFull emitted fields
+AreNoneOrFull emitted fields = (emitted ≡ []) ⊎ HaveAllValues emitted fields
 
 none_there : (es : DictionaryEntries) → AllByRecursion (λ e. entry_at [] e.0 ≡ None) es
 none_there [] = tt
@@ -254,7 +254,7 @@ one_as_stream f b bs end next none rest =
       batches = (λ w. here w ∷ rest.batches w) ∙ ap stream new.as_streams;
     }
 
-pub all_as_stream : (types : List TypeTree) (f : FileState) (bs : List RecordBatchTree) → types ≡ types_of f.state.picked.schema → BatchesRoundTrip file_dictionary_batches f.emitted bs → IsBehindFile f → file_batches_error types f bs ≡ None → AreNoneOrFull f.emitted f.state.picked.schema.fields → HasNoDeltas f.emitted bs
+pub all_as_stream : (types : List TypeTree) (f : FileState) (bs : List RecordBatchTree) → types ≡ column_types f.state.picked.schema → BatchesRoundTrip file_dictionary_batches f.emitted bs → IsBehindFile f → file_batches_error types f bs ≡ None → AreNoneOrFull f.emitted f.state.picked.schema.fields → HasNoDeltas f.emitted bs
     → IsAsStream f (after file_state_after f bs).state.known bs
 all_as_stream types f [] typed ok at none full never = record { extends = λ id d there. there; batches = refl }
 all_as_stream types f (b ∷ bs) typed ok at none full never =
@@ -262,7 +262,7 @@ all_as_stream types f (b ∷ bs) typed ok at none full never =
     let fields : List FieldTree = f.state.picked.schema.fields in
     let one : file_batch_error types f b ≡ None = first_accepts (file_batch_error types f b) (file_batches_error types g bs) none in
     let next : IsNext f b = part_next f b ok.0 at (subst (λ (ts : List TypeTree). file_batch_error ts f b ≡ None) typed one) in
-    let still : types ≡ types_of g.state.picked.schema = typed ∙ ap (λ (p : ProjectedSchemaModel). types_of p.schema) (sym next.later.picked) in
+    let still : types ≡ column_types g.state.picked.schema = typed ∙ ap (λ (p : ProjectedSchemaModel). column_types p.schema) (sym next.later.picked) in
     let new = all_new fields f.emitted b full next.named (is_accepted types f b one).old never.0 in
-    let behind_it : AreFull g.emitted g.state.picked.schema.fields = subst (λ (p : ProjectedSchemaModel). AreFull g.emitted p.schema.fields) (sym next.later.picked) (full_behind fields f.emitted b next.named) in
+    let behind_it : HaveAllValues g.emitted g.state.picked.schema.fields = subst (λ (p : ProjectedSchemaModel). HaveAllValues g.emitted p.schema.fields) (sym next.later.picked) (full_behind fields f.emitted b next.named) in
     one_as_stream f b bs (after file_state_after g bs).state.known next new (all_as_stream types g bs still ok.1 next.at (others_accept (file_batch_error types f b) (file_batches_error types g bs) none) (inr behind_it) never.1)

@@ -38,7 +38,7 @@ use Rattle.ipc.specs.ExtendedColumns.{read_too, read_weaker, AreReadAlike, colum
 use Rattle.ipc.specs.ExtendedReads.{Anything, any_read, then_read, then_same}
 use Rattle.ipc.specs.UnionOffsets.{spec_union_offsets_overflow}
 use Rattle.ipc.specs.PlainBuffers.{plain_buffers, all_needed}
-use Rattle.ipc.specs.Streams.{Known, StateTree, RecordBatchTree, known_at, values_at, rest_at, types_of, spec_variadic_counts, columns_in, record_batch_in, named_in, spec_data_position, spec_check_order, spec_only_column, spec_with_values, column_in_batch, data_in, new_values_in, found_values, found_in, with_found, dictionary_in, spec_contains_id, with_delta, spec_joined_values}
+use Rattle.ipc.specs.Streams.{Known, StateTree, RecordBatchTree, known_at, values_at, batch_rest, column_types, spec_variadic_counts, columns_in, record_batch_in, named_in, spec_data_position, spec_check_order, spec_only_column, spec_with_values, column_in_batch, data_in, new_values_in, found_values, found_in, with_found, dictionary_in, spec_contains_id, with_delta, spec_joined_values}
 use Rattle.ipc.specs.EncodedStreams.{IsSameBatch}
 
 -- ---- more is known
@@ -103,7 +103,7 @@ same_slots (x ∷ xs) (y ∷ ys) h = λ w. sym h.0.1 w ∷ same_slots xs ys h.1 
 
 -- the columns of a batch, and the batch, over known dictionaries
 abbrev columns_over : ProjectedSchemaModel → MessageModel → List ℤ → BatchModel → Known → Result (List Layout) IpcReadError
-columns_over p m counts batch known = columns_in batch.compression p batch.rows m.body (record { rest = rest_at known (spec_outermost_ids p.seen.named p.seen.ids) batch; more = counts })
+columns_over p m counts batch known = columns_in batch.compression p batch.rows m.body (record { rest = batch_rest known (spec_outermost_ids p.seen.named p.seen.ids) batch; more = counts })
 
 abbrev batch_over : ProjectedSchemaModel → MessageModel → Known → Result RecordBatchTree IpcReadError
 batch_over p m known = batch_at m.metadata m.root.header m.root.left m.root.body_length >>= λ batch. spec_variadic_counts p.steps m >>= λ counts. columns_over p m counts batch known >>= λ columns. Ok (record { rows = batch.rows; columns = columns })
@@ -111,12 +111,12 @@ batch_over p m known = batch_at m.metadata m.root.header m.root.left m.root.body
 columns_later : (p : ProjectedSchemaModel) (m : MessageModel) (counts : List ℤ) (batch : BatchModel) (known more : Known) → KnowsMore known more → ReadTogether AreSameArrays (columns_over p m counts batch known) (columns_over p m counts batch more)
 columns_later p m counts batch known more h =
     let ids : List ℤ = spec_outermost_ids p.seen.named p.seen.ids in
-    let types : List TypeTree = types_of p.schema in
+    let types : List TypeTree = column_types p.schema in
     let plain : Result (List BufferSpec × List ℕ) IpcReadError = plain_buffers batch.compression m.body batch.buffers (spec_needed_buffers p.steps types counts batch.buffers) in
     then_same AreSameArrays Anything plain _ _ (any_read plain)
     (λ x e _.
-    let r : Rest = with_buffers (rest_at known ids batch) x.0 in
-    let s : Rest = with_buffers (rest_at more ids batch) x.0 in
+    let r : Rest = with_buffers (batch_rest known ids batch) x.0 in
+    let s : Rest = with_buffers (batch_rest more ids batch) x.0 in
     let over : HasExtendedDictionaries r s = record { nodes = refl; buffers = refl; dictionaries = values_grow ids known more h } in
     read_weaker (AreReadAlike r) AreSameArrays (decoded_projection p.steps types batch.rows x.1 (record { rest = r; more = counts })) (decoded_projection p.steps types batch.rows x.1 (record { rest = s; more = counts })) (λ xs ys alike. alike.same)
     (picked_next p.steps types batch.rows x.1 counts r s over))
@@ -215,7 +215,7 @@ new_in s m table left id v all =
     (λ values g. record {
       apart = λ none. not_there (known_at s.known id) (found (λ (at : ℕ × Bool). at.1 ≡ false → there ≡ false) _ _ e (data_once there m.metadata table) none);
       fits = λ _. found IsArray _ _ g (after IsArray (batch_at m.metadata at.0 left m.root.body_length) _ (λ batch k.
-          let rest : Rest = rest_at s.known (spec_outermost_ids s.picked.seen.named v.inside) batch in
+          let rest : Rest = batch_rest s.known (spec_outermost_ids s.picked.seen.named v.inside) batch in
           after IsArray (plain_buffers batch.compression m.body rest.buffers (Ok (all_needed rest.buffers))) _
           (λ plain q. only_fits v.values batch.rows plain.1 (with_buffers rest plain.0) (values_fit (spec_outermost_ids s.picked.seen.named v.inside) s.known all))));
     }))

@@ -4,7 +4,7 @@ use Rattle.std.proofs.Common.{sym, ap, subst, ◌∙◌, arith}
 use Rattle.ipc_flatbuf.specs.ReadResults.{◌>>=◌}
 use Rattle.ipc_flatbuf.specs.declared.error.IpcReadError.{IpcReadError}
 use Rattle.ipc_flatbuf.specs.Messages.{MessageModel, message_at}
-use Rattle.ipc.specs.StreamsInFiles.{with_messages, messages_within, messages_in, with_batch, batches_by, with_left}
+use Rattle.ipc.specs.StreamsInFiles.{with_messages, messages_within, messages_in, with_batch, batches_by, batches_with_left}
 use Rattle.ipc.specs.StreamLaws.{Batches, Goes, message_goes, by_message, one_by_one}
 use Rattle.ipc.specs.Streams.{RecordBatchTree, StateTree, Next, message_in, or_next, next_by, next_in, with_others, batches_in}
 
@@ -87,20 +87,20 @@ abbrev before_known : Option RecordBatchTree → Result (List RecordBatchTree ×
 before_known o read = read >>= λ z. Ok (with_batch o z.0, z.1)
 
 -- the record batches after a message
-each_behind : (o : Option RecordBatchTree) (after : List ℕ) (read : Batches) (more : Result (List RecordBatchTree × StateTree) IpcReadError) → read ≡ with_left after more → before_batches o read ≡ with_left after (before_known o more)
+each_behind : (o : Option RecordBatchTree) (after : List ℕ) (read : Batches) (more : Result (List RecordBatchTree × StateTree) IpcReadError) → read ≡ batches_with_left after more → before_batches o read ≡ batches_with_left after (before_known o more)
 each_behind o after read (Ok x) e = ap (before_batches o) e
 each_behind o after read (Err f) e = ap (before_batches o) e
 
-message_behind : (ms : List MessageModel) (behind after : List ℕ) (x : Result (Option RecordBatchTree × StateTree) IpcReadError) → ((t : StateTree) → batches_in t behind ≡ with_left after (batches_by t ms))
-    → (x >>= λ y. before_batches y.0 (batches_in y.1 behind)) ≡ with_left after (x >>= λ y. before_known y.0 (batches_by y.1 ms))
+message_behind : (ms : List MessageModel) (behind after : List ℕ) (x : Result (Option RecordBatchTree × StateTree) IpcReadError) → ((t : StateTree) → batches_in t behind ≡ batches_with_left after (batches_by t ms))
+    → (x >>= λ y. before_batches y.0 (batches_in y.1 behind)) ≡ batches_with_left after (x >>= λ y. before_known y.0 (batches_by y.1 ms))
 message_behind ms behind after (Err f) others = refl
 message_behind ms behind after (Ok y) others = each_behind y.0 after (batches_in y.1 behind) (batches_by y.1 ms) (others y.1)
 
-by_messages : (ms : List MessageModel) (s : StateTree) (bytes after : List ℕ) → AreMessages bytes ms after → batches_in s bytes ≡ with_left after (batches_by s ms)
+by_messages : (ms : List MessageModel) (s : StateTree) (bytes after : List ℕ) → AreMessages bytes ms after → batches_in s bytes ≡ batches_with_left after (batches_by s ms)
 unfolding batches_by
 by_messages [] s bytes after are = no_message s bytes after are
 by_messages (m ∷ ms) s bytes after are = first_message s bytes m are.0 are.1 ∙ message_behind ms are.0 after (message_in s m) (λ t. by_messages ms t are.0 after are.2)
 
 -- the record batches of a stream are those of its messages
-pub batches_of_messages : (s : StateTree) (bytes : List ℕ) (ms : List MessageModel) (after : List ℕ) → messages_in bytes ≡ Ok (ms, after) → batches_in s bytes ≡ with_left after (batches_by s ms)
+pub batches_of_messages : (s : StateTree) (bytes : List ℕ) (ms : List MessageModel) (after : List ℕ) → messages_in bytes ≡ Ok (ms, after) → batches_in s bytes ≡ batches_with_left after (batches_by s ms)
 batches_of_messages s bytes ms after e = by_messages ms s bytes after (are_by (suc (length bytes)) bytes ms after (omega arith) e)

@@ -15,7 +15,7 @@ use Rattle.ipc_arrays.specs.BodyBuffers.{body_of, buffer_specs}
 use Rattle.ipc_arrays.specs.ReplacedValues.{IsExtendedBy, IsSameUpToValues, EachSameUpToValues, AreSameUpToValues, AreEncodedAlike, RoundTripWithSameSlots, RoundTripOverExtensions, grown_same, len_alike, written_alike}
 use Rattle.ipc_arrays.specs.Encoding.{normalized_slice, normalized, normalized_each, normalized_all, sparse_begin, field_node_of, preorder, preorder_all, own_dictionaries, buffers_of, dictionaries_of, written_arrays, columns_body}
 use Rattle.ipc.specs.StoredTypeLaws.{logical_twice, read_stored, stored_type, stored_slots}
-use Rattle.ipc.specs.RoundTrips.{values_at, written_rest, ColumnsRoundTrip, ValuesRoundTrip}
+use Rattle.ipc.specs.RoundTrips.{entry_values, written_rest, ColumnsRoundTrip, ValuesRoundTrip}
 use Rattle.ipc.specs.DictionaryEntries.{DictionaryEntries, count_dictionaries, own_entries, each_own, columns_own}
 use Rattle.ipc.specs.KnownDictionaries.{IsKnown, Covers, CoversColumns, AreAllKnown, Follows, values_or, over_known, each_over, columns_over}
 use Rattle.ipc.specs.KnownDictionaryLaws.{all_parts, needed_known}
@@ -91,7 +91,7 @@ known_named : (known : DictionaryEntries) (id : ℕ) (c : Layout) → Covers kno
 known_named known id c h = subst (λ (o : Option Layout). Some (values_or o c) ≡ o) (sym h.1) refl
 
 mutual
-  over_names : (known : DictionaryEntries) (id : ℕ) (a : Layout) → AllByRecursion (Covers known) (own_entries id a) → dictionaries_of (preorder (over_known known id a)) ≡ values_at known (own_entries id a)
+  over_names : (known : DictionaryEntries) (id : ℕ) (a : Layout) → AllByRecursion (Covers known) (own_entries id a) → dictionaries_of (preorder (over_known known id a)) ≡ entry_values known (own_entries id a)
   over_names known id (fixed_size_list t c va) h = over_names known id c h
   over_names known id (list_of large t os c va) h = over_names known id c h
   over_names known id (map_of t os c va) h = over_names known id c h
@@ -100,7 +100,7 @@ mutual
   over_names known id (dictionary t ks c) h = ap (λ (o : Option Layout). o ∷ []) (known_named known id c h.0)
   over_names known id a h = refl
 
-  each_over_names : (known : DictionaryEntries) (id : ℕ) (cs : Layouts) → AllByRecursion (Covers known) (each_own id cs) → dictionaries_of (preorder_all (each_over known id cs)) ≡ values_at known (each_own id cs)
+  each_over_names : (known : DictionaryEntries) (id : ℕ) (cs : Layouts) → AllByRecursion (Covers known) (each_own id cs) → dictionaries_of (preorder_all (each_over known id cs)) ≡ entry_values known (each_own id cs)
   each_over_names known id no_layouts h = refl
   each_over_names known id (more_layouts c cs) h =
       let next : ℕ = id + count_dictionaries c in
@@ -111,7 +111,7 @@ mutual
       ∙ (λ w. first w ++ others w)
       ∙ sym (map-append (λ e. entry_at known e.0) (own_entries id c) (each_own next cs))
 
-pub own_written : (known : DictionaryEntries) (id : ℕ) (columns : List Layout) → AllByRecursion (Covers known) (columns_own id columns) → dictionaries_of (written_arrays (columns_over known id columns)) ≡ values_at known (columns_own id columns)
+pub own_written : (known : DictionaryEntries) (id : ℕ) (columns : List Layout) → AllByRecursion (Covers known) (columns_own id columns) → dictionaries_of (written_arrays (columns_over known id columns)) ≡ entry_values known (columns_own id columns)
 unfolding written_arrays
 own_written known id [] h = refl
 own_written known id (a ∷ columns) h =
@@ -143,7 +143,7 @@ shown_slots (a ∷ columns) h = λ w. sym h.0.1 w ∷ shown_slots columns h.1 w
 -- from any id on
 record AreAgainFrom (known : DictionaryEntries) (id : ℕ) (columns : List Layout) : Type 0 where
   read : (rows : ℕ) → AllByRecursion (λ a. len a ≡ rows) columns
-      → decoded_columns (map layout_type columns) rows (columns_body columns) (written_rest columns (values_at known (columns_own id columns))) ≡ Ok (map normalized (columns_over known id columns))
+      → decoded_columns (map layout_type columns) rows (columns_body columns) (written_rest columns (entry_values known (columns_own id columns))) ≡ Ok (map normalized (columns_over known id columns))
   types : map layout_type (map normalized (columns_over known id columns)) ≡ map layout_type columns
   slots : map slots_of (map normalized (columns_over known id columns)) ≡ map slots_of columns
 
@@ -156,7 +156,7 @@ again_from known id columns over h =
     let types : map layout_type columns ≡ map layout_type others = sym same.types in
     let nodes : map field_node_of (written_arrays columns) ≡ map field_node_of (written_arrays others) = sym same.nodes in
     let buffers : buffers_of (written_arrays columns) ≡ buffers_of (written_arrays others) = sym same.buffers in
-    let values : values_at known (columns_own id columns) ≡ dictionaries_of (written_arrays others) = sym (own_written known id columns h) in
+    let values : entry_values known (columns_own id columns) ≡ dictionaries_of (written_arrays others) = sym (own_written known id columns h) in
     record {
       read = λ rows long.
           (λ w. decoded_columns (types w) rows (body_of (buffers w)) (record { nodes = nodes w; buffers = buffer_specs 0 (buffers w); dictionaries = values w }))
@@ -178,11 +178,11 @@ values_again known id c over h =
     let again : AreAgainFrom known (suc id) (c ∷ []) = again_from known (suc id) (c ∷ []) over (subst (AllByRecursion (Covers known)) (sym own) h) in
     let b : Layout = normalized (over_known known (suc id) c) in
     let type : layout_type b ≡ layout_type c = ap (λ (ts : List TypeTree). get_or ts 0 (layout_type c)) again.types in
-    let rest : written_rest (c ∷ []) (values_at known (own_entries (suc id) c)) ≡ written_rest (c ∷ []) (values_at known (columns_own (suc id) (c ∷ []))) =
-    ap (λ (entries : DictionaryEntries). written_rest (c ∷ []) (values_at known entries)) (sym own) in
+    let rest : written_rest (c ∷ []) (entry_values known (own_entries (suc id) c)) ≡ written_rest (c ∷ []) (entry_values known (columns_own (suc id) (c ∷ []))) =
+    ap (λ (entries : DictionaryEntries). written_rest (c ∷ []) (entry_values known entries)) (sym own) in
     record {
       read =
-          read_stored (layout_type c) (len c) (columns_body (c ∷ [])) (written_rest (c ∷ []) (values_at known (own_entries (suc id) c))) b
+          read_stored (layout_type c) (len c) (columns_body (c ∷ [])) (written_rest (c ∷ []) (entry_values known (own_entries (suc id) c))) b
           (ap (decoded_columns (layout_type c ∷ []) (len c) (columns_body (c ∷ []))) rest ∙ again.read (len c) (refl, tt))
           ∙ ap (λ (t : TypeTree). Ok (with_type b (logical_type t) ∷ [])) (sym type);
       same = record {

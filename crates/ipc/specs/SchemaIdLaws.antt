@@ -25,7 +25,7 @@ use Rattle.ipc_schema.specs.FloatLaws.{float_is}
 use Rattle.ipc_schema.specs.Extensions.{spec_storage_type, values_type, spec_table_type, spec_is_extension}
 use Rattle.ipc_schema.specs.FieldLaws.{split, own_and_inner}
 use Rattle.ipc_schema.specs.WriteChecks.{and_then_check, spec_require, spec_check_type, is_not_nested_extension, spec_is_plain_value_type, spec_can_encode, spec_has_no_reserved_key, spec_check_own, spec_check_each, spec_check_field, check_fields}
-use Rattle.ipc_schema.specs.DictionaryIds.{keys_of, next_after, total, each_from, count_dictionaries as count_type_dictionaries, ids_from, own_value_types, flattened, value_types_from}
+use Rattle.ipc_schema.specs.DictionaryIds.{index_type_of, next_after, total, each_from, count_dictionaries as count_type_dictionaries, ids_from, own_value_types, flattened, value_types_from}
 use Rattle.ipc_schema.specs.DictionaryIdLaws.{Keys}
 use Rattle.ipc_schema.specs.OutermostIds.{ValueTypes, spec_outermost_ids, no_outermost_ids}
 use Rattle.ipc_schema.specs.OutermostIdLaws.{own_id_or, column_ids_from, Has, all_are_found, outermost_is, outermost_ids_are_column_ids}
@@ -33,7 +33,7 @@ use Rattle.ipc_schema.specs.TypeLaws.{both, passes}
 use Rattle.ipc_schema.specs.Types.{spec_children_of, field_list}
 use Rattle.ipc.specs.DictionaryEntries.{DictionaryEntries, count_dictionaries, count_each_dictionaries, own_entries, each_own, columns_own, entries_in, each_entries, columns_entries}
 use Rattle.ipc.specs.KnownDictionaryLaws.{all_both, all_parts}
-use Rattle.ipc.specs.SchemaIds.{ids_of, IsNamed, seen_of_fields, AreNamed}
+use Rattle.ipc.specs.SchemaIds.{entry_ids, IsNamed, seen_of_fields, AreNamed}
 
 -- ---- data types
 
@@ -55,7 +55,7 @@ has_fields type = false
 
 -- no dictionary encodes it
 abbrev IsKeyless : TypeTree → Type 0
-IsKeyless t = keys_of (logical_type t) ≡ None
+IsKeyless t = index_type_of (logical_type t) ≡ None
 
 flat_type : (t : TypeTree) → is_flat (physical_type t) ≡ true → IsKeyless t × (spec_children_of (logical_type t) ≡ [])
 flat_type (types.list f) h = absurd (cc h)
@@ -117,7 +117,7 @@ not_back false h = refl
 
 -- a type and its logical type have the same keys, values and children, unless it is an extension type
 record IsAlike (t u : TypeTree) : Type 0 where
-  keys : keys_of t ≡ keys_of u
+  keys : index_type_of t ≡ index_type_of u
   children : spec_children_of (values_type t) ≡ spec_children_of (values_type u)
   values : (key : IntegerType) (v : TypeTree) (ordered : Bool) → u ≡ types.dictionary key v ordered → t ≡ u
 
@@ -155,7 +155,7 @@ stored_alone (types.extension title type metadata) h = by_kind (spec_is_float (t
     by_kind false e = rw e (no_extension type (not_back (spec_is_extension type) (rw e at h)))
 stored_alone t h = same_alike t
 
-keyless_values : (t : TypeTree) → keys_of t ≡ None → values_type t ≡ t
+keyless_values : (t : TypeTree) → index_type_of t ≡ None → values_type t ≡ t
 keyless_values (types.dictionary key values ordered) h = absurd (cc h)
 keyless_values t h = refl
 
@@ -194,7 +194,7 @@ IsFound all e = lookup (is_at (int_cmp e.0)) all ≡ Some e.1
 -- from any id on, fields have as many dictionaries, the same ids of their own, and name these entries
 record Agree (depth : ℕ) (fs : List FieldTree) (n : ℕ) (own entries : ℕ → DictionaryEntries) : Type 0 where
   count : total (count_type_dictionaries depth) fs ≡ n
-  ids : (next : ℕ) → flattened (each_from (count_type_dictionaries depth) (column_ids_from depth) next fs) ≡ ids_of (own next)
+  ids : (next : ℕ) → flattened (each_from (count_type_dictionaries depth) (column_ids_from depth) next fs) ≡ entry_ids (own next)
   named : (next : ℕ) (all : ValueTypes) → Has all (flattened (each_from (count_type_dictionaries depth) (value_types_from depth) next fs)) → AllByRecursion (IsNamed all) (entries next)
 
 abbrev AgreeWith : ℕ → List FieldTree → Layout → Type 0
@@ -205,13 +205,13 @@ unfolding total each_from flattened
 none_agree depth = record { count = refl; ids = λ next. refl; named = λ next all has. tt }
 
 module _ (depth : ℕ) (f : FieldTree) (fs : List FieldTree) (n m : ℕ) (own own-more entries entries-more : ℕ → DictionaryEntries) where
-  more_ids : Agree depth (f ∷ []) n own entries → Agree depth fs m own-more entries-more → (next : ℕ) → flattened (each_from (count_type_dictionaries depth) (column_ids_from depth) next (f ∷ fs)) ≡ ids_of (own next ++ own-more (next + n))
+  more_ids : Agree depth (f ∷ []) n own entries → Agree depth fs m own-more entries-more → (next : ℕ) → flattened (each_from (count_type_dictionaries depth) (column_ids_from depth) next (f ∷ fs)) ≡ entry_ids (own next ++ own-more (next + n))
   unfolding total each_from flattened
   more_ids one rest next =
       let here : count_type_dictionaries depth f ≡ n = omega (arith, one.count) in
-      let first : column_ids_from depth next f ≡ ids_of (own next) = sym (append-nil (column_ids_from depth next f)) ∙ one.ids next in
+      let first : column_ids_from depth next f ≡ entry_ids (own next) = sym (append-nil (column_ids_from depth next f)) ∙ one.ids next in
       (λ w. first w ++ flattened (each_from (count_type_dictionaries depth) (column_ids_from depth) (next + here w) fs))
-      ∙ ap (λ (l : List ℤ). ids_of (own next) ++ l) (rest.ids (next + n))
+      ∙ ap (λ (l : List ℤ). entry_ids (own next) ++ l) (rest.ids (next + n))
       ∙ sym (map-append (λ (e : ℤ × Layout). e.0) (own next) (own-more (next + n)))
 
   more_named : Agree depth (f ∷ []) n own entries → Agree depth fs m own-more entries-more → (next : ℕ) (all : ValueTypes) → Has all (flattened (each_from (count_type_dictionaries depth) (value_types_from depth) next (f ∷ fs)))
@@ -229,12 +229,12 @@ module _ (depth : ℕ) (f : FieldTree) (fs : List FieldTree) (n m : ℕ) (own ow
   more_agree one rest = record { count = omega (arith, one.count, rest.count); ids = more_ids one rest; named = more_named one rest }
 
 -- a field without a dictionary agrees as its children do
-keyless_agrees : (depth : ℕ) (f : FieldTree) (n : ℕ) (own entries : ℕ → DictionaryEntries) → keys_of (spec_storage_type (field_type f)) ≡ None → Agree depth (spec_children_of (spec_table_type (field_type f))) n own entries → Agree (suc depth) (f ∷ []) n own entries
+keyless_agrees : (depth : ℕ) (f : FieldTree) (n : ℕ) (own entries : ℕ → DictionaryEntries) → index_type_of (spec_storage_type (field_type f)) ≡ None → Agree depth (spec_children_of (spec_table_type (field_type f))) n own entries → Agree (suc depth) (f ∷ []) n own entries
 unfolding total each_from flattened count_type_dictionaries column_ids_from value_types_from
 keyless_agrees depth f n own entries none inner =
     let cs : List FieldTree = spec_children_of (spec_table_type (field_type f)) in
     let m : ℕ = total (count_type_dictionaries depth) cs in
-    let keys : Keys = keys_of (spec_storage_type (field_type f)) in
+    let keys : Keys = index_type_of (spec_storage_type (field_type f)) in
     let counted : next_after keys m ≡ m = ap (λ (k : Keys). next_after k m) none in
     record {
       count = omega (arith, counted, inner.count);
@@ -246,7 +246,7 @@ keyless_agrees depth f n own entries none inner =
 
 -- a field with one names its values, and the ids nested in them
 module _ (depth : ℕ) (f : FieldTree) (t : TypeTree) (ks c : Layout) (inner : AgreeWith depth (spec_children_of (spec_table_type (field_type f))) c) (logical : logical_type (layout_type c) ≡ logical_type (spec_table_type (field_type f))) where
-  inside_outer : (next : ℕ) (all : ValueTypes) → Has all (flattened (each_from (count_type_dictionaries depth) (value_types_from depth) next (spec_children_of (spec_table_type (field_type f))))) → spec_outermost_ids all (ids_from next (count_dictionaries c)) ≡ ids_of (own_entries next c)
+  inside_outer : (next : ℕ) (all : ValueTypes) → Has all (flattened (each_from (count_type_dictionaries depth) (value_types_from depth) next (spec_children_of (spec_table_type (field_type f))))) → spec_outermost_ids all (ids_from next (count_dictionaries c)) ≡ entry_ids (own_entries next c)
   inside_outer next all has =
       let cs : List FieldTree = spec_children_of (spec_table_type (field_type f)) in
       let m : ℕ = total (count_type_dictionaries depth) cs in
@@ -267,12 +267,12 @@ module _ (depth : ℕ) (f : FieldTree) (t : TypeTree) (ks c : Layout) (inner : A
       let one : IsNamed all (pos next, c) = record { id = next; number = refl; values = found; outer = inside_outer (suc next) all has.1 } in
       all_both (IsNamed all) (entries_in (suc next) c) ((pos next, c) ∷ []) (inner.named (suc next) all has.1) (one, tt)
 
-  keyed_agrees : (key : IntegerType × Bool) → keys_of (spec_storage_type (field_type f)) ≡ Some key → AgreeWith (suc depth) (f ∷ []) (dictionary t ks c)
+  keyed_agrees : (key : IntegerType × Bool) → index_type_of (spec_storage_type (field_type f)) ≡ Some key → AgreeWith (suc depth) (f ∷ []) (dictionary t ks c)
   unfolding total each_from flattened count_type_dictionaries column_ids_from value_types_from
   keyed_agrees key some =
       let cs : List FieldTree = spec_children_of (spec_table_type (field_type f)) in
       let m : ℕ = total (count_type_dictionaries depth) cs in
-      let keys : Keys = keys_of (spec_storage_type (field_type f)) in
+      let keys : Keys = index_type_of (spec_storage_type (field_type f)) in
       let counted : next_after keys m ≡ suc m = ap (λ (k : Keys). next_after k m) some in
       record {
         count = omega (arith, counted, inner.count);
@@ -302,7 +302,7 @@ whole_agrees a keyless inside zero f typed form = absurd (no_depth f form)
 whole_agrees a keyless inside (suc depth) f typed form =
     let parts = own_and_inner depth f form in
     let free = free_form f parts.0 in
-    let none : keys_of (spec_storage_type (field_type f)) ≡ None = free.alone.keys ∙ ap (λ (t : TypeTree). keys_of (logical_type t)) typed ∙ keyless in
+    let none : index_type_of (spec_storage_type (field_type f)) ≡ None = free.alone.keys ∙ ap (λ (t : TypeTree). index_type_of (logical_type t)) typed ∙ keyless in
     let children : spec_children_of (spec_table_type (field_type f)) ≡ spec_children_of (logical_type (layout_type a)) =
     free.alone.children ∙ ap (λ (t : TypeTree). spec_children_of (values_type (logical_type t))) typed ∙ ap spec_children_of (keyless_values (logical_type (layout_type a)) keyless) in
     let inner = inside depth (subst (λ (fs : List FieldTree). spec_check_each (spec_check_field depth) fs ≡ Ok tt) children parts.1) in
@@ -343,14 +343,14 @@ values_agree t ks c has below (suc depth) f typed form =
     let plain = plain_type has.values (sym (ap spec_can_encode same) ∙ free.encodes) in
     let table : spec_table_type (field_type f) ≡ has.values = ap values_type same in
     let logical : logical_type (layout_type c) ≡ logical_type (spec_table_type (field_type f)) = has.logically ∙ ap logical_type (sym table) in
-    let keyless : IsKeyless (layout_type c) = ap keys_of (has.logically) ∙ plain.0 in
+    let keyless : IsKeyless (layout_type c) = ap index_type_of (has.logically) ∙ plain.0 in
     let children : spec_children_of (spec_table_type (field_type f)) ≡ spec_children_of (logical_type (layout_type c)) = ap spec_children_of table ∙ plain.1 ∙ ap spec_children_of (sym has.logically) in
     let inner = below.inside keyless depth (subst (λ (fs : List FieldTree). spec_check_each (spec_check_field depth) fs ≡ Ok tt) children parts.1) in
-    keyed_agrees depth f t ks c (subst (λ (fs : List FieldTree). AgreeWith depth fs c) (sym children) inner) logical (has.key, has.ordered) (ap keys_of same)
+    keyed_agrees depth f t ks c (subst (λ (fs : List FieldTree). AgreeWith depth fs c) (sym children) inner) logical (has.key, has.ordered) (ap index_type_of same)
 
 dictionary_agrees : (t : TypeTree) (ks c : Layout) → HasValues t (layout_type c) → Agrees c → Agrees (dictionary t ks c)
 dictionary_agrees t ks c has below =
-    record { inside = λ none. let keyed : keys_of (logical_type t) ≡ Some (has.key, has.ordered) = ap keys_of has.is in absurd (cc (sym keyed ∙ none)); whole = values_agree t ks c has below }
+    record { inside = λ none. let keyed : index_type_of (logical_type t) ≡ Some (has.key, has.ordered) = ap index_type_of has.is in absurd (cc (sym keyed ∙ none)); whole = values_agree t ks c has below }
 
 flat_by : (t : TypeTree) (p : PhysicalType) → physical_type t ≡ p → is_flat p ≡ true → is_flat (physical_type t) ≡ true
 flat_by t p typed flat = ap is_flat typed ∙ flat

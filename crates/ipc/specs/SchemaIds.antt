@@ -11,8 +11,8 @@ use Rattle.ipc_schema.specs.DictionaryIds.{ids_from, types_after_all}
 use Rattle.ipc_schema.specs.OutermostIds.{ValueTypes, spec_outermost_ids}
 use Rattle.ipc.specs.DictionaryEntries.{DictionaryEntries, count_dictionaries, own_entries, columns_own, columns_entries}
 
-abbrev pub ids_of : DictionaryEntries → List ℤ
-ids_of entries = map (λ e. e.0) entries
+abbrev pub entry_ids : DictionaryEntries → List ℤ
+entry_ids entries = map (λ e. e.0) entries
 
 -- the values of an id: their data type, and the ids nested in them
 abbrev pub values_of : ℕ → Layout → ValueTypeModel
@@ -23,7 +23,7 @@ pub record IsNamed (named : ValueTypes) (e : ℤ × Layout) : Type 0 where
   pub id : ℕ
   pub number : e.0 ≡ pos id
   pub values : lookup (is_at (int_cmp e.0)) named ≡ Some (values_of id e.1)
-  pub outer : spec_outermost_ids named (values_of id e.1).inside ≡ ids_of (own_entries (suc id) e.1)
+  pub outer : spec_outermost_ids named (values_of id e.1).inside ≡ entry_ids (own_entries (suc id) e.1)
 
 -- the dictionaries that are found in written fields
 abbrev pub seen_of_fields : List FieldTree → DictionaryTypesModel
@@ -32,4 +32,4 @@ seen_of_fields fields = types_after_all 64 0 fields no_dictionaries
 -- so does the id of each dictionary of columns; those nested in no other are the ids of the columns
 pub record AreNamed (fields : List FieldTree) (columns : List Layout) : Type 0 where
   pub each : AllByRecursion (IsNamed (seen_of_fields fields).named) (columns_entries 0 columns)
-  pub outer : spec_outermost_ids (seen_of_fields fields).named (seen_of_fields fields).ids ≡ ids_of (columns_own 0 columns)
+  pub outer : spec_outermost_ids (seen_of_fields fields).named (seen_of_fields fields).ids ≡ entry_ids (columns_own 0 columns)

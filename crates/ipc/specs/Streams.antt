@@ -65,8 +65,8 @@ abbrev pub values_at : Known → List ℤ → List (Option Layout)
 values_at known ids = map (known_at known) ids
 
 -- the field nodes and buffers of a record batch, and the values of its dictionary arrays
-abbrev pub rest_at : Known → List ℤ → BatchModel → Rest
-rest_at known ids batch = record { nodes = batch.nodes; buffers = batch.buffers; dictionaries = values_at known ids }
+abbrev pub batch_rest : Known → List ℤ → BatchModel → Rest
+batch_rest known ids batch = record { nodes = batch.nodes; buffers = batch.buffers; dictionaries = values_at known ids }
 
 -- ---- record batches
 
@@ -76,8 +76,8 @@ pub record RecordBatchTree : Type 0 where
   pub columns : List Layout
 
 -- the data types of the columns of a schema
-abbrev pub types_of : SchemaModel → List TypeTree
-types_of s = map field_type s.fields
+abbrev pub column_types : SchemaModel → List TypeTree
+column_types s = map field_type s.fields
 
 abbrev pub spec_has_views : FieldAction → Bool
 spec_has_views Read = false
@@ -94,14 +94,14 @@ spec_variadic_counts steps m = if list_any spec_has_views steps then variadic_bu
 -- the projected columns of nodes and buffers, which are decompressed first where the batch is compressed
 abbrev pub columns_in : Option CompressionCodec → ProjectedSchemaModel → ℕ → List ℕ → ProjectionState → Result (List Layout) IpcReadError
 columns_in compression p rows body ahead =
-    plain_buffers compression body ahead.rest.buffers (spec_needed_buffers p.steps (types_of p.schema) ahead.more ahead.rest.buffers) >>= λ plain. decoded_projection p.steps (types_of p.schema) rows plain.1 (ahead_with_buffers ahead plain.0)
+    plain_buffers compression body ahead.rest.buffers (spec_needed_buffers p.steps (column_types p.schema) ahead.more ahead.rest.buffers) >>= λ plain. decoded_projection p.steps (column_types p.schema) rows plain.1 (ahead_with_buffers ahead plain.0)
 
 -- the projected columns of a record batch, over the dictionaries read so far
 unfoldable pub record_batch_in : StateTree → MessageModel → Result RecordBatchTree IpcReadError
 record_batch_in s m = do
   batch ← batch_at m.metadata m.root.header m.root.left m.root.body_length
   more ← spec_variadic_counts s.picked.steps m
-  columns ← columns_in batch.compression s.picked batch.rows m.body (record { rest = rest_at s.known (spec_outermost_ids s.picked.seen.named s.picked.seen.ids) batch; more = more })
+  columns ← columns_in batch.compression s.picked batch.rows m.body (record { rest = batch_rest s.known (spec_outermost_ids s.picked.seen.named s.picked.seen.ids) batch; more = more })
   Ok (record { rows = batch.rows; columns = columns })
 
 -- ---- dictionary batches: Message.fbs, table DictionaryBatch
@@ -176,7 +176,7 @@ spec_with_values true s id more = check (spec_contains_id s.appendable id) Delta
 
 -- the values in the record batch at a position, over the dictionaries nested in them
 abbrev pub column_in_batch : StateTree → MessageModel → ℕ → ℕ → ValueTypeModel → Result Layout IpcReadError
-column_in_batch s m position left v = batch_at m.metadata position left m.root.body_length >>= λ batch. only_column_in batch.compression v.values batch.rows m.body (rest_at s.known (spec_outermost_ids s.picked.seen.named v.inside) batch)
+column_in_batch s m position left v = batch_at m.metadata position left m.root.body_length >>= λ batch. only_column_in batch.compression v.values batch.rows m.body (batch_rest s.known (spec_outermost_ids s.picked.seen.named v.inside) batch)
 
 -- the position of the record batch in a dictionary batch, and whether it is a delta
 unfoldable pub data_in : Bool → Bool → List ℕ → FlatbufferTable → Result (ℕ × Bool) IpcReadError

@@ -3,7 +3,7 @@ use Rattle.std.specs.Prelude.{◌≡◌, ℕ, zero, suc, Bool, ◌==◌, List, [
 use Rattle.std.specs.List.{AllZip, filter}
 use Rattle.ipc_flatbuf.specs.ReadResults.{◌>>=◌}
 use Rattle.ipc_flatbuf.specs.declared.error.IpcReadError.{IpcReadError}
-use Rattle.ipc_flatbuf.specs.MessageBytes.{spec_tag_of}
+use Rattle.ipc_flatbuf.specs.MessageBytes.{header_tag}
 use Rattle.ipc_flatbuf.specs.Messages.{MessageModel, message_at}
 use Rattle.ipc_flatbuf.specs.declared.message.types.MessageKind.{MessageKind}
 use Rattle.ipc_flatbuf.specs.declared.message.types.MessageKind.TheVariants.{DictionaryBatch, RecordBatch}
@@ -42,13 +42,13 @@ batches_by s [] = Ok ([], s)
 batches_by s (m ∷ ms) = message_in s m >>= λ x. batches_by x.1 ms >>= λ others. Ok (with_batch x.0 others.0, others.1)
 
 -- these record batches, and the bytes after them
-abbrev pub with_left : List ℕ → Result (List RecordBatchTree × StateTree) IpcReadError → Result (List RecordBatchTree × List ℕ) IpcReadError
-with_left after read = read >>= λ x. Ok (x.0, after)
+abbrev pub batches_with_left : List ℕ → Result (List RecordBatchTree × StateTree) IpcReadError → Result (List RecordBatchTree × List ℕ) IpcReadError
+batches_with_left after read = read >>= λ x. Ok (x.0, after)
 
 -- ---- the blocks of a file
 
 abbrev pub is_of : MessageKind → MessageModel → Bool
-is_of kind m = spec_tag_of m.root.kind == spec_tag_of kind
+is_of kind m = header_tag m.root.kind == header_tag kind
 
 -- the messages of a kind
 abbrev pub messages_of : MessageKind → List MessageModel → List MessageModel

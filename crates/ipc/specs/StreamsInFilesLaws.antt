@@ -13,7 +13,7 @@ use Rattle.ipc_schema.specs.ProjectedFooters.{ProjectedFooterModel, projected_fo
 use Rattle.ipc_schema.specs.declared.footer.types.Block.{Block}
 use Rattle.ipc_arrays.specs.DecodingLaws.{found}
 use Rattle.ipc.specs.Files.{block_in, batches_at, dictionaries_at, file_reader_in, projected_file_in}
-use Rattle.ipc.specs.StreamsInFiles.{with_batch, batches_by, with_left, messages_of, AreBlocksOf, HoldsStream, IsReadAsStream}
+use Rattle.ipc.specs.StreamsInFiles.{with_batch, batches_by, batches_with_left, messages_of, AreBlocksOf, HoldsStream, IsReadAsStream}
 use Rattle.ipc.specs.ExtendedDictionaries.{HasArrays, IsLater}
 use Rattle.ipc.specs.ExtendedColumns.{read_too}
 use Rattle.ipc.specs.KnownMoreLaws.{later_self, later_on, batch_later, OrReplaced, dictionary_or, dictionary_later}
@@ -248,7 +248,7 @@ record Brings (s : StateTree) (ms : List MessageModel) (bs : List RecordBatchTre
   end : StateTree
   read : batches_by s ms ≡ Ok (bs, end)
 
-brings_by : (s : StateTree) (ms : List MessageModel) (bs : List RecordBatchTree) (after left : List ℕ) (read : Known) → batches_by s ms ≡ read → with_left after read ≡ Ok (bs, left) → Brings s ms bs
+brings_by : (s : StateTree) (ms : List MessageModel) (bs : List RecordBatchTree) (after left : List ℕ) (read : Known) → batches_by s ms ≡ read → batches_with_left after read ≡ Ok (bs, left) → Brings s ms bs
 brings_by s ms bs after left (Err f) is e = cc
 brings_by s ms bs after left (Ok x) is e =
     let pair : ◌≡◌ {A = List RecordBatchTree × List ℕ} (x.0, after) (bs, left) = ok_same {A = List RecordBatchTree × List ℕ} (x.0, after) (bs, left) e in

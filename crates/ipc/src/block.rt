@@ -2,7 +2,7 @@
 ghost use Rattle.std.specs.Prelude.{◌≡◌, ◌<◌, ◌^◌, ◌==◌, length, IfOk};
 ghost use Rattle.ipc_flatbuf.specs.ReadResults.{ReturnsOrRunsOut, Returns};
 ghost use Rattle.ipc_flatbuf.specs.Messages.{model_of, optional_model_of};
-ghost use Rattle.ipc_flatbuf.specs.MessageBytes.{spec_tag_of};
+ghost use Rattle.ipc_flatbuf.specs.MessageBytes.{header_tag};
 ghost use Rattle.ipc_schema.specs.ProjectedSchemas.{projected_schema_of};
 ghost use Rattle.ipc.specs.Streams.{record_batch_of, state_of};
 ghost use Rattle.ipc.specs.Files.{message_of_block, spec_message_in_block, batch_in_block, dictionary_in_block};
@@ -41,7 +41,7 @@ fn of_block<'a>(
 
 // Returns whether two kinds are equal.
 fn is_kind(kind: MessageKind, want: MessageKind) -> bool
-    ensures { result ≡ (spec_tag_of kind == spec_tag_of want) }
+    ensures { result ≡ (header_tag kind == header_tag want) }
 {
     match kind {
         MessageKind::Schema => matches!(want, MessageKind::Schema),

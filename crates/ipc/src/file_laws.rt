@@ -12,7 +12,7 @@ ghost use Rattle.ipc.specs.Streams.{RecordBatchTree, StateTree, batches_in, reco
 ghost use Rattle.ipc.specs.ExtendedDictionaries.{AreAllArrays, HasArrays, IsLater, BatchDecodesAlike};
 ghost use Rattle.ipc.specs.ExtendedColumns.{AllColumnsDecodeAlike, AllBatchesDecodeAlike, AllProjectionsDecodeAlike};
 ghost use Rattle.ipc.specs.StreamsInFilesLaws.{FilesAreReadAsStreams};
-ghost use Rattle.ipc.specs.StreamsInFiles.{HoldsStream, batches_by, messages_in, with_left};
+ghost use Rattle.ipc.specs.StreamsInFiles.{HoldsStream, batches_by, messages_in, batches_with_left};
 ghost use Rattle.ipc.specs.StreamsInFilesExamples.{worked_stream};
 ghost use Rattle.ipc_schema.specs.FooterExamples.{worked_file};
 
@@ -42,7 +42,7 @@ pub fn batches_decode_alike_where_more_is_known()
 
 /// The batches of a stream are those of its messages in order.
 pub fn batches_are_those_of_the_messages()
-    ensures { (s : StateTree) (bytes : List ℕ) (ms : List MessageModel) (after : List ℕ) → messages_in bytes ≡ Ok (ms, after) → batches_in s bytes ≡ with_left after (batches_by s ms) }
+    ensures { (s : StateTree) (bytes : List ℕ) (ms : List MessageModel) (after : List ℕ) → messages_in bytes ≡ Ok (ms, after) → batches_in s bytes ≡ batches_with_left after (batches_by s ms) }
 {}
 
 /// A file whose blocks are the dictionary and record batches of a stream in order is read as that stream, unless a dictionary replaces

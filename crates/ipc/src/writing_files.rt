@@ -9,12 +9,12 @@ ghost use Rattle.ipc_schema.specs.Schemas.{schema_of};
 ghost use Rattle.ipc_schema.specs.SchemaBytes.{schema_message};
 ghost use Rattle.ipc_arrays.specs.Encoding.{columns_body};
 ghost use Rattle.ipc.specs.FileDictionaries.{dictionary_batch_of};
-ghost use Rattle.ipc.specs.EntriesOf.{entry_of, entries_of};
-ghost use Rattle.ipc.specs.Streams.{record_batch_of, restored, state_of, types_of, types_of_fields};
+ghost use Rattle.ipc.specs.EntriesOf.{entry_of, dictionary_entries_of};
+ghost use Rattle.ipc.specs.Streams.{record_batch_of, restored, state_of, column_types, types_of_fields};
 ghost use Rattle.ipc.specs.Files.{file_in};
 ghost use Rattle.ipc.specs.SliceStreamReaders.{state_in};
 ghost use Rattle.ipc.specs.EncodedStreams.{batch_bytes, dictionary_head, dictionary_bytes, pending_by, encoded_batch, encoded_batches, encoded_messages, schema_error, IsErrorOrMemory, RecordBatchRoundTrips, DictionaryRoundTrips, BatchRoundTrips, BatchesRoundTrip, AreSameBatches};
-ghost use Rattle.ipc.specs.EncodedFiles.{block_at, part_bytes, part_error, with_blocks, written_block, dictionary_blocks, file_dictionary_batches, no_blocks, blocks_from, blocks_of, encoded_file, after, file_state_after, file_state_start, state_by, state_after, unreadable_error, spec_write_error_of, record_batch_block_error, dictionary_batch_error, dictionary_batches_error, file_batch_error, file_batches_error, file_error, decoded_file, file_state_of, messages_error, DecodesLikeStream};
+ghost use Rattle.ipc.specs.EncodedFiles.{block_at, part_bytes, part_error, with_blocks, written_block, dictionary_blocks, file_dictionary_batches, no_blocks, blocks_from, file_blocks_of, encoded_file, after, file_state_after, file_state_start, state_by, state_after, unreadable_error, spec_write_error_of, record_batch_block_error, dictionary_batch_error, dictionary_batches_error, file_batch_error, file_batches_error, file_error, decoded_file, file_state_of, messages_error, DecodesLikeStream};
 ghost use Rattle.ipc.specs.EncodedBatches.{with_part};
 
 use crate::batch::Batch;
@@ -45,7 +45,7 @@ pub struct FileBlocks {
 impl FileBlocks {
     /// Returns no blocks.
     pub fn new(alloc: Global) -> FileBlocks
-        ensures { blocks_of result ≡ no_blocks }
+        ensures { file_blocks_of result ≡ no_blocks }
     {
         FileBlocks {
             dictionaries: Vec::new(alloc),
@@ -189,7 +189,7 @@ fn write_parts(
     batch: &Batch,
 ) -> Result<(), IpcWriteError>
     ensures bytes { OnOk result (out.new.items ≡ out.old.items ++ part_bytes (map dictionary_batch_of puts.now) (record_batch_of batch.now)) }
-    ensures blocks { OnOk result (blocks_of blocks.new ≡ with_blocks (blocks_of blocks.old) (length out.old.items) (map dictionary_batch_of puts.now) (record_batch_of batch.now)) }
+    ensures blocks { OnOk result (file_blocks_of blocks.new ≡ with_blocks (file_blocks_of blocks.old) (length out.old.items) (map dictionary_batch_of puts.now) (record_batch_of batch.now)) }
     ensures picked { known.new.picked ≡ known.old.picked }
     ensures known { OnOk result (state_of known.new ≡ after state_after (state_of known.old) (map dictionary_batch_of puts.now)) }
     ensures again { OnOk result (AllByRecursion DictionaryRoundTrips (map dictionary_batch_of puts.now)) }
@@ -214,7 +214,7 @@ fn write_parts_or_undo(
     batch: &Batch,
 ) -> Result<Option<KnownDictionaries>, IpcWriteError>
     ensures bytes { OnOk result (out.new.items ≡ out.old.items ++ part_bytes (map dictionary_batch_of puts.now) (record_batch_of batch.now)) }
-    ensures blocks { OnOk result (blocks_of blocks.new ≡ with_blocks (blocks_of blocks.old) (length out.old.items) (map dictionary_batch_of puts.now) (record_batch_of batch.now)) }
+    ensures blocks { OnOk result (file_blocks_of blocks.new ≡ with_blocks (file_blocks_of blocks.old) (length out.old.items) (map dictionary_batch_of puts.now) (record_batch_of batch.now)) }
     ensures picked { known.new.picked ≡ known.old.picked }
     ensures known { OnOk result (state_of known.new ≡ after state_after (state_of known.old) (map dictionary_batch_of puts.now)) }
     ensures undo { MatchResult result (λ before. restored before (state_of known.new) ≡ state_of known.old) (λ _. state_of known.new ≡ state_of known.old) }
@@ -257,13 +257,13 @@ pub fn encode_file_batch<'a>(
     known: &mut DictionaryState,
     batch: &'a Batch,
 ) -> Result<EncodedFileBatch<'a>, IpcWriteError>
-    ensures bytes { OnOk result (out.new.items ≡ out.old.items ++ encoded_batch file_dictionary_batches (entries_of emitted.now.entries) (record_batch_of batch.now)) }
-    ensures pending { IfOk result (λ encoded. map entry_of encoded.pending.items ≡ pending_by (entries_of emitted.now.entries) (record_batch_of batch.now)) }
+    ensures bytes { OnOk result (out.new.items ≡ out.old.items ++ encoded_batch file_dictionary_batches (dictionary_entries_of emitted.now.entries) (record_batch_of batch.now)) }
+    ensures pending { IfOk result (λ encoded. map entry_of encoded.pending.items ≡ pending_by (dictionary_entries_of emitted.now.entries) (record_batch_of batch.now)) }
     ensures undo { MatchResult result (λ encoded. restored encoded.before (state_of known.new) ≡ state_of known.old) (λ _. state_of known.new ≡ state_of known.old) }
-    ensures blocks { OnOk result (blocks_of blocks.new ≡ with_part (blocks_of blocks.old) (length out.old.items) (entries_of emitted.now.entries) (record_batch_of batch.now)) }
+    ensures blocks { OnOk result (file_blocks_of blocks.new ≡ with_part (file_blocks_of blocks.old) (length out.old.items) (dictionary_entries_of emitted.now.entries) (record_batch_of batch.now)) }
     ensures picked { known.new.picked ≡ known.old.picked }
     ensures known { OnOk result (state_of known.new ≡ (file_state_after (file_state_of emitted.now.entries known.old) (record_batch_of batch.now)).state) }
-    ensures again { OnOk result (BatchRoundTrips (file_dictionary_batches (entries_of emitted.now.entries) (record_batch_of batch.now)) (record_batch_of batch.now)) }
+    ensures again { OnOk result (BatchRoundTrips (file_dictionary_batches (dictionary_entries_of emitted.now.entries) (record_batch_of batch.now)) (record_batch_of batch.now)) }
     ensures form { OnOk result (file_batch_error (types_of_fields fields.now) (file_state_of emitted.now.entries known.old) (record_batch_of batch.now) ≡ None) }
     ensures err { IfErr result (IsErrorOrMemory (file_batch_error (types_of_fields fields.now) (file_state_of emitted.now.entries known.old) (record_batch_of batch.now))) }
 {
@@ -289,10 +289,10 @@ fn write_block(
     blocks: &mut FileBlocks,
     batch: &Batch,
 ) -> Result<(), IpcWriteError>
-    ensures bytes { OnOk result (out.new.items ≡ out.old.items ++ encoded_batch file_dictionary_batches (entries_of emitted.old.entries) (record_batch_of batch.now)) }
+    ensures bytes { OnOk result (out.new.items ≡ out.old.items ++ encoded_batch file_dictionary_batches (dictionary_entries_of emitted.old.entries) (record_batch_of batch.now)) }
     ensures file_state { OnOk result (file_state_of emitted.new.entries known.new ≡ file_state_after (file_state_of emitted.old.entries known.old) (record_batch_of batch.now)) }
-    ensures blocks { OnOk result (blocks_of blocks.new ≡ with_part (blocks_of blocks.old) (length out.old.items) (entries_of emitted.old.entries) (record_batch_of batch.now)) }
-    ensures again { OnOk result (BatchRoundTrips (file_dictionary_batches (entries_of emitted.old.entries) (record_batch_of batch.now)) (record_batch_of batch.now)) }
+    ensures blocks { OnOk result (file_blocks_of blocks.new ≡ with_part (file_blocks_of blocks.old) (length out.old.items) (dictionary_entries_of emitted.old.entries) (record_batch_of batch.now)) }
+    ensures again { OnOk result (BatchRoundTrips (file_dictionary_batches (dictionary_entries_of emitted.old.entries) (record_batch_of batch.now)) (record_batch_of batch.now)) }
     ensures form { OnOk result (file_batch_error (types_of_fields fields.now) (file_state_of emitted.old.entries known.old) (record_batch_of batch.now) ≡ None) }
     ensures err { IfErr result (IsErrorOrMemory (file_batch_error (types_of_fields fields.now) (file_state_of emitted.old.entries known.old) (record_batch_of batch.now))) }
 {
@@ -310,9 +310,9 @@ fn write_blocks(
     known: &mut DictionaryState,
     batches: &[Batch],
 ) -> Result<FileBlocks, IpcWriteError>
-    ensures bytes { OnOk result (out.new.items ≡ out.old.items ++ encoded_batches file_dictionary_batches (entries_of emitted.old.entries) (map record_batch_of batches.now)) }
-    ensures blocks { IfOk result (λ blocks. blocks_of blocks ≡ blocks_from (length out.old.items) (entries_of emitted.old.entries) (map record_batch_of batches.now)) }
-    ensures again { OnOk result (BatchesRoundTrip file_dictionary_batches (entries_of emitted.old.entries) (map record_batch_of batches.now)) }
+    ensures bytes { OnOk result (out.new.items ≡ out.old.items ++ encoded_batches file_dictionary_batches (dictionary_entries_of emitted.old.entries) (map record_batch_of batches.now)) }
+    ensures blocks { IfOk result (λ blocks. file_blocks_of blocks ≡ blocks_from (length out.old.items) (dictionary_entries_of emitted.old.entries) (map record_batch_of batches.now)) }
+    ensures again { OnOk result (BatchesRoundTrip file_dictionary_batches (dictionary_entries_of emitted.old.entries) (map record_batch_of batches.now)) }
     ensures form { OnOk result (file_batches_error (types_of_fields fields.now) (file_state_of emitted.old.entries known.old) (map record_batch_of batches.now) ≡ None) }
     ensures err { IfErr result (IsErrorOrMemory (file_batches_error (types_of_fields fields.now) (file_state_of emitted.old.entries known.old) (map record_batch_of batches.now))) }
 {
@@ -346,10 +346,10 @@ fn write_messages(
     batches: &[Batch],
 ) -> Result<FileBlocks, IpcWriteError>
     ensures bytes { OnOk result (out.new.items ≡ out.old.items ++ encoded_messages file_dictionary_batches (schema_of schema.now) (map record_batch_of batches.now)) }
-    ensures blocks { IfOk result (λ blocks. blocks_of blocks ≡ blocks_from (length out.old.items + length (schema_message (schema_of schema.now))) [] (map record_batch_of batches.now)) }
+    ensures blocks { IfOk result (λ blocks. file_blocks_of blocks ≡ blocks_from (length out.old.items + length (schema_message (schema_of schema.now))) [] (map record_batch_of batches.now)) }
     ensures again { OnOk result (BatchesRoundTrip file_dictionary_batches [] (map record_batch_of batches.now)) }
     ensures schema { OnOk result (schema_error (schema_of schema.now) ≡ None) }
-    ensures form { OnOk result (file_batches_error (types_of (schema_of schema.now)) (file_state_start (schema_of schema.now)) (map record_batch_of batches.now) ≡ None) }
+    ensures form { OnOk result (file_batches_error (column_types (schema_of schema.now)) (file_state_start (schema_of schema.now)) (map record_batch_of batches.now) ≡ None) }
     ensures err { IfErr result (IsErrorOrMemory (messages_error (schema_of schema.now) (map record_batch_of batches.now))) }
 {
     let message = write_schema_with_dictionaries(alloc, schema)?;

@@ -8,14 +8,14 @@ use Rattle.ipc_flatbuf.specs.declared.batch.parts.BufferSpec.{BufferSpec}
 use Rattle.ipc_flatbuf.specs.declared.compression.codec.CompressionCodec.{CompressionCodec}
 use Rattle.ipc_flatbuf.specs.declared.compression.error.CompressionError.{CompressionError}
 use Rattle.ipc_arrays.specs.CompressionResults.{◌>>=◌, FailsOrRunsOut}
-use Rattle.ipc_arrays.specs.CompressedBuffers.{appended}
+use Rattle.ipc_arrays.specs.CompressedBuffers.{with_content}
 use Rattle.ipc_arrays.specs.BodyBuffers.{padded, body_of, buffer_specs}
 use Rattle.ipc_arrays.specs.PlainBodies.{buffer_slice, buffer_spec, laid_out, is_needed_at, decompressed_buffer, decompressed_buffers, spec_plain_body, DecodesEachBuffer}
 use Rattle.ipc_arrays.specs.PlainBodyLaws.{body_push, specs_push, first_is, others_are}
 
 -- ---- one buffer
 
-pub padded_is : (read : Result (List ℕ) CompressionError) (old mid new : List ℕ) (offset size : ℕ) → appended old read ≡ Ok mid → offset ≡ length old → size ≡ length mid - offset → new ≡ mid ++ padding size
+pub padded_is : (read : Result (List ℕ) CompressionError) (old mid new : List ℕ) (offset size : ℕ) → with_content old read ≡ Ok mid → offset ≡ length old → size ≡ length mid - offset → new ≡ mid ++ padding size
     → laid_out old read ≡ Ok (record { offset = pos offset; length = pos size }, new)
 unfolding padded
 padded_is (Ok content) old mid new offset size is offset_is long padding_is =

@@ -47,6 +47,6 @@ decompressed codec bytes =
     else (spec_next_size bytes >>= λ x. content_of codec x.0 x.1)
 
 -- the output with a content at its end
-abbrev pub appended : List ℕ → Result (List ℕ) CompressionError → Result (List ℕ) CompressionError
-appended output (Ok content) = Ok (output ++ content)
-appended output (Err e) = Err e
+abbrev pub with_content : List ℕ → Result (List ℕ) CompressionError → Result (List ℕ) CompressionError
+with_content output (Ok content) = Ok (output ++ content)
+with_content output (Err e) = Err e

@@ -193,15 +193,15 @@ abbrev pub columns_body : List Layout → List ℕ
 columns_body columns = body_of (buffers_of (written_arrays columns))
 
 -- whether an array has no children, and can be written
-abbrev pub is_flat : Layout → Bool
-is_flat (null t n) = true
-is_flat (boolean t bits va) = true
-is_flat (primitive k t values va) = is_some (format_of k)
-is_flat (fixed_size_binary t bs va) = true
-is_flat (binary large t os bs va) = true
-is_flat (utf8 large t os bs va) = true
-is_flat (dictionary t ks c) = true
-is_flat a = false
+abbrev pub is_flat_layout : Layout → Bool
+is_flat_layout (null t n) = true
+is_flat_layout (boolean t bits va) = true
+is_flat_layout (primitive k t values va) = is_some (format_of k)
+is_flat_layout (fixed_size_binary t bs va) = true
+is_flat_layout (binary large t os bs va) = true
+is_flat_layout (utf8 large t os bs va) = true
+is_flat_layout (dictionary t ks c) = true
+is_flat_layout a = false
 
 -- whether an array can be written without regard to its children: a primitive array needs a byte format
 abbrev pub is_supported : Layout → Bool

@@ -22,7 +22,7 @@ use Rattle.nest_array.specs.Seen.{layout_of, layouts_of}
 use Rattle.nest_array.specs.WindowParts.{WindowParts, window_parts}
 use Rattle.nest_array.specs.declared.any.AnyArray.{AnyArray}
 use Rattle.ipc_arrays.specs.VariableSizeLaws.{rows_again}
-use Rattle.ipc_arrays.specs.Encoding.{normalized_validity, normalized_keys, normalized_flat, normalized_slice, normalized, normalized_each, normalized_all, sparse_begin, preorder, preorder_all, each_window, whole_windows, windows_below, normalized_window, window_arrays, written_arrays, is_supported, is_flat, field_node_of, buffers_of, columns_body}
+use Rattle.ipc_arrays.specs.Encoding.{normalized_validity, normalized_keys, normalized_flat, normalized_slice, normalized, normalized_each, normalized_all, sparse_begin, preorder, preorder_all, each_window, whole_windows, windows_below, normalized_window, window_arrays, written_arrays, is_supported, is_flat_layout, field_node_of, buffers_of, columns_body}
 use Rattle.ipc_arrays.specs.BodyBuffers.{body_of}
 use Rattle.ipc_arrays.specs.DictionaryKeyLaws.{blanked_long}
 use Rattle.ipc_arrays.specs.EncodingLaws.{null_bits, unset_few, nulls_are, eqb-zero}
@@ -256,7 +256,7 @@ pass_append p (x ∷ xs) ys = ap (λ (b : Bool). p x && b) (pass_append p xs ys)
     and_assoc false b c = refl
 
 -- a window without children is normalized as its slice
-pub flat_normalized : (a : Layout) (o n : ℕ) → is_flat a ≡ true → normalized_slice a o n ≡ normalized_flat (slice_layout a o n)
+pub flat_normalized : (a : Layout) (o n : ℕ) → is_flat_layout a ≡ true → normalized_slice a o n ≡ normalized_flat (slice_layout a o n)
 flat_normalized (null t m) o n flat = refl
 flat_normalized (boolean t bs va) o n flat = refl
 flat_normalized (primitive k t vs va) o n flat = refl
@@ -266,7 +266,7 @@ flat_normalized (fixed_size_binary t bs va) o n flat = refl
 flat_normalized (dictionary t ks c) o n flat = refl
 flat_normalized a o n flat = cc
 
-pub flat_cut : (a : Layout) (o n : ℕ) → is_flat a ≡ true → is_flat (slice_layout a o n) ≡ true
+pub flat_cut : (a : Layout) (o n : ℕ) → is_flat_layout a ≡ true → is_flat_layout (slice_layout a o n) ≡ true
 flat_cut (null t m) o n flat = refl
 flat_cut (boolean t bs va) o n flat = refl
 flat_cut (primitive k t vs va) o n flat = flat

@@ -390,9 +390,9 @@ value_same c d p h lt =
     ∙ get_or_append_left (slots_of c) h.more slots.null p inside
     ∙ slot-place c p slots.null lt
 
-pub where_valid : (b : Bool) (x y : Slot) → (b ≡ true → x ≡ y) → (if b then x else slots.null) ≡ (if b then y else slots.null)
-where_valid true x y h = h refl
-where_valid false x y h = refl
+pub same_where_valid : (b : Bool) (x y : Slot) → (b ≡ true → x ≡ y) → (if b then x else slots.null) ≡ (if b then y else slots.null)
+same_where_valid true x y h = h refl
+same_where_valid false x y h = refl
 
 slot_alike : (a b : Layout) (o n i : ℕ) → TopFits a → o + n ≤ len a → IsSameUpToValues a b → AllByRecursion HasSameSlots (windows_below a o n) → i < n → slot b (o + i) ≡ slot a (o + i)
 slot_alike (fixed_size_list t c va) b o n i fits le h all lt =
@@ -424,7 +424,7 @@ slot_alike (union t ks cs (Some os) start) b o n i fits le h all lt =
 slot_alike (dictionary t ks c) b o n i fits le h all lt =
     let key : ℤ = key_at ks (o + i) in
     ap (λ (x : Layout). slot x (o + i)) h.1
-    ∙ where_valid (valid_at (validity_of ks) (o + i)) (slot h.0 (to_index key)) (slot c (to_index key))
+    ∙ same_where_valid (valid_at (validity_of ks) (o + i)) (slot h.0 (to_index key)) (slot c (to_index key))
     (λ valid. value_same c h.0 (to_index key) h.2 (place_named key (len c) (fits.1.1.1.1 (o + i) (omega arith) valid)))
 slot_alike a b o n i fits le h all lt = ap (λ (x : Layout). slot x (o + i)) h
 

@@ -45,7 +45,7 @@ use Rattle.ipc_arrays.specs.VariableSizeLaws.{rebased_at, rebased_long}
 use Rattle.ipc_arrays.specs.declared.cursor.NodeCounts.{NodeCounts}
 use Rattle.ipc_arrays.specs.declared.cursor.ExpectedLength.{ExpectedLength}
 use Rattle.ipc_arrays.specs.declared.cursor.ExpectedLength.TheVariants.{Rows, Exactly, AtLeast, Any}
-use Rattle.ipc_arrays.specs.Encoding.{normalized_validity, normalized_flat, normalized_slice, normalized, normalized_each, normalized_all, sparse_begin, rebased, normalized_validity_bytes, offset_bytes, numbers_bytes, own_buffers, own_dictionaries, dictionaries_of, flat_buffers, field_node_of, preorder, buffers_of, columns_body, each_window, whole_windows, windows_below, normalized_window, window_arrays, written_arrays, is_supported, is_flat, RoundTrip}
+use Rattle.ipc_arrays.specs.Encoding.{normalized_validity, normalized_flat, normalized_slice, normalized, normalized_each, normalized_all, sparse_begin, rebased, normalized_validity_bytes, offset_bytes, numbers_bytes, own_buffers, own_dictionaries, dictionaries_of, flat_buffers, field_node_of, preorder, buffers_of, columns_body, each_window, whole_windows, windows_below, normalized_window, window_arrays, written_arrays, is_supported, is_flat_layout, RoundTrip}
 use Rattle.ipc_arrays.specs.EncodingLaws.{null_bits, counts, Later, rest_with, before, begun, nulls_of, ValuesRoundTrip, IsWritable, OffsetsRoundTrip, NumbersRoundTrip, OwnBuffersRoundTrip, node_again, buffer_again, head_again, rows_again, rows_behind, no_buffers, flat_again, flat_same, valid_again, eqb-same, eqb-zero}
 use Rattle.ipc_arrays.specs.NormalizedLaws.{normalized_len, normalized_type, nulls_in, nulls_few, slice_fits, normalized_node, written_more, written_none, each_written, all_written, flat_normalized}
 
@@ -170,7 +170,7 @@ validity_cut (struct t cs va) o n = refl
 validity_cut (union t ks cs os start) o n = refl
 validity_cut (dictionary t ks c) o n = validity_cut ks o n
 
-flat_nulls : (a : Layout) (o n : ℕ) → is_flat a ≡ true → nulls_of (slice_layout a o n) ≡ nulls_in a o n
+flat_nulls : (a : Layout) (o n : ℕ) → is_flat_layout a ≡ true → nulls_of (slice_layout a o n) ≡ nulls_in a o n
 flat_nulls (null t m) o n flat = refl
 flat_nulls (boolean t bs va) o n flat = refl
 flat_nulls (primitive k t vs va) o n flat = refl
@@ -180,7 +180,7 @@ flat_nulls (fixed_size_binary t bs va) o n flat = refl
 flat_nulls (dictionary t ks c) o n flat = ap null_bits (validity_cut ks o n)
 flat_nulls a o n flat = cc
 
-flat_numbers : (a : Layout) (o n : ℕ) → is_flat a ≡ true → OwnBuffersRoundTrip a o n → ValuesRoundTrip (slice_layout a o n)
+flat_numbers : (a : Layout) (o n : ℕ) → is_flat_layout a ≡ true → OwnBuffersRoundTrip a o n → ValuesRoundTrip (slice_layout a o n)
 flat_numbers (null t m) o n flat h = h
 flat_numbers (boolean t bs va) o n flat h = h
 flat_numbers (primitive k t vs va) o n flat h = h
@@ -190,10 +190,10 @@ flat_numbers (fixed_size_binary t bs va) o n flat h = h
 flat_numbers (dictionary t ks c) o n flat h = h
 flat_numbers a o n flat h = cc
 
-flat_slot : (a : Layout) (o n i : ℕ) → is_flat a ≡ true → i < n → slot (slice_layout a o n) i ≡ slot a (o + i)
+flat_slot : (a : Layout) (o n i : ℕ) → is_flat_layout a ≡ true → i < n → slot (slice_layout a o n) i ≡ slot a (o + i)
 flat_slot a o n i flat lt = slot-cut a o n i lt
 
-flat_read : (a : Layout) (o n : ℕ) → is_flat a ≡ true → o + n ≤ len a → IsWritable (slice_layout a o n) → IsRead a o n []
+flat_read : (a : Layout) (o n : ℕ) → is_flat_layout a ≡ true → o + n ≤ len a → IsWritable (slice_layout a o n) → IsRead a o n []
 flat_read a o n flat le ok whole base tail ns more h =
     let b : Layout = slice_layout a o n in
     let normalized_so : normalized_slice a o n ≡ normalized_flat b = flat_normalized a o n flat in
@@ -203,7 +203,7 @@ flat_read a o n flat le ok whole base tail ns more h =
     ∙ flat_again b whole base tail ns more ok from
     ∙ (λ w. Ok (sym normalized_so w, rest_with ns more))
 
-flat_window : (a : Layout) (o n : ℕ) → TopFits a → is_flat a ≡ true → is_supported a ≡ true → o + n ≤ len a → OwnBuffersRoundTrip a o n → preorder (normalized_slice a o n) ≡ normalized_slice a o n ∷ [] → WindowRoundTrips (window_parts a o n)
+flat_window : (a : Layout) (o n : ℕ) → TopFits a → is_flat_layout a ≡ true → is_supported a ≡ true → o + n ≤ len a → OwnBuffersRoundTrip a o n → preorder (normalized_slice a o n) ≡ normalized_slice a o n ∷ [] → WindowRoundTrips (window_parts a o n)
 flat_window a o n fits flat format le round_trips arrays =
     let ok : IsWritable (slice_layout a o n) = record { fits = top-fits-cut a o n fits le; numbers = flat_numbers a o n flat round_trips } in
     window_again a o n [] fits format le arrays (flat_read a o n flat le ok)

@@ -10,7 +10,7 @@ ghost use Rattle.ipc_arrays.specs.NoDictionaries.{is_not_dictionary};
 ghost use Rattle.ipc_arrays.specs.ArrayKinds.{is_null_array, is_not_dictionary_array, is_flat_array};
 ghost use Rattle.ipc_arrays.specs.NormalizedLaws.{is_null_layout};
 ghost use Rattle.ipc_arrays.specs.EncodingLaws.{null_bits};
-ghost use Rattle.ipc_arrays.specs.Encoding.{field_node_of, normalized_validity_bytes, own_buffers, flat_buffers, preorder, window_arrays, normalized_window, is_flat, is_supported, size_error, IsBufferError, IsLayoutError, IsArrayError, IsWriteError, AppendsBuffers, AppendsArrays, IsLayoutOf};
+ghost use Rattle.ipc_arrays.specs.Encoding.{field_node_of, normalized_validity_bytes, own_buffers, flat_buffers, preorder, window_arrays, normalized_window, is_flat_layout, is_supported, size_error, IsBufferError, IsLayoutError, IsArrayError, IsWriteError, AppendsBuffers, AppendsArrays, IsLayoutOf};
 
 use crate::boolean::layout_boolean;
 use crate::dictionary::layout_dictionary;
@@ -138,7 +138,7 @@ fn layout_node(layout: &mut BodyLayout, window: &Window<'_>) -> Result<(), IpcWr
 
 fn layout_flat_array(layout: &mut BodyLayout, column: &AnyArray) -> Result<(), IpcWriteError>
     requires small { layout.old.length < 2 ^ 63 }
-    requires flat { is_flat (layout_of column.now) ≡ true }
+    requires flat { is_flat_layout (layout_of column.now) ≡ true }
     ensures nodes { layout.new.nodes ≡ layout.old.nodes }
     ensures ok { OnOk result (AppendsBuffers layout.old layout.new (flat_buffers (layout_of column.now))) }
     ensures err { IfErr result (λ error. IsLayoutError error layout.old (flat_buffers (layout_of column.now))) }
@@ -179,7 +179,7 @@ fn layout_flat_window(
     window: &Window<'_>,
 ) -> Result<(), IpcWriteError>
     requires small { layout.old.length < 2 ^ 63 }
-    requires flat { is_flat window.now.array ≡ true }
+    requires flat { is_flat_layout window.now.array ≡ true }
     ensures nodes { layout.new.nodes ≡ layout.old.nodes }
     ensures ok { OnOk result (AppendsBuffers layout.old layout.new (own_buffers (normalized_window window.now))) }
     ensures err { IfErr result (λ error. IsLayoutError error layout.old (own_buffers (normalized_window window.now))) }
@@ -291,7 +291,7 @@ fn layout_windows(
 /// States what the variant of an array implies for its layout. Does nothing at run time.
 pub(crate) fn known_kind(array: &AnyArray)
     ensures supported { is_supported (layout_of array.now) ≡ true }
-    ensures flat { is_flat (layout_of array.now) ≡ is_flat_array array.now }
+    ensures flat { is_flat_layout (layout_of array.now) ≡ is_flat_array array.now }
     ensures nulls { is_null_layout (layout_of array.now) ≡ is_null_array array.now }
     ensures keys { is_not_dictionary (layout_of array.now) ≡ is_not_dictionary_array array.now }
 {

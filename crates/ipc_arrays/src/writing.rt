@@ -5,7 +5,7 @@ ghost use Rattle.std.specs.Option.{option_map};
 ghost use Rattle.ipc_flatbuf.specs.declared.error.IpcWriteError.TheVariants.{Memory};
 ghost use Rattle.nest_array.specs.Seen.{layout_of};
 ghost use Rattle.ipc_arrays.specs.BodyBuffers.{body_of};
-ghost use Rattle.ipc_arrays.specs.Encoding.{normalized_validity_bytes, own_buffers, flat_buffers, preorder, buffers_of, window_arrays, normalized_window, columns_body, is_flat, RoundTrip};
+ghost use Rattle.ipc_arrays.specs.Encoding.{normalized_validity_bytes, own_buffers, flat_buffers, preorder, buffers_of, window_arrays, normalized_window, columns_body, is_flat_layout, RoundTrip};
 ghost use Rattle.ipc_arrays.specs.EncodingLaws.{IsWritable, OwnBuffersRoundTrip};
 ghost use Rattle.ipc_arrays.specs.ReplacedValues.{WindowRoundTripsOverExtensions, RoundTripOverExtensions};
 
@@ -26,7 +26,7 @@ use nest_memory::bitmap::immutable::Bitmap;
 use std::alloc::{AllocError, Global};
 
 fn write_flat_array(out: &mut Vec<u8>, column: &AnyArray) -> Result<(), AllocError>
-    requires { is_flat (layout_of column.now) ≡ true }
+    requires { is_flat_layout (layout_of column.now) ≡ true }
     ensures ok { OnOk result (out.new.items ≡ out.old.items ++ body_of (flat_buffers (layout_of column.now))) }
     ensures writable { OnOk result (IsWritable (layout_of column.now)) }
 {
@@ -53,7 +53,7 @@ fn write_flat_window(
     out: &mut Vec<u8>,
     window: &Window<'_>,
 ) -> Result<(), IpcWriteError>
-    requires { is_flat window.now.array ≡ true }
+    requires { is_flat_layout window.now.array ≡ true }
     ensures ok { OnOk result (out.new.items ≡ out.old.items ++ body_of (own_buffers (normalized_window window.now))) }
     ensures round_trips { OnOk result (OwnBuffersRoundTrip window.now.array window.now.offset window.now.count) }
     ensures err { IfErr result (λ error. error ≡ Memory) }

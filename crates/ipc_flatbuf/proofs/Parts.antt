@@ -2,7 +2,7 @@
 use Rattle.std.proofs.Common.{◌≡◌, ℕ, ◌+◌, ◌-◌, ◌*◌, ◌<◌, ◌≤◌, List, [], ◌∷◌, ◌++◌, length, get_or, drop, sym, ap, ◌∙◌, append_assoc, arith}
 use Rattle.std.specs.Global.{Vec}
 use Rattle.std.proofs.lemmas.List.{append-nil, drop_more, drop_all, length-append, length-map, length-take}
-use Rattle.ipc_flatbuf.specs.PartBytes.{u32_bytes, zeros, offsets_size, offsets, concatenated, table_vector_bytes, bytes_of_each}
+use Rattle.ipc_flatbuf.specs.PartBytes.{u32_bytes, padding_zeros, offsets_size, offsets, concatenated, table_vector_bytes, bytes_of_each}
 use Rattle.ipc_flatbuf.specs.VectorLaws.{offsets_long}
 
 -- the first part that is left
@@ -44,4 +44,4 @@ row_bytes_long head ps =
     let n : ℕ = length bodies in
     let k : ℕ = offsets_size n - (4 + 4 * n) in
     let rest : List ℕ = concatenated bodies in
-    omega (arith, count_is ps, offsets_long head (offsets_size n - 4) bodies, length-append (offsets head (offsets_size n - 4) bodies) (zeros k ++ rest), length-append (zeros k) rest, length-take {A = ℕ} k (0 ∷ 0 ∷ 0 ∷ 0 ∷ 0 ∷ 0 ∷ 0 ∷ 0 ∷ []))
+    omega (arith, count_is ps, offsets_long head (offsets_size n - 4) bodies, length-append (offsets head (offsets_size n - 4) bodies) (padding_zeros k ++ rest), length-append (padding_zeros k) rest, length-take {A = ℕ} k (0 ∷ 0 ∷ 0 ∷ 0 ∷ 0 ∷ 0 ∷ 0 ∷ 0 ∷ []))

@@ -1,25 +1,25 @@
 -- The bytes of a message: the vtable of the root, the root table, then the part with the header table.
 -- Each part is a multiple of 8 bytes (Columnar format, Encapsulated message format).
 use Rattle.std.specs.Prelude.{ℕ, ◌+◌, ◌-◌, ◌%◌, pos, List, [], ◌∷◌, ◌++◌, length}
-use Rattle.ipc_flatbuf.specs.PartBytes.{i64_bytes, u32_bytes, zeros}
+use Rattle.ipc_flatbuf.specs.PartBytes.{i64_bytes, u32_bytes, padding_zeros}
 use Rattle.ipc_flatbuf.specs.declared.message.types.MessageKind.{MessageKind}
 use Rattle.ipc_flatbuf.specs.declared.message.types.MessageKind.TheVariants.{Schema, DictionaryBatch, RecordBatch}
 
 -- the tag of the header (Message.fbs, union MessageHeader)
-abbrev pub spec_tag_of : MessageKind → ℕ
-spec_tag_of Schema = 1
-spec_tag_of DictionaryBatch = 2
-spec_tag_of RecordBatch = 3
+abbrev pub header_tag : MessageKind → ℕ
+header_tag Schema = 1
+header_tag DictionaryBatch = 2
+header_tag RecordBatch = 3
 
 -- the root table is at 24, with version V5; the header table is head bytes into the part at 48
 unfoldable pub root_bytes : MessageKind → ℕ → ℕ → List ℕ → List ℕ
 root_bytes kind body_length head part =
     (24 ∷ 0 ∷ 0 ∷ 0 ∷ 0 ∷ 0 ∷ 0 ∷ 0 ∷ 12 ∷ 0 ∷ 24 ∷ 0 ∷ 16 ∷ 0 ∷ 18 ∷ 0 ∷ 4 ∷ 0 ∷ 8 ∷ 0 ∷ 0 ∷ 0 ∷ 0 ∷ 0 ∷ 16 ∷ 0 ∷ 0 ∷ 0 ∷ [])
-    ++ (u32_bytes (20 + head) ++ (i64_bytes (pos body_length) ++ ((4 ∷ 0 ∷ spec_tag_of kind ∷ 0 ∷ 0 ∷ 0 ∷ 0 ∷ 0 ∷ []) ++ part)))
+    ++ (u32_bytes (20 + head) ++ (i64_bytes (pos body_length) ++ ((4 ∷ 0 ∷ header_tag kind ∷ 0 ∷ 0 ∷ 0 ∷ 0 ∷ 0 ∷ []) ++ part)))
 
--- the zeros up to the next multiple of 8
+-- the padding_zeros up to the next multiple of 8
 abbrev pub padding : ℕ → List ℕ
-padding n = zeros ((8 - n % 8) % 8)
+padding n = padding_zeros ((8 - n % 8) % 8)
 
 -- the continuation indicator, the length, the metadata and its padding
 unfoldable pub framed_bytes : List ℕ → List ℕ

@@ -19,9 +19,9 @@ use Rattle.ipc_flatbuf.specs.declared.message.types.MessageKind.TheVariants.{Sch
 use Rattle.ipc_flatbuf.specs.declared.message.types.MetadataVersion.TheVariants.{V5}
 use Rattle.ipc_flatbuf.specs.declared.message.types.MessageRoot.{MessageRoot}
 use Rattle.ipc_flatbuf.specs.Messages.{MessageModel, root_at, spec_kind_of, spec_first_bytes, spec_after_continuation, spec_sized_message, spec_message_of_size, message_at}
-use Rattle.ipc_flatbuf.specs.MessageBytes.{spec_tag_of, root_bytes, padding, framed_bytes, metadata_size, end_of_stream, message_bytes}
+use Rattle.ipc_flatbuf.specs.MessageBytes.{header_tag, root_bytes, padding, framed_bytes, metadata_size, end_of_stream, message_bytes}
 
-kind_round_trips : (kind : MessageKind) → spec_kind_of (spec_tag_of kind) ≡ Ok kind
+kind_round_trips : (kind : MessageKind) → spec_kind_of (header_tag kind) ≡ Ok kind
 kind_round_trips Schema = refl
 kind_round_trips DictionaryBatch = refl
 kind_round_trips RecordBatch = refl
@@ -47,7 +47,7 @@ root_round_trips kind body_length head part whole after fits near h small =
     let f2 : spec_field_position whole (table_in 8 16 12) 2 ≡ Ok (Some 28) = field_in whole 8 inner 16 12 2 4 here (omega arith) (omega arith) (omega arith) refl in
     let f3 : spec_field_position whole (table_in 8 16 12) 3 ≡ Ok (Some 32) = field_in whole 8 inner 16 12 3 8 here (omega arith) (omega arith) (omega arith) refl in
     let version : signed_at w16 whole 40 ≡ Ok (pos 4) = i16_in whole 0 all 40 40 (pos 4) h (omega arith) refl (omega (arith, ints)) refl in
-    let tag : number_at w8 whole 42 ≡ Ok (spec_tag_of kind) = number_in w8 whole 0 all 42 42 h (omega arith) refl in
+    let tag : number_at w8 whole 42 ≡ Ok (header_tag kind) = number_in w8 whole 0 all 42 42 h (omega arith) refl in
     let to : spec_offset_at whole 28 ≡ Ok (28 + (20 + head)) = offset_in whole 0 all 28 28 (20 + head) h (omega arith) refl (omega arith) refl in
     let header : 28 + (20 + head) ≡ 48 + head = omega arith in
     let body : signed_at w64 whole 32 ≡ Ok (pos body_length) = i64_in whole 0 all 32 32 (pos body_length) h (omega arith) refl (omega (arith, ints)) refl in

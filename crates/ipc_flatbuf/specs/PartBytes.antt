@@ -14,13 +14,13 @@ i64_bytes z = to_le_bytes w64 (cast_unsigned w64 z)
 unfoldable pub u32_bytes : ℕ → List ℕ
 u32_bytes n = to_le_bytes w32 n
 
--- n zeros, at most 8
-abbrev pub zeros : ℕ → List ℕ
-zeros n = take n (0 ∷ 0 ∷ 0 ∷ 0 ∷ 0 ∷ 0 ∷ 0 ∷ 0 ∷ [])
+-- n padding_zeros, at most 8
+abbrev pub padding_zeros : ℕ → List ℕ
+padding_zeros n = take n (0 ∷ 0 ∷ 0 ∷ 0 ∷ 0 ∷ 0 ∷ 0 ∷ 0 ∷ [])
 
--- a string, and 1 to 8 zeros up to a multiple of 8 bytes
+-- a string, and 1 to 8 padding_zeros up to a multiple of 8 bytes
 unfoldable pub string_bytes : List ℕ → List ℕ
-string_bytes text = u32_bytes (length text) ++ (text ++ zeros (8 - (length text + 4) % 8))
+string_bytes text = u32_bytes (length text) ++ (text ++ padding_zeros (8 - (length text + 4) % 8))
 
 -- the number of bytes of a vector of n offsets with its padding
 abbrev pub offsets_size : ℕ → ℕ
@@ -37,7 +37,7 @@ concatenated (body ∷ bodies) = body ++ concatenated bodies
 
 -- a vector of tables, followed by the bodies that hold them
 unfoldable pub table_vector_bytes : ℕ → List (List ℕ) → List ℕ
-table_vector_bytes head bodies = u32_bytes (length bodies) ++ (offsets head (offsets_size (length bodies) - 4) bodies ++ (zeros (offsets_size (length bodies) - (4 + 4 * length bodies)) ++ concatenated bodies))
+table_vector_bytes head bodies = u32_bytes (length bodies) ++ (offsets head (offsets_size (length bodies) - 4) bodies ++ (padding_zeros (offsets_size (length bodies) - (4 + 4 * length bodies)) ++ concatenated bodies))
 
 -- a vector of structs, inline
 unfoldable pub vector_bytes : {A : Type 0} → (A → List ℕ) → List A → List ℕ

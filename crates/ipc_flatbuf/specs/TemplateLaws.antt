@@ -8,7 +8,7 @@ use Rattle.std.proofs.lemmas.Int.{ints, to_z-of_z}
 use Rattle.std.proofs.lemmas.List.{length-append, length-take}
 use Rattle.std.proofs.lemmas.Nat.{from_le_bytes-to_le_bytes_2, from_le_bytes-to_le_bytes_4, from_le_bytes-to_le_bytes_8}
 use Rattle.ipc_flatbuf.specs.declared.tables.FlatbufferTable.{FlatbufferTable}
-use Rattle.ipc_flatbuf.specs.PartBytes.{u32_bytes, zeros, string_bytes}
+use Rattle.ipc_flatbuf.specs.PartBytes.{u32_bytes, padding_zeros, string_bytes}
 use Rattle.ipc_flatbuf.specs.Flatbuffers.{number_at, signed_at, spec_offset_at, spec_field_position, spec_table_at, spec_read_table, spec_read_string}
 use Rattle.ipc_flatbuf.specs.FlatbufferLaws.{From, From-length, From_more, number_in, offset_is, table_is, visit_is, field_is, field_is_zero, string_is}
 
@@ -83,13 +83,13 @@ field_out whole position part s size id h long within is =
 -- a string round-trips
 pub string_long : (text : List ℕ) → 5 + length text ≤ length (string_bytes text)
 unfolding string_bytes u32_bytes
-string_long text = omega (arith, length-append text (zeros (8 - (length text + 4) % 8)), length-take {A = ℕ} (8 - (length text + 4) % 8) (0 ∷ 0 ∷ 0 ∷ 0 ∷ 0 ∷ 0 ∷ 0 ∷ 0 ∷ []))
+string_long text = omega (arith, length-append text (padding_zeros (8 - (length text + 4) % 8)), length-take {A = ℕ} (8 - (length text + 4) % 8) (0 ∷ 0 ∷ 0 ∷ 0 ∷ 0 ∷ 0 ∷ 0 ∷ 0 ∷ []))
 
 pub string_round_trips : (text whole : List ℕ) (p left : ℕ) (after : List ℕ) → is_utf8 text ≡ true → From whole p (string_bytes text ++ after) → length whole < 2 ^ 32 → 4 + length text ≤ left → spec_read_string whole p left ≡ Ok (text, left - (4 + length text))
 unfolding string_bytes u32_bytes
 string_round_trips text whole p left after utf8 h small le =
     let part : List ℕ = string_bytes text ++ after in
-    let gap : List ℕ = zeros (8 - (length text + 4) % 8) in
+    let gap : List ℕ = padding_zeros (8 - (length text + 4) % 8) in
     let long : 4 + length text ≤ length part = omega (arith, string_long text, length-append (string_bytes text) after) in
     let ends = From-length whole p part h in
     let count : number_at w32 whole p ≡ Ok (length text) = u32_in whole p part 0 p (length text) h (omega arith) (omega arith) (omega arith) refl in

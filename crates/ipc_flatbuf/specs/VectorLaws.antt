@@ -8,7 +8,7 @@ use Rattle.std.proofs.lemmas.List.Concat.{flat_map-cons}
 use Rattle.std.proofs.lemmas.Nat.{from_le_bytes-to_le_bytes_4}
 use Rattle.ipc_flatbuf.specs.declared.error.IpcReadError.{IpcReadError}
 use Rattle.ipc_flatbuf.specs.Flatbuffers.{number_at, spec_offset_at, spec_read_vector, tables_at, structs_at, spec_items_at, vector_at}
-use Rattle.ipc_flatbuf.specs.PartBytes.{u32_bytes, zeros, offsets_size, offsets, concatenated, table_vector_bytes, vector_bytes}
+use Rattle.ipc_flatbuf.specs.PartBytes.{u32_bytes, padding_zeros, offsets_size, offsets, concatenated, table_vector_bytes, vector_bytes}
 use Rattle.ipc_flatbuf.specs.FlatbufferLaws.{From, From-length, From_next, number_is, offset_is, vector_is}
 use Rattle.ipc_flatbuf.specs.TemplateLaws.{From_at}
 
@@ -56,7 +56,7 @@ tables_round_trip {A} read head (body ∷ bodies) (x ∷ xs) cost whole p q d le
     let spent : left - first - others ≡ left - cost = omega arith in
     rw (o, r, rest, spent) refl
 
-pub zeros_long : (n : ℕ) → n ≤ 8 → length (zeros n) ≡ n
+pub zeros_long : (n : ℕ) → n ≤ 8 → length (padding_zeros n) ≡ n
 zeros_long n le = omega (arith, length-take {A = ℕ} n (0 ∷ 0 ∷ 0 ∷ 0 ∷ 0 ∷ 0 ∷ 0 ∷ 0 ∷ []))
 
 -- the vector of tables at a position: its count, and the values of the tables
@@ -68,7 +68,7 @@ pub table_vector_long : (head : ℕ) (bodies : List (List ℕ)) → 4 + 4 * leng
 unfolding table_vector_bytes u32_bytes
 table_vector_long head bodies =
     let n : ℕ = length bodies in
-    let gap : List ℕ = zeros (offsets_size n - (4 + 4 * n)) in
+    let gap : List ℕ = padding_zeros (offsets_size n - (4 + 4 * n)) in
     omega (arith, offsets_long head (offsets_size n - 4) bodies, length-append (offsets head (offsets_size n - 4) bodies) (gap ++ concatenated bodies))
 
 pub table_vector_round_trips : {A : Type 0} (read : List ℕ → ℕ → ℕ → Result (A × ℕ) IpcReadError) (head : ℕ) (bodies : List (List ℕ)) (xs : List A) (cost : ℕ) (whole : List ℕ) (p left : ℕ) (after : List ℕ) → EachReadsBackAs read head bodies xs cost
@@ -77,7 +77,7 @@ unfolding table_vector_bytes u32_bytes
 table_vector_round_trips {A} read head bodies xs cost whole p left after are h small le =
     let n : ℕ = length bodies in
     let d : ℕ = offsets_size n - 4 in
-    let gap : List ℕ = zeros (offsets_size n - (4 + 4 * n)) in
+    let gap : List ℕ = padding_zeros (offsets_size n - (4 + 4 * n)) in
     let part : List ℕ = table_vector_bytes head bodies ++ after in
     let row : length (offsets head d bodies) ≡ 4 * n = offsets_long head d bodies in
     let gap_len : length gap ≡ offsets_size n - (4 + 4 * n) = zeros_long (offsets_size n - (4 + 4 * n)) (omega arith) in
@@ -98,7 +98,7 @@ pub table_vector_is_long : (head : ℕ) (bodies : List (List ℕ)) → 4 + 4 * l
 unfolding table_vector_bytes u32_bytes
 table_vector_is_long head bodies =
     let n : ℕ = length bodies in
-    let gap : List ℕ = zeros (offsets_size n - (4 + 4 * n)) in
+    let gap : List ℕ = padding_zeros (offsets_size n - (4 + 4 * n)) in
     omega (arith, offsets_long head (offsets_size n - 4) bodies, length-append (offsets head (offsets_size n - 4) bodies) (gap ++ concatenated bodies), length-append gap (concatenated bodies))
 
 -- ---- structs

@@ -1,6 +1,6 @@
 //! Writers of the parts of flatbuffers.
 ghost use Rattle.std.specs.Prelude.{◌≡◌, ◌<◌, ◌≤◌, ◌^◌, ◌+◌, ◌*◌, ◌++◌, length, OnOk, IfErr, true};
-ghost use Rattle.ipc_flatbuf.specs.PartBytes.{i32_bytes, i64_bytes, u32_bytes, zeros, string_bytes, offsets_size, offsets, concatenated, table_vector_bytes, bytes_of_each};
+ghost use Rattle.ipc_flatbuf.specs.PartBytes.{i32_bytes, i64_bytes, u32_bytes, padding_zeros, string_bytes, offsets_size, offsets, concatenated, table_vector_bytes, bytes_of_each};
 ghost use Rattle.std.specs.Str.{is_utf8};
 ghost use Rattle.ipc_flatbuf.specs.WriteErrors.{IsSizeError};
 
@@ -34,7 +34,7 @@ pub fn write_u32(out: &mut Vec<u8>, n: u32) -> Result<(), AllocError>
 /// Appends up to 8 zero bytes.
 pub fn write_zeros(out: &mut Vec<u8>, count: usize) -> Result<(), AllocError>
     requires { count < 9 }
-    ensures { OnOk result (out.new.items ≡ out.old.items ++ zeros count) }
+    ensures { OnOk result (out.new.items ≡ out.old.items ++ padding_zeros count) }
 {
     let eight = [0u8, 0, 0, 0, 0, 0, 0, 0];
     out.extend_from_slice(&eight[..count])

@@ -12,7 +12,7 @@ use Rattle.ipc_schema.specs.FooterBytes.{file_head}
 use Rattle.ipc_schema.specs.FooterLaws.{FooterRoundTrips, projected_footer_of_all}
 use Rattle.ipc_schema.specs.ProjectedFooters.{projected_footer_in}
 use Rattle.ipc.specs.DictionaryEntries.{DictionaryEntries}
-use Rattle.ipc.specs.Streams.{RecordBatchTree, StateTree, types_of}
+use Rattle.ipc.specs.Streams.{RecordBatchTree, StateTree, column_types}
 use Rattle.ipc.specs.Files.{file_in}
 use Rattle.ipc.specs.FileLaws as files
 use Rattle.ipc.specs.FileLaws.{written_inside, file_round_trips}
@@ -24,7 +24,7 @@ use Rattle.ipc_io.specs.declared.error.WriteError as errors
 use Rattle.ipc_io.specs.declared.error.WriteError.TheVariants.{Ipc, Failed}
 use Rattle.ipc_io.specs.Writers.{WriterTree, StartsWriting, IsIo, WritesBytes, FinishesWriting}
 use Rattle.ipc_io.specs.WriterLaws.{HasPut, begun_bytes, has_begun, has_more, has_ended, has_beginning, went_out, failed_stays}
-use Rattle.ipc_io.specs.FileWriters.{FileWriterTree, file_state_so_far, header_bytes, footer_with, footer_of, trailer_bytes, batch_blocks, placed_error, trailer_error, RecordsBlocks, RecordsState}
+use Rattle.ipc_io.specs.FileWriters.{FileWriterTree, file_state_so_far, header_bytes, footer_over, footer_of, trailer_bytes, batch_blocks, placed_error, trailer_error, RecordsBlocks, RecordsState}
 
 file_parts : (s : SchemaModel) (bs : List RecordBatchTree) → begun_bytes file_dictionary_batches (header_bytes s) bs ++ trailer_bytes (written_footer s bs) ≡ encoded_file s bs
 unfolding encoded_file encoded_messages
@@ -39,14 +39,14 @@ alone old new bytes none put = one new (subst (λ (x : Option (List ℕ)). Appen
     one (Some xs) h = ap Some h
 
 -- a record batch that can be written at a position can be written in a file
-block_taken : (position : ℕ) (s : SchemaModel) (f : FileState) (b : RecordBatchTree) → placed_error position (types_of s) f b ≡ None → file_batch_error (types_of s) f b ≡ None
-block_taken position s f b none = first_accepts (file_batch_error (types_of s) f b) (size_error_if (nat_le (2 ^ 63) (position + length (encoded_batch file_dictionary_batches f.emitted b)))) none
+block_taken : (position : ℕ) (s : SchemaModel) (f : FileState) (b : RecordBatchTree) → placed_error position (column_types s) f b ≡ None → file_batch_error (column_types s) f b ≡ None
+block_taken position s f b none = first_accepts (file_batch_error (column_types s) f b) (size_error_if (nat_le (2 ^ 63) (position + length (encoded_batch file_dictionary_batches f.emitted b)))) none
 
 module _ {W : Type 0} (contents : W → Option (List ℕ)) where
   -- this record batch was written, after its dictionary batches
   abbrev pub WritesFileBatch : RecordBatchTree → FileWriterTree W → FileWriterTree W → Type 0
   WritesFileBatch b old new =
-      WritesBytes contents (placed_error old.position (types_of old.stream.schema) (file_state_so_far old) b) (encoded_batch file_dictionary_batches old.stream.emitted b) (emitted_after old.stream.emitted b) old.stream new.stream (Ok tt)
+      WritesBytes contents (placed_error old.position (column_types old.stream.schema) (file_state_so_far old) b) (encoded_batch file_dictionary_batches old.stream.emitted b) (emitted_after old.stream.emitted b) old.stream new.stream (Ok tt)
       × RecordsBlocks (batch_blocks old.position old.stream.emitted b) (length (encoded_batch file_dictionary_batches old.stream.emitted b)) old new (Ok tt)
       × RecordsState (file_state_after (file_state_so_far old) b).state old new (Ok tt)
       × BatchRoundTrips (file_dictionary_batches old.stream.emitted b) b
@@ -106,7 +106,7 @@ module _ {W : Type 0} (contents : W → Option (List ℕ)) where
     position : w.position ≡ length (header_bytes s) + length (encoded_batches file_dictionary_batches [] bs)
     known : file_state_so_far w ≡ file_state_end s bs
     again : BatchesRoundTrip file_dictionary_batches [] bs
-    form : file_batches_error (types_of s) (file_state_start s) bs ≡ None
+    form : file_batches_error (column_types s) (file_state_start s) bs ≡ None
 
   lies_first : (s : SchemaModel) (bs : List RecordBatchTree) (start : W) (last : FileWriterTree W) (run : HasStarted s bs start last) → Lies (contents start) s [] run.first
   lies_first s bs start last run =
@@ -128,9 +128,9 @@ module _ {W : Type 0} (contents : W → Option (List ℕ)) where
       let last : emitted ≡ emitted_after_all [] bs = lies.put.emitted in
       let more : List RecordBatchTree = bs ++ b ∷ [] in
       let front : ℕ = length (header_bytes s) in
-      let reason : Option write_errors.IpcWriteError = placed_error old.position (types_of old.stream.schema) (file_state_so_far old) b in
-      let taken : file_batch_error (types_of s) (file_state_so_far old) b ≡ None =
-      subst (λ (x : SchemaModel). file_batch_error (types_of x) (file_state_so_far old) b ≡ None) lies.put.schema (block_taken old.position old.stream.schema (file_state_so_far old) b put.1) in
+      let reason : Option write_errors.IpcWriteError = placed_error old.position (column_types old.stream.schema) (file_state_so_far old) b in
+      let taken : file_batch_error (column_types s) (file_state_so_far old) b ≡ None =
+      subst (λ (x : SchemaModel). file_batch_error (column_types x) (file_state_so_far old) b ≡ None) lies.put.schema (block_taken old.position old.stream.schema (file_state_so_far old) b put.1) in
       let bytes : encoded_batches file_dictionary_batches [] more ≡ encoded_batches file_dictionary_batches [] bs ++ encoded_batch file_dictionary_batches emitted b = sym (bytes_push file_dictionary_batches [] (encoded_batches file_dictionary_batches [] bs) (encoded_batches file_dictionary_batches [] bs ++ encoded_batch file_dictionary_batches emitted b) [] emitted bs more b refl last refl refl) in
       let long : length (encoded_batches file_dictionary_batches [] more) ≡ length (encoded_batches file_dictionary_batches [] bs) + length (encoded_batch file_dictionary_batches emitted b) = ap length bytes ∙ length-append (encoded_batches file_dictionary_batches [] bs) (encoded_batch file_dictionary_batches emitted b) in
       let now : new.stream.emitted ≡ emitted_after emitted b = ap (λ (x : WriterTree W). x.emitted) put.3 in
@@ -141,7 +141,7 @@ module _ {W : Type 0} (contents : W → Option (List ℕ)) where
         position = omega (arith, noted.1, lies.position, long);
         known = after_more file_state_after (file_state_start s) (file_state_so_far old) (file_state_so_far new) bs more b refl lies.known known;
         again = again_more file_dictionary_batches [] emitted bs more b refl last lies.again wrote.3;
-        form = from_more file_state_after (file_batch_error (types_of s)) (file_state_start s) (file_state_so_far old) bs more b refl lies.known lies.form taken;
+        form = from_more file_state_after (file_batch_error (column_types s)) (file_state_start s) (file_state_so_far old) bs more b refl lies.known lies.form taken;
       }
 
   lies_all : (start : Option (List ℕ)) (s : SchemaModel) (done bs : List RecordBatchTree) (old new : FileWriterTree W) → Lies start s done old → WritesFileBatches bs old new → Lies start s (done ++ bs) new
@@ -160,7 +160,7 @@ module _ {W : Type 0} (contents : W → Option (List ℕ)) where
   footer_is s bs start last run =
       let lies = lies_in s bs start last run in
       let blocks : last.blocks ≡ written_blocks s bs = lies.blocks ∙ ap (λ (n : ℕ). blocks_from n [] bs) (length-append file_head (schema_message s)) in
-      ap (λ (x : SchemaModel). footer_with x last.blocks) lies.put.schema ∙ ap (footer_with s) blocks
+      ap (λ (x : SchemaModel). footer_over x last.blocks) lies.put.schema ∙ ap (footer_over s) blocks
 
   -- ---- the file
 
@@ -208,7 +208,7 @@ module _ {W : Type 0} (contents : W → Option (List ℕ)) where
   pub file_form : (s : SchemaModel) (bs : List RecordBatchTree) (start end : W) → IsFinishedFile s bs start end → file_error s bs ≡ None
   file_form s bs start end done =
       let schema : schema_error s ≡ None = done.run.begun.0 in
-      let batches : file_batches_error (types_of s) (file_state_start s) bs ≡ None = (lies_in s bs start done.last done.run).form in
+      let batches : file_batches_error (column_types s) (file_state_start s) bs ≡ None = (lies_in s bs start done.last done.run).form in
       let footer : footer_error (written_footer s bs) ≡ None = sym (end_is s bs start done.last done.run) ∙ done.ended.1 in
       rw (schema, batches) footer
 

@@ -12,7 +12,7 @@ use Rattle.ipc_schema.specs.Footers.{FooterModel}
 use Rattle.ipc_schema.specs.FooterBytes.{file_head, file_end}
 use Rattle.ipc.specs.DictionaryEntries.{DictionaryEntries}
 use Rattle.ipc.specs.SliceStreamReaders.{coded_state}
-use Rattle.ipc.specs.Streams.{RecordBatchTree, StateTree, types_of}
+use Rattle.ipc.specs.Streams.{RecordBatchTree, StateTree, column_types}
 use Rattle.ipc.specs.EncodedStreams.{emitted_after, encoded_batch, or_error, error_of, size_error_if}
 use Rattle.ipc.specs.Files.{coded_block}
 use Rattle.ipc.specs.EncodedFiles.{Blocks, FileState, file_state, file_dictionary_batches, written_block, dictionary_blocks, batch_offset, file_batch_error, footer_error}
@@ -46,12 +46,12 @@ abbrev pub header_bytes : SchemaModel → List ℕ
 header_bytes s = file_head ++ schema_message s
 
 -- the footer of a schema and these blocks
-abbrev pub footer_with : SchemaModel → Blocks → FooterModel
-footer_with s blocks = record { schema = s; dictionaries = blocks.dictionaries; batches = blocks.batches }
+abbrev pub footer_over : SchemaModel → Blocks → FooterModel
+footer_over s blocks = record { schema = s; dictionaries = blocks.dictionaries; batches = blocks.batches }
 
 -- the footer of what was written
 abbrev pub footer_of : {W : Type 0} → FileWriterTree W → FooterModel
-footer_of w = footer_with w.stream.schema w.blocks
+footer_of w = footer_over w.stream.schema w.blocks
 
 -- the bytes after the batches: the end-of-stream marker, the footer with its length and the magic bytes
 abbrev pub trailer_bytes : FooterModel → List ℕ
@@ -121,5 +121,5 @@ RecordsBatchBlocks b old new result = RecordsBlocks (batch_blocks old.position o
 -- what `write` leaves: the dictionary batches and the record batch are written, unless the batch has an error
 abbrev pub WritesFileRecordBatch : {W : Type 0} → (W → Option (List ℕ)) → RecordBatchTree → FileWriterTree W → FileWriterTree W → Result ⊤ errors.WriteError → Type 0
 WritesFileRecordBatch contents b old new result =
-    WritesBytes contents (placed_error old.position (types_of old.stream.schema) (file_state_so_far old) b) (encoded_batch file_dictionary_batches old.stream.emitted b)
+    WritesBytes contents (placed_error old.position (column_types old.stream.schema) (file_state_so_far old) b) (encoded_batch file_dictionary_batches old.stream.emitted b)
     (emitted_after old.stream.emitted b) old.stream new.stream result

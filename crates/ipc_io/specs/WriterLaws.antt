@@ -9,7 +9,7 @@ use Rattle.ipc_schema.specs.Schemas.{SchemaModel}
 use Rattle.ipc_schema.specs.SchemaBytes.{schema_message}
 use Rattle.ipc.specs.DictionaryEntries.{DictionaryEntries}
 use Rattle.ipc.specs.FileDictionaries.{DictionaryBatchTree}
-use Rattle.ipc.specs.Streams.{RecordBatchTree, types_of, stream_in}
+use Rattle.ipc.specs.Streams.{RecordBatchTree, column_types, stream_in}
 use Rattle.ipc.specs.EncodedStreams.{emitted_after, stream_dictionary_batches, encoded_batch, encoded_batches, encoded_messages, encoded_stream, batch_error, batches_error, schema_error, decoded_batches, decoded_stream, BatchRoundTrips, BatchesRoundTrip, AreSameBatches}
 use Rattle.ipc.specs.EncodedStreamLaws.{stream_round_trips, same_batches}
 use Rattle.ipc.specs.EncodedBatches.{emitted_after_all, after_more, from_more, again_more, bytes_push, none_written, fields_formed}
@@ -104,7 +104,7 @@ module _ {W : Type 0} (contents : W → Option (List ℕ)) where
 
   -- this record batch was written, after its pending dictionaries
   abbrev pub WritesBatch : RecordBatchTree → WriterTree W → WriterTree W → Type 0
-  WritesBatch b old new = WritesBytes contents (batch_error (types_of old.schema) old.emitted b) (encoded_batch stream_dictionary_batches old.emitted b) (emitted_after old.emitted b) old new (Ok tt) × BatchRoundTrips (stream_dictionary_batches old.emitted b) b
+  WritesBatch b old new = WritesBytes contents (batch_error (column_types old.schema) old.emitted b) (encoded_batch stream_dictionary_batches old.emitted b) (emitted_after old.emitted b) old new (Ok tt) × BatchRoundTrips (stream_dictionary_batches old.emitted b) b
 
   -- these record batches were written in order
   abbrev pub WritesBatches : List RecordBatchTree → WriterTree W → WriterTree W → Type 0
@@ -124,7 +124,7 @@ module _ {W : Type 0} (contents : W → Option (List ℕ)) where
   record HasTaken (start : Option (List ℕ)) (s : SchemaModel) (bs : List RecordBatchTree) (w : WriterTree W) : Type 0 where
     put : HasPut stream_dictionary_batches start (schema_message s) s bs w
     again : BatchesRoundTrip stream_dictionary_batches [] bs
-    form : batches_error (types_of s) [] bs ≡ None
+    form : batches_error (column_types s) [] bs ≡ None
 
   takes_none : (s : SchemaModel) (writer : W) (w : WriterTree W) → StartsWriting contents (schema_error s) (schema_message s) s writer (Ok w) → HasTaken (contents writer) s [] w
   takes_none s writer w begun = record { put = has_begun stream_dictionary_batches (schema_error s) (schema_message s) s writer w begun; again = tt; form = refl }
@@ -132,11 +132,11 @@ module _ {W : Type 0} (contents : W → Option (List ℕ)) where
   takes_more : (start : Option (List ℕ)) (s : SchemaModel) (bs : List RecordBatchTree) (b : RecordBatchTree) (old new : WriterTree W) → HasTaken start s bs old → WritesBatch b old new → HasTaken start s (bs ++ b ∷ []) new
   takes_more start s bs b old new has one =
       let put = has.put in
-      let form : batch_error (types_of s) old.emitted b ≡ None = subst (λ (x : SchemaModel). batch_error (types_of x) old.emitted b ≡ None) put.schema one.0.1 in
+      let form : batch_error (column_types s) old.emitted b ≡ None = subst (λ (x : SchemaModel). batch_error (column_types x) old.emitted b ≡ None) put.schema one.0.1 in
       record {
-        put = has_more stream_dictionary_batches start (schema_message s) s bs b (batch_error (types_of old.schema) old.emitted b) old new put one.0;
+        put = has_more stream_dictionary_batches start (schema_message s) s bs b (batch_error (column_types old.schema) old.emitted b) old new put one.0;
         again = again_more stream_dictionary_batches [] old.emitted bs (bs ++ b ∷ []) b refl put.emitted has.again one.1;
-        form = from_more emitted_after (batch_error (types_of s)) [] old.emitted bs (bs ++ b ∷ []) b refl put.emitted has.form form;
+        form = from_more emitted_after (batch_error (column_types s)) [] old.emitted bs (bs ++ b ∷ []) b refl put.emitted has.form form;
       }
 
   takes_all : (start : Option (List ℕ)) (s : SchemaModel) (done bs : List RecordBatchTree) (old new : WriterTree W) → HasTaken start s done old → WritesBatches bs old new → HasTaken start s (done ++ bs) new

@@ -9,7 +9,7 @@ use Rattle.ipc_schema.specs.SchemaLaws.{with_dictionary_ids}
 use Rattle.ipc.specs.DictionaryEntries.{DictionaryEntries}
 use Rattle.ipc.specs.SliceStreamReaders.{coded_schema, coded_known}
 use Rattle.ipc.specs.EncodedStreams.{IsErrorOrMemory, batch_error, emitted_after, encoded_batch, stream_dictionary_batches}
-use Rattle.ipc.specs.Streams.{RecordBatchTree, types_of}
+use Rattle.ipc.specs.Streams.{RecordBatchTree, column_types}
 use Rattle.ipc_io.specs.declared.error.WriteError as errors
 use Rattle.ipc_io.specs.declared.error.WriteError.TheVariants.{Ipc, Io, Failed}
 use Rattle.ipc_io.specs.Writes.{WritesPrefix}
@@ -71,4 +71,4 @@ module _ {W : Type 0} (contents : W → Option (List ℕ)) where
   -- what `write` leaves: the dictionary batches and the record batch are written, unless the batch has an error
   abbrev pub WritesRecordBatch : RecordBatchTree → WriterTree W → WriterTree W → Result ⊤ errors.WriteError → Type 0
   WritesRecordBatch b old new result =
-      WritesBytes (batch_error (types_of old.schema) old.emitted b) (encoded_batch stream_dictionary_batches old.emitted b) (emitted_after old.emitted b) old new result
+      WritesBytes (batch_error (column_types old.schema) old.emitted b) (encoded_batch stream_dictionary_batches old.emitted b) (emitted_after old.emitted b) old new result

@@ -6,12 +6,12 @@ ghost use Rattle.ipc_schema.specs.Schemas.{schema_of};
 ghost use Rattle.ipc_schema.specs.FooterBytes.{file_head};
 ghost use Rattle.ipc_schema.specs.FooterLaws.{FooterRoundTrips};
 ghost use Rattle.ipc.specs.PendingDictionaries.{with_entries};
-ghost use Rattle.ipc.specs.EntriesOf.{entry_of, entries_of};
-ghost use Rattle.ipc.specs.Streams.{record_batch_of, restored, state_of, types_of};
+ghost use Rattle.ipc.specs.EntriesOf.{entry_of, dictionary_entries_of};
+ghost use Rattle.ipc.specs.Streams.{record_batch_of, restored, state_of, column_types};
 ghost use Rattle.ipc.specs.EncodedStreams.{pending_by, encoded_batch, schema_error, IsErrorOrMemory, BatchRoundTrips};
-ghost use Rattle.ipc.specs.EncodedFiles.{no_blocks, blocks_of, file_state, file_state_after, file_state_start, file_dictionary_batches};
+ghost use Rattle.ipc.specs.EncodedFiles.{no_blocks, file_blocks_of, file_state, file_state_after, file_state_start, file_dictionary_batches};
 ghost use Rattle.ipc_io.specs.Writers.{StartsWriting, FinishesWriting, WritesBytes};
-ghost use Rattle.ipc_io.specs.FileWriters.{file_state_so_far, header_bytes, footer_with, footer_of, trailer_bytes, batch_blocks, shifted_block, shifted_blocks, IsShiftable, KeepsOrUndoes, placed_error, trailer_error, as_stream, RecordsBlocks, RecordsBatchBlocks, RecordsState, WritesFileRecordBatch};
+ghost use Rattle.ipc_io.specs.FileWriters.{file_state_so_far, header_bytes, footer_over, footer_of, trailer_bytes, batch_blocks, shifted_block, shifted_blocks, IsShiftable, KeepsOrUndoes, placed_error, trailer_error, as_stream, RecordsBlocks, RecordsBatchBlocks, RecordsState, WritesFileRecordBatch};
 
 use crate::error::WriteError;
 use crate::stream_writer::{StreamWriter, message_of};
@@ -43,14 +43,14 @@ pub struct FileWriter<W> {
 
 impl<W> Model for FileWriter<W> {
     ghost use Rattle.ipc.specs.Streams.{state_of};
-    ghost use Rattle.ipc.specs.EncodedFiles.{blocks_of};
+    ghost use Rattle.ipc.specs.EncodedFiles.{file_blocks_of};
     ghost use Rattle.ipc_io.specs.FileWriters.{FileWriterTree, coded_file_writer};
 
     ghost Value = { FileWriterTree W };
 
     ghost coded = { coded_file_writer W.code };
 
-    ghost view = { λ w. record { stream = w.stream; blocks = blocks_of w.blocks; position = w.position; known = state_of w.known } };
+    ghost view = { λ w. record { stream = w.stream; blocks = file_blocks_of w.blocks; position = w.position; known = state_of w.known } };
 }
 
 // The bytes before the batches, a clone of the schema, and the state of a reader after these bytes.
@@ -124,9 +124,9 @@ fn shift_all_blocks(
     position: u64,
     blocks: &FileBlocks,
 ) -> Result<FileBlocks, AllocError>
-    requires dictionaries { AllByRecursion (IsShiftable position) (blocks_of blocks.now).dictionaries }
-    requires batches { AllByRecursion (IsShiftable position) (blocks_of blocks.now).batches }
-    ensures { IfOk result (λ all. blocks_of all ≡ shifted_blocks position (blocks_of blocks.now)) }
+    requires dictionaries { AllByRecursion (IsShiftable position) (file_blocks_of blocks.now).dictionaries }
+    requires batches { AllByRecursion (IsShiftable position) (file_blocks_of blocks.now).batches }
+    ensures { IfOk result (λ all. file_blocks_of all ≡ shifted_blocks position (file_blocks_of blocks.now)) }
 {
     let dictionaries = shift_blocks(alloc, position, &blocks.dictionaries)?;
     let batches = shift_blocks(alloc, position, &blocks.batches)?;
@@ -145,16 +145,16 @@ fn encode_batch_at<'a>(
     known: &mut DictionaryState,
     batch: &'a Batch,
 ) -> Result<EncodedBatch<'a>, IpcWriteError>
-    ensures bytes { IfOk result (λ encoded. encoded.bytes.items ≡ encoded_batch file_dictionary_batches (entries_of emitted.now.entries) (record_batch_of batch.now)) }
-    ensures blocks { IfOk result (λ encoded. blocks_of encoded.blocks ≡ batch_blocks position (entries_of emitted.now.entries) (record_batch_of batch.now)) }
-    ensures pending { IfOk result (λ encoded. map entry_of encoded.pending.items ≡ pending_by (entries_of emitted.now.entries) (record_batch_of batch.now)) }
+    ensures bytes { IfOk result (λ encoded. encoded.bytes.items ≡ encoded_batch file_dictionary_batches (dictionary_entries_of emitted.now.entries) (record_batch_of batch.now)) }
+    ensures blocks { IfOk result (λ encoded. file_blocks_of encoded.blocks ≡ batch_blocks position (dictionary_entries_of emitted.now.entries) (record_batch_of batch.now)) }
+    ensures pending { IfOk result (λ encoded. map entry_of encoded.pending.items ≡ pending_by (dictionary_entries_of emitted.now.entries) (record_batch_of batch.now)) }
     ensures small { IfOk result (λ encoded. position + length encoded.bytes.items < 2 ^ 63) }
     ensures picked { known.new.picked ≡ known.old.picked }
     ensures undo { MatchResult result (λ encoded. restored encoded.before (state_of known.new) ≡ state_of known.old) (λ _. state_of known.new ≡ state_of known.old) }
-    ensures known { OnOk result (state_of known.new ≡ (file_state_after (file_state (entries_of emitted.now.entries) (state_of known.old)) (record_batch_of batch.now)).state) }
-    ensures again { OnOk result (BatchRoundTrips (file_dictionary_batches (entries_of emitted.now.entries) (record_batch_of batch.now)) (record_batch_of batch.now)) }
-    ensures form { OnOk result (placed_error position (types_of (schema_of schema.now)) (file_state (entries_of emitted.now.entries) (state_of known.old)) (record_batch_of batch.now) ≡ None) }
-    ensures err { IfErr result (IsErrorOrMemory (placed_error position (types_of (schema_of schema.now)) (file_state (entries_of emitted.now.entries) (state_of known.old)) (record_batch_of batch.now))) }
+    ensures known { OnOk result (state_of known.new ≡ (file_state_after (file_state (dictionary_entries_of emitted.now.entries) (state_of known.old)) (record_batch_of batch.now)).state) }
+    ensures again { OnOk result (BatchRoundTrips (file_dictionary_batches (dictionary_entries_of emitted.now.entries) (record_batch_of batch.now)) (record_batch_of batch.now)) }
+    ensures form { OnOk result (placed_error position (column_types (schema_of schema.now)) (file_state (dictionary_entries_of emitted.now.entries) (state_of known.old)) (record_batch_of batch.now) ≡ None) }
+    ensures err { IfErr result (IsErrorOrMemory (placed_error position (column_types (schema_of schema.now)) (file_state (dictionary_entries_of emitted.now.entries) (state_of known.old)) (record_batch_of batch.now))) }
 {
     let mut bytes = Vec::new(alloc);
     let mut blocks = FileBlocks::new(alloc);
@@ -190,10 +190,10 @@ fn encode_batch_at<'a>(
 
 // Returns the bytes after the batches: the end-of-stream marker and the footer.
 fn trailer_of(alloc: Global, schema: &Schema, blocks: &FileBlocks) -> Result<Vec<u8>, IpcWriteError>
-    ensures bytes { IfOk result (λ out. out.items ≡ trailer_bytes (footer_with (schema_of schema.now) (blocks_of blocks.now))) }
-    ensures again { OnOk result (FooterRoundTrips (footer_with (schema_of schema.now) (blocks_of blocks.now))) }
-    ensures form { OnOk result (trailer_error (footer_with (schema_of schema.now) (blocks_of blocks.now)) ≡ None) }
-    ensures err { IfErr result (IsErrorOrMemory (trailer_error (footer_with (schema_of schema.now) (blocks_of blocks.now)))) }
+    ensures bytes { IfOk result (λ out. out.items ≡ trailer_bytes (footer_over (schema_of schema.now) (file_blocks_of blocks.now))) }
+    ensures again { OnOk result (FooterRoundTrips (footer_over (schema_of schema.now) (file_blocks_of blocks.now))) }
+    ensures form { OnOk result (trailer_error (footer_over (schema_of schema.now) (file_blocks_of blocks.now)) ≡ None) }
+    ensures err { IfErr result (IsErrorOrMemory (trailer_error (footer_over (schema_of schema.now) (file_blocks_of blocks.now)))) }
 {
     let mut out = Vec::new(alloc);
     out.extend_from_slice(&[255, 255, 255, 255, 0, 0, 0, 0])?;
@@ -276,7 +276,7 @@ impl<W: Write + Drop> FileWriter<W> {
         requires whole { self.old.stream.failed ≡ false }
         requires small { self.old.position + length encoded.now.bytes.items < 2 ^ 63 }
         ensures put { WritesBytes W.contents None encoded.now.bytes.items (with_entries self.old.stream.emitted (map entry_of encoded.now.pending.items)) self.old.stream self.new.stream result }
-        ensures noted { RecordsBlocks (blocks_of encoded.now.blocks) (length encoded.now.bytes.items) self.old self.new result }
+        ensures noted { RecordsBlocks (file_blocks_of encoded.now.blocks) (length encoded.now.bytes.items) self.old self.new result }
         ensures known { self.new.known ≡ self.old.known }
     {
         let dictionaries = &encoded.blocks.dictionaries;
@@ -297,7 +297,7 @@ impl<W: Write + Drop> FileWriter<W> {
         requires small { self.old.position + length encoded.bytes.items < 2 ^ 63 }
         ensures put { let e = encoded.entry in
             WritesBytes W.contents None e.bytes.items (with_entries self.old.stream.emitted (map entry_of e.pending.items)) self.old.stream self.new.stream result }
-        ensures noted { RecordsBlocks (blocks_of encoded.entry.blocks) (length encoded.entry.bytes.items) self.old self.new result }
+        ensures noted { RecordsBlocks (file_blocks_of encoded.entry.blocks) (length encoded.entry.bytes.items) self.old self.new result }
         ensures known { KeepsOrUndoes (restored encoded.entry.before self.old.known) self.old.known self.new.known result }
     {
         match self.put(alloc, &encoded) {

@@ -9,11 +9,11 @@ use Rattle.ipc_flatbuf.specs.ReadResults.{◌>>=◌, FailsOrRunsOut}
 use Rattle.ipc_flatbuf.specs.Flatbuffers.{spec_offset_at}
 use Rattle.ipc_schema.specs.Dictionaries.{Progress}
 use Rattle.ipc_schema.specs.Projections.{ProjectionModel}
-use Rattle.ipc_schema.specs.ProjectedSchemas.{ProjectedItem, read, passed, ProjectedFields, no_fields, with_item, appended, spec_item_at, spec_projected_fields_at}
+use Rattle.ipc_schema.specs.ProjectedSchemas.{ProjectedItem, read, passed, ProjectedFields, no_fields, with_item, joined_fields, spec_item_at, spec_projected_fields_at}
 
 -- the fields so far, followed by the rest
 abbrev pub with_parts : ProjectedFields → Result (ProjectedFields × Progress) IpcReadError → Result (ProjectedFields × Progress) IpcReadError
-with_parts front rest = rest >>= λ x. Ok (appended front x.0, x.1)
+with_parts front rest = rest >>= λ x. Ok (joined_fields front x.0, x.1)
 
 -- the fields from index i
 abbrev pub picked_left : ProjectionModel → List ℕ → ℕ → ℕ → ℕ → Progress → Result (ProjectedFields × Progress) IpcReadError
@@ -25,27 +25,27 @@ parts steps fields = record { steps = steps; fields = fields }
 parts_are : (steps steps' : List FieldAction) (fields fields' : List FieldTree) → steps ≡ steps' → fields ≡ fields' → parts steps fields ≡ parts steps' fields'
 parts_are steps steps' fields fields' a b = rw (a, b) refl
 
-one_more : (p x : ProjectedFields) (item : ProjectedItem) → appended p (with_item item x) ≡ appended (appended p (with_item item no_fields)) x
+one_more : (p x : ProjectedFields) (item : ProjectedItem) → joined_fields p (with_item item x) ≡ joined_fields (joined_fields p (with_item item no_fields)) x
 one_more p x (read f) =
     parts_are (p.steps ++ Read ∷ x.steps) ((p.steps ++ Read ∷ []) ++ x.steps) (p.fields ++ f ∷ x.fields) ((p.fields ++ f ∷ []) ++ x.fields) (sym (append_assoc p.steps (Read ∷ []) x.steps)) (sym (append_assoc p.fields (f ∷ []) x.fields))
 one_more p x (passed s) =
     parts_are (p.steps ++ Skip s ∷ x.steps) ((p.steps ++ Skip s ∷ []) ++ x.steps) (p.fields ++ x.fields) ((p.fields ++ []) ++ x.fields) (sym (append_assoc p.steps (Skip s ∷ []) x.steps)) (ap (λ (fs : List FieldTree). fs ++ x.fields) (sym (append-nil p.fields)))
 
-none_more : (p : ProjectedFields) → appended p no_fields ≡ p
+none_more : (p : ProjectedFields) → joined_fields p no_fields ≡ p
 none_more p = parts_are (p.steps ++ []) p.steps (p.fields ++ []) p.fields (append-nil p.steps) (append-nil p.fields)
 
-regroup : (p : ProjectedFields) (item : ProjectedItem) (rest : Result (ProjectedFields × Progress) IpcReadError) → with_parts p (rest >>= λ x. Ok (with_item item x.0, x.1)) ≡ with_parts (appended p (with_item item no_fields)) rest
+regroup : (p : ProjectedFields) (item : ProjectedItem) (rest : Result (ProjectedFields × Progress) IpcReadError) → with_parts p (rest >>= λ x. Ok (with_item item x.0, x.1)) ≡ with_parts (joined_fields p (with_item item no_fields)) rest
 regroup p item (Ok x) = ap (λ (q : ProjectedFields). Ok (q, x.1)) (one_more p x.0 item)
 regroup p item (Err f) = refl
 
 module _ (picks : ProjectionModel) (bytes : List ℕ) (front : ProjectedFields) (count first i : ℕ) (so_far : Progress) (total : Result (ProjectedFields × Progress) IpcReadError) where
   pub pick_goes_on : (to : ℕ) (item : ProjectedItem) (after : Progress) (new : ProjectedFields) → i < count → spec_offset_at bytes (first + 4 * i) ≡ Ok to → spec_item_at picks bytes i to so_far ≡ Ok (item, after)
-      → new ≡ appended front (with_item item no_fields) → with_parts front (picked_left picks bytes count first i so_far) ≡ total → with_parts new (picked_left picks bytes count first (i + 1) after) ≡ total
+      → new ≡ joined_fields front (with_item item no_fields) → with_parts front (picked_left picks bytes count first i so_far) ≡ total → with_parts new (picked_left picks bytes count first (i + 1) after) ≡ total
   unfolding spec_projected_fields_at
   pick_goes_on to item after new lt o h e before =
       let k : count - i ≡ suc (count - (i + 1)) = omega arith in
       let p : first + 4 * i + 4 ≡ first + 4 * (i + 1) = omega arith in
-      let step : with_parts front (picked_left picks bytes count first i so_far) ≡ with_parts (appended front (with_item item no_fields)) (picked_left picks bytes count first (i + 1) after) =
+      let step : with_parts front (picked_left picks bytes count first i so_far) ≡ with_parts (joined_fields front (with_item item no_fields)) (picked_left picks bytes count first (i + 1) after) =
       rw (k, o, h, p) (regroup front item (spec_projected_fields_at picks bytes (i + 1) (count - (i + 1)) (first + 4 * (i + 1)) after)) in
       rw e (sym step ∙ before)
 

@@ -18,7 +18,7 @@ use Rattle.ipc_schema.specs.MetadataLaws.{AreUtf8, AreSorted}
 use Rattle.ipc_schema.specs.TypeLaws.{TypeFits, both}
 use Rattle.ipc_schema.specs.FieldLaws.{FieldFits, name_of, nullable_of, own_type, all_of, table_bytes, bytes_are, fits_are, count_is, field_parts_long}
 use Rattle.ipc_schema.specs.declared.dictionaries.Encoding.{Encoding}
-use Rattle.ipc_schema.specs.DictionaryIds.{keys_of, spec_encoding_of, next_after_own, total, count_dictionaries}
+use Rattle.ipc_schema.specs.DictionaryIds.{index_type_of, spec_encoding_of, next_after_own, total, count_dictionaries}
 use Rattle.ipc_schema.specs.DictionaryIdLaws.{behind_counts, behind_at_most}
 use Rattle.ipc_schema.specs.Schemas.{spec_field_over, spec_field_at}
 
@@ -74,14 +74,14 @@ count_level depth f deep =
 pub behind_level : (depth next : ℕ) (f : FieldTree) → 0 < depth → next_after_own (field_type f) next + total (count_dictionaries (depth - 1)) (spec_children_of (own_type f)) ≡ next + count_dictionaries depth f
 behind_level depth next f deep =
     let inner : ℕ = total (count_dictionaries (depth - 1)) (spec_children_of (own_type f)) in
-    behind_counts (keys_of (spec_storage_type (field_type f))) next inner ∙ ap (λ (n : ℕ). next + n) (sym (count_level depth f deep))
+    behind_counts (index_type_of (spec_storage_type (field_type f))) next inner ∙ ap (λ (n : ℕ). next + n) (sym (count_level depth f deep))
 
 pub inner_long : (depth next : ℕ) (f : FieldTree) → 0 < depth → next_after_own (field_type f) next + length (table_vector_bytes 24 (each_bytes (depth - 1) (next_after_own (field_type f) next) (spec_children_of (own_type f)))) ≤ next + length (field_bytes depth next f)
 inner_long depth next f deep =
     let dictionary : Option Encoding = spec_encoding_of next (field_type f) in
     let row : List ℕ = table_vector_bytes 24 (each_bytes (depth - 1) (next_after_own (field_type f) next) (spec_children_of (own_type f))) in
     let long = field_parts_long (nullable_of f) (spec_type_number (own_type f)) dictionary (type_bytes (own_type f)) row (string_bytes (name_of f)) (entries_bytes (all_of f)) in
-    omega (arith, ap length (bytes_level depth next f deep), long, behind_at_most (keys_of (spec_storage_type (field_type f))) next)
+    omega (arith, ap length (bytes_level depth next f deep), long, behind_at_most (index_type_of (spec_storage_type (field_type f))) next)
 
 -- ---- unions
 

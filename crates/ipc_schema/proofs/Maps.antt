@@ -17,7 +17,7 @@ use Rattle.nest_memory.specs.TypeOf.{entries_of}
 use Rattle.std.specs.List.{AllByRecursion, AllZip}
 use Rattle.std.specs.List.Sorted.{IsStrictlySortedBy}
 use Rattle.std.specs.Map.{keys_of}
-use Rattle.ipc_schema.specs.Extensions.{spec_has_key, value_at, without}
+use Rattle.ipc_schema.specs.Extensions.{spec_has_key, metadata_value, without}
 use Rattle.ipc_schema.specs.Schemas.{with_pairs}
 use Rattle.ipc_schema.specs.MetadataLaws.{AreSorted}
 
@@ -38,10 +38,10 @@ found_both f true x m n same = refl
 found_both f false x m n same = same
 
 -- the value of a key
-pub value_found : (key : Letters) (es : Texts) → value_at key (entries_of es) ≡ option_map string_bytes (lookup (is_at (text_cmp key)) es)
+pub value_found : (key : Letters) (es : Texts) → metadata_value key (entries_of es) ≡ option_map string_bytes (lookup (is_at (text_cmp key)) es)
 value_found key [] = refl
 value_found key (e ∷ es) =
-    rw (is_eq-slice_cmp key (string_bytes e.0)) (found_both string_bytes (bytes_eq key (string_bytes e.0)) e.1 (lookup (is_at (text_cmp key)) es) (value_at key (entries_of es)) (value_found key es))
+    rw (is_eq-slice_cmp key (string_bytes e.0)) (found_both string_bytes (bytes_eq key (string_bytes e.0)) e.1 (lookup (is_at (text_cmp key)) es) (metadata_value key (entries_of es)) (value_found key es))
 
 taken_both : (b : Bool) (e : String Global × String Global) (es rest : Texts) → entries_of (cond b es (e ∷ rest)) ≡ cond b (entries_of es) ((string_bytes e.0, string_bytes e.1) ∷ entries_of rest)
 taken_both true e es rest = refl

@@ -13,13 +13,13 @@ use Rattle.nest_memory.specs.declared.datatypes.IntegerType.{IntegerType}
 use Rattle.ipc_schema.specs.Dictionaries.{ValueTypeModel, DictionaryTypesModel, no_dictionaries, spec_record_id, spec_record_values, spec_with_encoding}
 use Rattle.ipc_schema.specs.Types.{spec_children_of}
 use Rattle.ipc_schema.specs.Extensions.{spec_storage_type, values_type, spec_table_type}
-use Rattle.ipc_schema.specs.DictionaryIds.{keys_of, encoding_with_id, next_after, total, each_from, count_dictionaries, count_all, spec_has_dictionary, have_dictionary, ids_from, own_value_types, flattened, value_types_from, with_ids_from, types_after_all}
+use Rattle.ipc_schema.specs.DictionaryIds.{index_type_of, encoding_with_id, next_after, total, each_from, count_dictionaries, count_all, spec_has_dictionary, have_dictionary, ids_from, own_value_types, flattened, value_types_from, with_ids_from, types_after_all}
 
 abbrev pub Keys : Type 0
 Keys = Option (IntegerType × Bool)
 
 -- the encoding and the value type give the type
-pub encoding_round_trips : (id : ℕ) (type : TypeTree) → spec_with_encoding (encoding_with_id id (keys_of type)) (values_type type) ≡ type
+pub encoding_round_trips : (id : ℕ) (type : TypeTree) → spec_with_encoding (encoding_with_id id (index_type_of type)) (values_type type) ≡ type
 encoding_round_trips id types.null = refl
 encoding_round_trips id types.boolean = refl
 encoding_round_trips id types.int8 = refl
@@ -156,7 +156,7 @@ pub named_within : (depth next : ℕ) (f : FieldTree) → AreWithin next (next +
 unfolding count_dictionaries value_types_from
 named_within zero next f = tt
 named_within (suc depth) next f =
-    let keys : Keys = keys_of (spec_storage_type (field_type f)) in
+    let keys : Keys = index_type_of (spec_storage_type (field_type f)) in
     let cs : List FieldTree = spec_children_of (spec_table_type (field_type f)) in
     let inner : ℕ = total (count_dictionaries depth) cs in
     let end : ℕ = next + next_after keys inner in
@@ -196,7 +196,7 @@ unfolding spec_has_dictionary count_dictionaries
 none_counted zero f none = refl
 none_counted (suc depth) f none =
     let cs : List FieldTree = spec_children_of (spec_table_type (field_type f)) in
-    let keys : Keys = keys_of (spec_storage_type (field_type f)) in
+    let keys : Keys = index_type_of (spec_storage_type (field_type f)) in
     let parts = or_parts (is_some keys) (list_any (spec_has_dictionary depth) cs) none in
     behind_none keys (total (count_dictionaries depth) cs) parts.0 ∙ each_none depth (none_counted depth) cs parts.1
 

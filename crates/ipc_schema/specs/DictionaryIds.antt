@@ -12,9 +12,9 @@ use Rattle.ipc_schema.specs.Extensions.{spec_storage_type, spec_table_type}
 -- ---- one field
 
 -- the type of the keys and isOrdered, where a type is dictionary-encoded
-abbrev pub keys_of : TypeTree → Option (IntegerType × Bool)
-keys_of (types.dictionary key values ordered) = Some (key, ordered)
-keys_of type = None
+abbrev pub index_type_of : TypeTree → Option (IntegerType × Bool)
+index_type_of (types.dictionary key values ordered) = Some (key, ordered)
+index_type_of type = None
 
 -- the encoding of a field with these keys and this id
 abbrev pub encoding_with_id : ℕ → Option (IntegerType × Bool) → Option Encoding
@@ -22,7 +22,7 @@ encoding_with_id id None = None
 encoding_with_id id (Some keys) = Some (record { id = pos id; key = keys.0; is_ordered = keys.1 })
 
 abbrev pub spec_encoding_of : ℕ → TypeTree → Option Encoding
-spec_encoding_of id type = encoding_with_id id (keys_of (spec_storage_type type))
+spec_encoding_of id type = encoding_with_id id (index_type_of (spec_storage_type type))
 
 -- the next id after that of a field
 abbrev pub next_after : {A : Type 0} → Option A → ℕ → ℕ
@@ -30,7 +30,7 @@ next_after None next = next
 next_after (Some x) next = suc next
 
 abbrev pub next_after_own : TypeTree → ℕ → ℕ
-next_after_own type next = next_after (keys_of (spec_storage_type type)) next
+next_after_own type next = next_after (index_type_of (spec_storage_type type)) next
 
 -- ---- lists of fields
 
@@ -57,7 +57,7 @@ count_all fields = total (count_dictionaries 64) fields
 -- whether there is one
 unfoldable pub spec_has_dictionary : ℕ → FieldTree → Bool
 spec_has_dictionary zero f = false
-spec_has_dictionary (suc depth) f = is_some (keys_of (spec_storage_type (field_type f))) || list_any (spec_has_dictionary depth) (spec_children_of (spec_table_type (field_type f)))
+spec_has_dictionary (suc depth) f = is_some (index_type_of (spec_storage_type (field_type f))) || list_any (spec_has_dictionary depth) (spec_children_of (spec_table_type (field_type f)))
 
 abbrev pub have_dictionary : List FieldTree → Bool
 have_dictionary fields = list_any (spec_has_dictionary 64) fields
@@ -82,7 +82,7 @@ flattened (xs ∷ xss) = xs ++ flattened xss
 unfoldable pub value_types_from : ℕ → ℕ → FieldTree → List (ℤ × ValueTypeModel)
 value_types_from zero next f = []
 value_types_from (suc depth) next f =
-    own_value_types (keys_of (spec_storage_type (field_type f))) next (spec_table_type (field_type f)) (total (count_dictionaries depth) (spec_children_of (spec_table_type (field_type f))))
+    own_value_types (index_type_of (spec_storage_type (field_type f))) next (spec_table_type (field_type f)) (total (count_dictionaries depth) (spec_children_of (spec_table_type (field_type f))))
     ++ flattened (each_from (count_dictionaries depth) (value_types_from depth) (next_after_own (field_type f) next) (spec_children_of (spec_table_type (field_type f))))
 
 -- the dictionaries after count more with these value types

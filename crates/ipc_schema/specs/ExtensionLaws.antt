@@ -10,14 +10,14 @@ use Rattle.std.proofs.lemmas.Map.Text.{is_eq-slice_cmp}
 use Rattle.nest_memory.specs.TypeTree as types
 use Rattle.nest_memory.specs.TypeTree.{Letters, Entries, TypeTree, field}
 use Rattle.ipc_schema.specs.Floats.{spec_is_float_name, spec_is_float}
-use Rattle.ipc_schema.specs.Extensions.{extension_name, extension_metadata, value_at, spec_has_key, without, spec_with_pair, spec_names_float, field_with_metadata, spec_storage_type, spec_is_extension, with_text, all_metadata_of}
+use Rattle.ipc_schema.specs.Extensions.{extension_name, extension_metadata, metadata_value, spec_has_key, without, spec_with_pair, spec_names_float, field_with_metadata, spec_storage_type, spec_is_extension, with_text, all_metadata_of}
 use Rattle.ipc_schema.specs.WriteChecks.{spec_has_free_name, spec_has_no_reserved_key}
 
 -- ---- a key that is absent
 
 -- no entry has the key
 abbrev pub HasNoKey : Letters → Entries → Type 0
-HasNoKey key entries = value_at key entries ≡ None
+HasNoKey key entries = metadata_value key entries ≡ None
 
 none_first : (b : Bool) (x : Letters) (rest : Option Letters) → cond b (Some x) rest ≡ None → (b ≡ false) × (rest ≡ None)
 none_first true x rest h = absurd (cc h)
@@ -30,7 +30,7 @@ module _ (key value : Letters) (same : bytes_eq key key ≡ true) where
 
   -- a pair is inserted before an entry or after it
   module _ (e : Letters × Letters) (es : Entries) (apart : bytes_eq key e.0 ≡ false) where
-    there_by : (o : Ordering) → slice_cmp nat_cmp key e.0 ≡ o → value_at key (spec_with_pair key value es) ≡ Some value → value_at key (spec_with_pair key value (e ∷ es)) ≡ Some value
+    there_by : (o : Ordering) → slice_cmp nat_cmp key e.0 ≡ o → metadata_value key (spec_with_pair key value es) ≡ Some value → metadata_value key (spec_with_pair key value (e ∷ es)) ≡ Some value
     there_by Less o rest = rw (o, same) refl
     there_by Equal o rest = absurd (cc (sym (tie Equal e.0 o) ∙ apart))
     there_by Greater o rest = rw (o, apart) rest
@@ -40,43 +40,43 @@ module _ (key value : Letters) (same : bytes_eq key key ≡ true) where
     taken_by Equal o rest = absurd (cc (sym (tie Equal e.0 o) ∙ apart))
     taken_by Greater o rest = rw (o, apart) (ap (λ (l : Entries). e ∷ l) rest)
 
-    stays_by : (other : Letters) → bytes_eq other key ≡ false → (o : Ordering) → slice_cmp nat_cmp key e.0 ≡ o → value_at other (spec_with_pair key value es) ≡ value_at other es → value_at other (spec_with_pair key value (e ∷ es)) ≡ value_at other (e ∷ es)
+    stays_by : (other : Letters) → bytes_eq other key ≡ false → (o : Ordering) → slice_cmp nat_cmp key e.0 ≡ o → metadata_value other (spec_with_pair key value es) ≡ metadata_value other es → metadata_value other (spec_with_pair key value (e ∷ es)) ≡ metadata_value other (e ∷ es)
     stays_by other differs Less o rest = rw (o, differs) refl
     stays_by other differs Equal o rest = absurd (cc (sym (tie Equal e.0 o) ∙ apart))
     stays_by other differs Greater o rest = rw o (ap (cond (bytes_eq other e.0) (Some e.1)) rest)
 
-  pub pair_is_there : (entries : Entries) → HasNoKey key entries → value_at key (spec_with_pair key value entries) ≡ Some value
+  pub pair_is_there : (entries : Entries) → HasNoKey key entries → metadata_value key (spec_with_pair key value entries) ≡ Some value
   pair_is_there [] free = rw same refl
   pair_is_there (e ∷ es) free =
-      let h = none_first (bytes_eq key e.0) e.1 (value_at key es) free in
+      let h = none_first (bytes_eq key e.0) e.1 (metadata_value key es) free in
       there_by e es h.0 (slice_cmp nat_cmp key e.0) refl (pair_is_there es h.1)
 
   pub pair_is_taken : (entries : Entries) → HasNoKey key entries → without key (spec_with_pair key value entries) ≡ entries
   pair_is_taken [] free = rw same refl
   pair_is_taken (e ∷ es) free =
-      let h = none_first (bytes_eq key e.0) e.1 (value_at key es) free in
+      let h = none_first (bytes_eq key e.0) e.1 (metadata_value key es) free in
       taken_by e es h.0 (slice_cmp nat_cmp key e.0) refl (pair_is_taken es h.1)
 
   -- another key keeps its value
-  pub others_stay : (other : Letters) → bytes_eq other key ≡ false → (entries : Entries) → HasNoKey key entries → value_at other (spec_with_pair key value entries) ≡ value_at other entries
+  pub others_stay : (other : Letters) → bytes_eq other key ≡ false → (entries : Entries) → HasNoKey key entries → metadata_value other (spec_with_pair key value entries) ≡ metadata_value other entries
   others_stay other differs [] free = rw differs refl
   others_stay other differs (e ∷ es) free =
-      let h = none_first (bytes_eq key e.0) e.1 (value_at key es) free in
+      let h = none_first (bytes_eq key e.0) e.1 (metadata_value key es) free in
       stays_by e es h.0 other differs (slice_cmp nat_cmp key e.0) refl (others_stay other differs es h.1)
 
 -- removing an absent key changes nothing
 pub free_stays : (key : Letters) (entries : Entries) → HasNoKey key entries → without key entries ≡ entries
 free_stays key [] free = refl
 free_stays key (e ∷ es) free =
-    let h = none_first (bytes_eq key e.0) e.1 (value_at key es) free in
+    let h = none_first (bytes_eq key e.0) e.1 (metadata_value key es) free in
     rw h.0 (ap (λ (l : Entries). e ∷ l) (free_stays key es h.1))
 
 -- ---- extensions
 
 is_free : (key : Letters) (entries : Entries) → spec_has_key key entries ≡ false → HasNoKey key entries
-is_free key entries h = by_value (value_at key entries) refl
+is_free key entries h = by_value (metadata_value key entries) refl
   where
-    by_value : (v : Option Letters) → value_at key entries ≡ v → value_at key entries ≡ None
+    by_value : (v : Option Letters) → metadata_value key entries ≡ v → metadata_value key entries ≡ None
     by_value None e = e
     by_value (Some x) e = absurd (cc (h, e))
 
@@ -90,8 +90,8 @@ not_back false h = refl
 
 -- the keys of an extension type give its name, its metadata and the other entries
 pub record IsEncoded (title : Letters) (text : Option Letters) (entries all : Entries) : Type 0 where
-  pub name : value_at extension_name all ≡ Some title
-  pub text_of : value_at extension_metadata (without extension_name all) ≡ text
+  pub name : metadata_value extension_name all ≡ Some title
+  pub text_of : metadata_value extension_metadata (without extension_name all) ≡ text
   pub rest : without extension_metadata (without extension_name all) ≡ entries
 
 spelled : (title : Letters) (text : Option Letters) (entries : Entries) → HasNoKey extension_name entries → HasNoKey extension_metadata entries → IsEncoded title text entries (spec_with_pair extension_name title (with_text text entries))

@@ -17,11 +17,11 @@ extension_name = codes "ARROW:extension:name"
 abbrev pub extension_metadata : Letters
 extension_metadata = codes "ARROW:extension:metadata"
 
-abbrev pub value_at : Letters → Entries → Option Letters
-value_at key entries = lookup (λ other. bytes_eq key other) entries
+abbrev pub metadata_value : Letters → Entries → Option Letters
+metadata_value key entries = lookup (λ other. bytes_eq key other) entries
 
 abbrev pub spec_has_key : Letters → Entries → Bool
-spec_has_key key entries = is_some (value_at key entries)
+spec_has_key key entries = is_some (metadata_value key entries)
 
 abbrev pub without : Letters → Entries → Entries
 without key entries = remove_entry (λ other. bytes_eq key other) entries
@@ -33,10 +33,10 @@ spec_with_pair key value entries = insert_entry (slice_cmp nat_cmp) entries key 
 abbrev pub spec_extension_field : Letters → TypeTree → Bool → Entries → Option Letters → FieldTree
 spec_extension_field name type nullable entries None = field name type nullable entries
 spec_extension_field name type nullable entries (Some title) =
-    field name (types.extension title type (value_at extension_metadata (without extension_name entries))) nullable (without extension_metadata (without extension_name entries))
+    field name (types.extension title type (metadata_value extension_metadata (without extension_name entries))) nullable (without extension_metadata (without extension_name entries))
 
 abbrev pub field_with_metadata : Letters → TypeTree → Bool → Entries → FieldTree
-field_with_metadata name type nullable entries = spec_extension_field name type nullable entries (value_at extension_name entries)
+field_with_metadata name type nullable entries = spec_extension_field name type nullable entries (metadata_value extension_name entries)
 
 -- whether the extension name of a field is that of a floating-point type
 abbrev pub is_float_name_of : Option Letters → Bool
@@ -44,7 +44,7 @@ is_float_name_of None = false
 is_float_name_of (Some title) = spec_is_float_name title
 
 abbrev pub spec_names_float : Entries → Bool
-spec_names_float entries = is_float_name_of (value_at extension_name entries)
+spec_names_float entries = is_float_name_of (metadata_value extension_name entries)
 
 -- the storage type of an extension type
 abbrev pub spec_storage_type : TypeTree → TypeTree

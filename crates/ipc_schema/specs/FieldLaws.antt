@@ -24,7 +24,7 @@ use Rattle.ipc_schema.specs.Extensions.{spec_names_float, field_with_metadata, s
 use Rattle.ipc_schema.specs.ExtensionLaws.{field_round_trips, no_float_is_named}
 use Rattle.ipc_schema.specs.Schemas.{spec_metadata_at, spec_field_over, spec_field_at}
 use Rattle.ipc_schema.specs.WriteChecks.{and_then_check, spec_require, is_not_nested_extension, spec_can_encode, spec_has_no_reserved_key, spec_check_type, spec_check_own, spec_check_each, spec_check_field, check_fields}
-use Rattle.ipc_schema.specs.DictionaryIds.{keys_of, encoding_with_id, spec_encoding_of, next_after, next_after_own, total, each_from, count_dictionaries, count_all, ids_from, own_value_types, flattened, value_types_from, with_ids_from, types_after, types_after_all}
+use Rattle.ipc_schema.specs.DictionaryIds.{index_type_of, encoding_with_id, spec_encoding_of, next_after, next_after_own, total, each_from, count_dictionaries, count_all, ids_from, own_value_types, flattened, value_types_from, with_ids_from, types_after, types_after_all}
 use Rattle.ipc_schema.specs.DictionaryIdLaws.{Keys, AreWithin, encoding_round_trips, ids_more, within_more, within_both, own_is_new, behind_counts, behind_at_most, named_within, all_within, each_long}
 use Rattle.ipc_schema.specs.SchemaBytes.{type_bytes, spec_type_number, encoding_head, encoding_part, encoding_bytes, field_vtable, field_head, field_parts, parts_of_field, field_bytes, each_bytes, entries_bytes}
 use Rattle.ipc_schema.specs.TypeLaws.{TypeFits, both, passes, own_shape, type_cost, TypeIs, type_is, type_pays, key_read, key_long}
@@ -132,7 +132,7 @@ own_cost name keys type entries inner = 16 + length name + 4 * length (spec_chil
 
 unfoldable pub field_cost : ℕ → FieldTree → ℕ
 field_cost zero f = 0
-field_cost (suc depth) (field name type nullable entries) = own_cost name (keys_of (spec_storage_type type)) (spec_table_type type) (all_metadata_of type entries) (total (field_cost depth) (spec_children_of (spec_table_type type)))
+field_cost (suc depth) (field name type nullable entries) = own_cost name (index_type_of (spec_storage_type type)) (spec_table_type type) (all_metadata_of type entries) (total (field_cost depth) (spec_children_of (spec_table_type type)))
 
 pub field_parts_long : (nullable : Bool) (tag : ℕ) (dictionary : Option Encoding) (type children name metadata : List ℕ)
     → length (field_parts nullable tag dictionary type children name metadata) ≡ 48 + length (encoding_bytes dictionary) + length type + length children + length name + length metadata
@@ -280,7 +280,7 @@ field_part_round_trips zero f form fits = absurd (no_depth f form)
 field_part_round_trips (suc depth) (field name type nullable entries) form fits = λ next seen left new few le.
     let parts = own_and_inner depth (field name type nullable entries) form in
     let plain = plain_is name type nullable entries parts.0 in
-    let keys : Keys = keys_of (spec_storage_type type) in
+    let keys : Keys = index_type_of (spec_storage_type type) in
     let own : TypeTree = spec_table_type type in
     let cs : List FieldTree = spec_children_of own in
     let inner : ℕ = total (field_cost depth) cs in
@@ -322,7 +322,7 @@ field_pays zero f form fits = absurd (no_depth f form)
 field_pays (suc depth) (field name type nullable entries) form fits = λ next.
     let parts = own_and_inner depth (field name type nullable entries) form in
     let plain = plain_is name type nullable entries parts.0 in
-    let keys : Keys = keys_of (spec_storage_type type) in
+    let keys : Keys = index_type_of (spec_storage_type type) in
     let own : TypeTree = spec_table_type type in
     let cs : List FieldTree = spec_children_of own in
     let bodies : List (List ℕ) = each_bytes depth (next_after keys next) cs in
@@ -347,7 +347,7 @@ pub field_counts : (depth : ℕ) (f : FieldTree) (next : ℕ) → count_dictiona
 unfolding field_bytes count_dictionaries
 field_counts zero f next = omega arith
 field_counts (suc depth) (field name type nullable entries) next =
-    let keys : Keys = keys_of (spec_storage_type type) in
+    let keys : Keys = index_type_of (spec_storage_type type) in
     let own : TypeTree = spec_table_type type in
     let cs : List FieldTree = spec_children_of own in
     let bodies : List (List ℕ) = each_bytes depth (next_after keys next) cs in

@@ -6,7 +6,7 @@ use Rattle.std.proofs.lemmas.Nat.{from_le_bytes-to_le_bytes_4}
 use Rattle.ipc_flatbuf.specs.ReadResults.{◌>>=◌, FailsOrRunsOut}
 use Rattle.ipc_flatbuf.specs.declared.error.IpcReadError.{IpcReadError}
 use Rattle.ipc_flatbuf.specs.Flatbuffers.{number_at, spec_offset_at, spec_read_vector}
-use Rattle.ipc_flatbuf.specs.PartBytes.{u32_bytes, zeros, offsets_size, offsets, concatenated, table_vector_bytes}
+use Rattle.ipc_flatbuf.specs.PartBytes.{u32_bytes, padding_zeros, offsets_size, offsets, concatenated, table_vector_bytes}
 use Rattle.ipc_flatbuf.specs.FlatbufferLaws.{From, From-length, From_next, number_is, offset_is, vector_is}
 use Rattle.ipc_flatbuf.specs.TemplateLaws.{From_at}
 use Rattle.ipc_flatbuf.specs.VectorLaws.{offsets_long, zeros_long, table_vector_long}
@@ -23,58 +23,58 @@ tables_in_turn read bytes (suc n) position state = do
 -- ---- loop invariants
 
 -- the values that are read so far, followed by the rest
-abbrev pub with_done : {A S : Type 0} → List A → Result (List A × S) IpcReadError → Result (List A × S) IpcReadError
-with_done front read = read >>= λ x. Ok (front ++ x.0, x.1)
+abbrev pub with_fields_done : {A S : Type 0} → List A → Result (List A × S) IpcReadError → Result (List A × S) IpcReadError
+with_fields_done front read = read >>= λ x. Ok (front ++ x.0, x.1)
 
 -- the result of reading the tables from index i
-abbrev pub rest_at : {A S : Type 0} → (ℕ → S → Result (A × S) IpcReadError) → List ℕ → ℕ → ℕ → ℕ → S → Result (List A × S) IpcReadError
-rest_at read bytes count first i state = tables_in_turn read bytes (count - i) (first + 4 * i) state
+abbrev pub fields_from : {A S : Type 0} → (ℕ → S → Result (A × S) IpcReadError) → List ℕ → ℕ → ℕ → ℕ → S → Result (List A × S) IpcReadError
+fields_from read bytes count first i state = tables_in_turn read bytes (count - i) (first + 4 * i) state
 
-regroup : {A S : Type 0} (front : List A) (n : A) (read : Result (List A × S) IpcReadError) → with_done front (read >>= λ x. Ok (n ∷ x.0, x.1)) ≡ with_done (front ++ n ∷ []) read
+regroup : {A S : Type 0} (front : List A) (n : A) (read : Result (List A × S) IpcReadError) → with_fields_done front (read >>= λ x. Ok (n ∷ x.0, x.1)) ≡ with_fields_done (front ++ n ∷ []) read
 regroup {A} front n (Ok x) = ap (λ (ns : List A). Ok (ns, x.1)) (simp append_assoc)
 regroup front n (Err f) = refl
 
-pub table_goes_on : {A S : Type 0} (read : ℕ → S → Result (A × S) IpcReadError) (bytes : List ℕ) (front : List A) (count first i : ℕ) (state : S) (to : ℕ) (x : A) (after : S) (total : Result (List A × S) IpcReadError) → i < count
-    → spec_offset_at bytes (first + 4 * i) ≡ Ok to → read to state ≡ Ok (x, after) → with_done front (rest_at read bytes count first i state) ≡ total → with_done (front ++ x ∷ []) (rest_at read bytes count first (i + 1) after) ≡ total
+pub field_goes_on : {A S : Type 0} (read : ℕ → S → Result (A × S) IpcReadError) (bytes : List ℕ) (front : List A) (count first i : ℕ) (state : S) (to : ℕ) (x : A) (after : S) (total : Result (List A × S) IpcReadError) → i < count
+    → spec_offset_at bytes (first + 4 * i) ≡ Ok to → read to state ≡ Ok (x, after) → with_fields_done front (fields_from read bytes count first i state) ≡ total → with_fields_done (front ++ x ∷ []) (fields_from read bytes count first (i + 1) after) ≡ total
 unfolding tables_in_turn
-table_goes_on {A} read bytes front count first i state to x after total lt o h so_far =
+field_goes_on {A} read bytes front count first i state to x after total lt o h so_far =
     let k : count - i ≡ suc (count - (i + 1)) = omega arith in
     let p : first + 4 * i + 4 ≡ first + 4 * (i + 1) = omega arith in
-    let one : with_done front (rest_at read bytes count first i state) ≡ with_done (front ++ x ∷ []) (rest_at read bytes count first (i + 1) after) = rw (k, o, h, p) (regroup front x (tables_in_turn read bytes (count - (i + 1)) (first + 4 * (i + 1)) after)) in
+    let one : with_fields_done front (fields_from read bytes count first i state) ≡ with_fields_done (front ++ x ∷ []) (fields_from read bytes count first (i + 1) after) = rw (k, o, h, p) (regroup front x (tables_in_turn read bytes (count - (i + 1)) (first + 4 * (i + 1)) after)) in
     sym one ∙ so_far
 
-pub table_lacks_offset : {A S : Type 0} (read : ℕ → S → Result (A × S) IpcReadError) (bytes : List ℕ) (front : List A) (count first i : ℕ) (state : S) (f : IpcReadError) (total : Result (List A × S) IpcReadError) → i < count
-    → spec_offset_at bytes (first + 4 * i) ≡ Err f → with_done front (rest_at read bytes count first i state) ≡ total → total ≡ Err f
+pub field_lacks_offset : {A S : Type 0} (read : ℕ → S → Result (A × S) IpcReadError) (bytes : List ℕ) (front : List A) (count first i : ℕ) (state : S) (f : IpcReadError) (total : Result (List A × S) IpcReadError) → i < count
+    → spec_offset_at bytes (first + 4 * i) ≡ Err f → with_fields_done front (fields_from read bytes count first i state) ≡ total → total ≡ Err f
 unfolding tables_in_turn
-table_lacks_offset read bytes front count first i state f total lt o so_far =
+field_lacks_offset read bytes front count first i state f total lt o so_far =
     let k : count - i ≡ suc (count - (i + 1)) = omega arith in
-    let one : with_done front (rest_at read bytes count first i state) ≡ Err f = rw (k, o) refl in
+    let one : with_fields_done front (fields_from read bytes count first i state) ≡ Err f = rw (k, o) refl in
     sym so_far ∙ one
 
-pub table_fails : {A S : Type 0} (f : IpcReadError) (read : ℕ → S → Result (A × S) IpcReadError) (bytes : List ℕ) (front : List A) (count first i : ℕ) (state : S) (to : ℕ) (total : Result (List A × S) IpcReadError) → i < count
-    → spec_offset_at bytes (first + 4 * i) ≡ Ok to → FailsOrRunsOut f (read to state) → with_done front (rest_at read bytes count first i state) ≡ total → FailsOrRunsOut f total
+pub field_fails : {A S : Type 0} (f : IpcReadError) (read : ℕ → S → Result (A × S) IpcReadError) (bytes : List ℕ) (front : List A) (count first i : ℕ) (state : S) (to : ℕ) (total : Result (List A × S) IpcReadError) → i < count
+    → spec_offset_at bytes (first + 4 * i) ≡ Ok to → FailsOrRunsOut f (read to state) → with_fields_done front (fields_from read bytes count first i state) ≡ total → FailsOrRunsOut f total
 unfolding tables_in_turn
-table_fails f read bytes front count first i state to total lt o h so_far = λ known.
+field_fails f read bytes front count first i state to total lt o h so_far = λ known.
     let k : count - i ≡ suc (count - (i + 1)) = omega arith in
     let e : read to state ≡ Err f = h known in
-    let one : with_done front (rest_at read bytes count first i state) ≡ Err f = rw (k, o, e) refl in
+    let one : with_fields_done front (fields_from read bytes count first i state) ≡ Err f = rw (k, o, e) refl in
     sym so_far ∙ one
 
-whole : {A S : Type 0} (read : Result (List A × S) IpcReadError) → with_done [] read ≡ read
+whole : {A S : Type 0} (read : Result (List A × S) IpcReadError) → with_fields_done [] read ≡ read
 whole (Ok x) = refl
 whole (Err f) = refl
 
-pub tables_start : {A S : Type 0} (read : ℕ → S → Result (A × S) IpcReadError) (bytes : List ℕ) (count first : ℕ) (state : S) → with_done [] (rest_at read bytes count first 0 state) ≡ tables_in_turn read bytes count first state
-tables_start read bytes count first state =
+pub fields_start : {A S : Type 0} (read : ℕ → S → Result (A × S) IpcReadError) (bytes : List ℕ) (count first : ℕ) (state : S) → with_fields_done [] (fields_from read bytes count first 0 state) ≡ tables_in_turn read bytes count first state
+fields_start read bytes count first state =
     let k : count - 0 ≡ count = omega arith in
     let p : first + 4 * 0 ≡ first = omega arith in
     rw (k, p) (whole (tables_in_turn read bytes count first state))
 
-pub tables_are_done : {A S : Type 0} (read : ℕ → S → Result (A × S) IpcReadError) (bytes : List ℕ) (front : List A) (count first i : ℕ) (state : S) (total : Result (List A × S) IpcReadError) → count ≤ i → with_done front (rest_at read bytes count first i state) ≡ total → total ≡ Ok (front, state)
+pub fields_are_done : {A S : Type 0} (read : ℕ → S → Result (A × S) IpcReadError) (bytes : List ℕ) (front : List A) (count first i : ℕ) (state : S) (total : Result (List A × S) IpcReadError) → count ≤ i → with_fields_done front (fields_from read bytes count first i state) ≡ total → total ≡ Ok (front, state)
 unfolding tables_in_turn
-tables_are_done {A} read bytes front count first i state total le so_far =
+fields_are_done {A} read bytes front count first i state total le so_far =
     let k : count - i ≡ 0 = omega arith in
-    let one : with_done front (rest_at read bytes count first i state) ≡ Ok (front, state) = rw k (ap (λ (ns : List A). Ok (ns, state)) (append-nil front)) in
+    let one : with_fields_done front (fields_from read bytes count first i state) ≡ Ok (front, state) = rw k (ap (λ (ns : List A). Ok (ns, state)) (append-nil front)) in
     sym so_far ∙ one
 
 -- ---- round trips
@@ -130,7 +130,7 @@ unfolding table_vector_bytes u32_bytes
 tables_are_read read head bodies xs before after whole p rest are h small =
     let n : ℕ = length bodies in
     let d : ℕ = offsets_size n - 4 in
-    let gap : List ℕ = zeros (offsets_size n - (4 + 4 * n)) in
+    let gap : List ℕ = padding_zeros (offsets_size n - (4 + 4 * n)) in
     let part : List ℕ = table_vector_bytes head bodies ++ rest in
     let row : length (offsets head d bodies) ≡ 4 * n = offsets_long head d bodies in
     let gap_len : length gap ≡ offsets_size n - (4 + 4 * n) = zeros_long (offsets_size n - (4 + 4 * n)) (omega arith) in

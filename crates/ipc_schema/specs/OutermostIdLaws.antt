@@ -11,7 +11,7 @@ use Rattle.nest_memory.specs.TypeTree.{TypeTree, FieldTree, field_type}
 use Rattle.ipc_schema.specs.Dictionaries.{ValueTypeModel, no_dictionaries}
 use Rattle.ipc_schema.specs.Types.{spec_children_of}
 use Rattle.ipc_schema.specs.Extensions.{spec_storage_type, spec_table_type}
-use Rattle.ipc_schema.specs.DictionaryIds.{keys_of, next_after, next_after_own, total, each_from, count_dictionaries, ids_from, own_value_types, flattened, value_types_from, types_after_all}
+use Rattle.ipc_schema.specs.DictionaryIds.{index_type_of, next_after, next_after_own, total, each_from, count_dictionaries, ids_from, own_value_types, flattened, value_types_from, types_after_all}
 use Rattle.ipc_schema.specs.DictionaryIdLaws.{Keys, ids_more, AreWithin, within_more, greater, named_within, all_within}
 use Rattle.ipc_schema.specs.OutermostIds.{ValueTypes, nested_count, spec_count_nested, spec_outermost_ids, no_outermost_ids, outermost_first}
 
@@ -25,7 +25,7 @@ own_id_or (Some keys) next inside = pos next ∷ []
 -- the dictionary ids of a field, to a depth, without those nested in a value type
 unfoldable pub column_ids_from : ℕ → ℕ → FieldTree → List ℤ
 column_ids_from zero next f = []
-column_ids_from (suc depth) next f = own_id_or (keys_of (spec_storage_type (field_type f))) next (flattened (each_from (count_dictionaries depth) (column_ids_from depth) (next_after_own (field_type f) next) (spec_children_of (spec_table_type (field_type f)))))
+column_ids_from (suc depth) next f = own_id_or (index_type_of (spec_storage_type (field_type f))) next (flattened (each_from (count_dictionaries depth) (column_ids_from depth) (next_after_own (field_type f) next) (spec_children_of (spec_table_type (field_type f)))))
 
 abbrev pub column_ids : List FieldTree → List ℤ
 column_ids fields = flattened (each_from (count_dictionaries 64) (column_ids_from 64) 0 fields)
@@ -91,7 +91,7 @@ named_has : (depth next : ℕ) (f : FieldTree) → Has (value_types_from depth n
 unfolding value_types_from
 named_has zero next f = tt
 named_has (suc depth) next f =
-    let keys : Keys = keys_of (spec_storage_type (field_type f)) in
+    let keys : Keys = index_type_of (spec_storage_type (field_type f)) in
     let cs : List FieldTree = spec_children_of (spec_table_type (field_type f)) in
     let inner : ℕ = total (count_dictionaries depth) cs in
     let own : ValueTypes = own_value_types keys next (spec_table_type (field_type f)) inner in
@@ -138,7 +138,7 @@ by_keys depth one (Some keys) next values cs named rest has =
 own_outer : (depth : ℕ) (f : FieldTree) → IsOuter depth f
 unfolding count_dictionaries value_types_from column_ids_from ids_from
 own_outer zero f next named rest has = refl
-own_outer (suc depth) f next named rest has = by_keys depth (own_outer depth) (keys_of (spec_storage_type (field_type f))) next (spec_table_type (field_type f)) (spec_children_of (spec_table_type (field_type f))) named rest has
+own_outer (suc depth) f next named rest has = by_keys depth (own_outer depth) (index_type_of (spec_storage_type (field_type f))) next (spec_table_type (field_type f)) (spec_children_of (spec_table_type (field_type f))) named rest has
 
 -- of consecutive ids, among any others and followed by any others
 pub outermost_is : (depth next : ℕ) (fs : List FieldTree) (named : ValueTypes) (rest : List ℤ) → Has named (flattened (each_from (count_dictionaries depth) (value_types_from depth) next fs))

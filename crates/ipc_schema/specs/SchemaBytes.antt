@@ -11,7 +11,7 @@ use Rattle.nest_memory.specs.declared.datatypes.IntervalUnit.{IntervalUnit}
 use Rattle.nest_memory.specs.declared.datatypes.IntervalUnit.TheVariants.{YearMonth, DayTime, MonthDayNano}
 use Rattle.nest_memory.specs.declared.datatypes.UnionMode.{UnionMode}
 use Rattle.nest_memory.specs.declared.datatypes.UnionMode.TheVariants.{Dense, Sparse}
-use Rattle.ipc_flatbuf.specs.PartBytes.{u32_bytes, i32_bytes, i64_bytes, string_bytes, table_vector_bytes, vector_bytes, offsets_size, zeros}
+use Rattle.ipc_flatbuf.specs.PartBytes.{u32_bytes, i32_bytes, i64_bytes, string_bytes, table_vector_bytes, vector_bytes, offsets_size, padding_zeros}
 use Rattle.ipc_flatbuf.specs.MessageBytes.{message_bytes}
 use Rattle.ipc_flatbuf.specs.declared.message.types.MessageKind.TheVariants as kinds
 use Rattle.ipc_schema.specs.Floats.{spec_precision_number, spec_precision_of, spec_is_float}
@@ -72,7 +72,7 @@ spec_mode_number Dense = 1
 
 -- a vector of type ids with its padding
 unfoldable pub ids_bytes : List ℤ → List ℕ
-ids_bytes ids = vector_bytes i32_bytes ids ++ zeros (offsets_size (length ids) - (4 + 4 * length ids))
+ids_bytes ids = vector_bytes i32_bytes ids ++ padding_zeros (offsets_size (length ids) - (4 + 4 * length ids))
 
 -- table Union, followed by its type ids
 unfoldable pub union_bytes : Option (List ℤ) → UnionMode → List ℕ

@@ -24,7 +24,7 @@ use Rattle.nest_memory.specs.declared.datatypes.UnionMode.TheVariants.{Dense, Sp
 use Rattle.ipc_flatbuf.specs.declared.error.IpcWriteError.{IpcWriteError}
 use Rattle.ipc_flatbuf.specs.declared.error.IpcWriteError.TheVariants as reasons
 use Rattle.ipc_flatbuf.specs.Flatbuffers.{number_at, signed_at, spec_offset_at, spec_field_position, spec_read_table, spec_read_string, vector_at}
-use Rattle.ipc_flatbuf.specs.PartBytes.{u32_bytes, i32_bytes, string_bytes, vector_bytes, offsets_size, zeros}
+use Rattle.ipc_flatbuf.specs.PartBytes.{u32_bytes, i32_bytes, string_bytes, vector_bytes, offsets_size, padding_zeros}
 use Rattle.ipc_flatbuf.specs.FlatbufferLaws.{From, number_is, offset_is, field_is_past}
 use Rattle.ipc_flatbuf.specs.TemplateLaws.{From_at, table_in, visit_in, field_in, i32_in, flag_round_trips, string_long, string_round_trips}
 use Rattle.ipc_flatbuf.specs.VectorLaws.{ReadsBackAs, IsStruct, structs_long, vector_round_trips}
@@ -413,7 +413,7 @@ ids_cost (Some ids) = 12 + length ids * 4
 ids_long : (ids : List ℤ) → list_all spec_is_union_id ids ≡ true → 4 + length ids * 4 ≤ length (ids_bytes ids)
 unfolding ids_bytes vector_bytes u32_bytes
 ids_long ids all =
-    omega (arith, structs_long (signed_at w32) 4 i32_bytes ids (each_is ids all), length-append (flat_map i32_bytes ids) (zeros (offsets_size (length ids) - (4 + 4 * length ids))))
+    omega (arith, structs_long (signed_at w32) 4 i32_bytes ids (each_is ids all), length-append (flat_map i32_bytes ids) (padding_zeros (offsets_size (length ids) - (4 + 4 * length ids))))
 
 are_few : (ids : List ℤ) (count : ℕ) → spec_are_union_ids (Some ids) count ≡ true → (length ids < 128) × (list_all spec_is_union_id ids ≡ true)
 are_few ids count fit =
@@ -435,7 +435,7 @@ union_read (Some ids) mode count fit = record {
   law = λ whole p q left after h within at le.
       let part : List ℕ = union_bytes (Some ids) mode ++ after in
       let few = are_few ids count fit in
-      let gap : List ℕ = zeros (offsets_size (length ids) - (4 + 4 * length ids)) in
+      let gap : List ℕ = padding_zeros (offsets_size (length ids) - (4 + 4 * length ids)) in
       let t = two_are (spec_mode_number mode) 4 whole p left (ids_bytes ids ++ after) (omega (arith, mode_small mode)) (omega arith) h (omega arith) in
       let behind : From whole (p + 12 + 8 + 4) (vector_bytes i32_bytes ids ++ (gap ++ after)) = From_at whole p (p + 12 + 8 + 4) 24 part (vector_bytes i32_bytes ids ++ (gap ++ after)) h (omega arith) (omega arith) (append_assoc (vector_bytes i32_bytes ids) gap after) in
       let v : vector_at (signed_at w32 whole) 4 whole (Some (p + 12 + 8 + 4)) (left - 8) ≡ Ok (ids, left - 8 - (4 + length ids * 4)) =

@@ -9,7 +9,7 @@ ghost use Rattle.ipc_flatbuf.specs.PartBytes.{concatenated, bytes_of_each};
 ghost use Rattle.ipc_flatbuf.specs.Flatbuffers.{tables_at};
 ghost use Rattle.ipc_flatbuf.specs.WriteErrors.{IsSizeError};
 ghost use Rattle.ipc_schema.specs.Schemas.{spec_pair_at, spec_metadata_at, with_all};
-ghost use Rattle.ipc_schema.specs.Extensions.{extension_name, value_at, spec_names_float, spec_has_key, without, spec_with_pair, with_text};
+ghost use Rattle.ipc_schema.specs.Extensions.{extension_name, metadata_value, spec_names_float, spec_has_key, without, spec_with_pair, with_text};
 ghost use Rattle.ipc_schema.specs.SchemaBytes.{pair_bytes, entries_bytes};
 ghost use Rattle.ipc_schema.specs.MetadataLaws.{AreUtf8};
 
@@ -97,7 +97,7 @@ pub fn metadata_at(
 
 /// Removes a key and returns its value.
 pub fn take(metadata: &mut Metadata, key: &str) -> Option<String>
-    ensures value { option_map string_bytes result ≡ value_at key.now (entries_of metadata.old.entries) }
+    ensures value { option_map string_bytes result ≡ metadata_value key.now (entries_of metadata.old.entries) }
     ensures rest { entries_of metadata.new.entries ≡ without key.now (entries_of metadata.old.entries) }
 {
     metadata.remove(key)

@@ -7,7 +7,7 @@ ghost use Rattle.ipc_flatbuf.specs.Messages.{optional_model_of};
 ghost use Rattle.ipc_schema.specs.DictionaryModels.{progress_of};
 ghost use Rattle.ipc_schema.specs.Schemas.{schema_of};
 ghost use Rattle.ipc_schema.specs.Projections.{projection_of, columns_of, IsColumnSet};
-ghost use Rattle.ipc_schema.specs.ProjectedSchemas.{spec_item_by, spec_item_at, spec_projected_fields_at, spec_projected_fields_of_items, spec_has_union, spec_check_projected_version, spec_projected_schema_at, spec_projected_schema_in_message, stream_projected_schema_at, projected_schema_of, no_fields, with_item, appended, item_of, fields_model_of};
+ghost use Rattle.ipc_schema.specs.ProjectedSchemas.{spec_item_by, spec_item_at, spec_projected_fields_at, spec_projected_fields_of_items, spec_has_union, spec_check_projected_version, spec_projected_schema_at, spec_projected_schema_in_message, stream_projected_schema_at, projected_schema_of, no_fields, with_item, joined_fields, item_of, fields_model_of};
 
 use crate::columns::{ColumnSet, Projection};
 use crate::dictionaries::DictionaryTypes;
@@ -86,7 +86,7 @@ fn item_at(
 }
 
 fn push(parts: &mut Parts, item: Item) -> Result<(), AllocError>
-    ensures { OnOk result (fields_model_of parts.new ≡ appended (fields_model_of parts.old) (with_item (item_of item) no_fields)) }
+    ensures { OnOk result (fields_model_of parts.new ≡ joined_fields (fields_model_of parts.old) (with_item (item_of item) no_fields)) }
 {
     match item {
         Item::Read(field) => {

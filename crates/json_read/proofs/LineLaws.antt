@@ -13,7 +13,7 @@ use Rattle.json_read.specs.declared.error.PushLineError.{PushLineError}
 use Rattle.json_read.specs.declared.error.PushLineError.TheVariants as push_line_errors
 use Rattle.json_read.specs.declared.error.LineError.{LineError}
 use Rattle.json_read.specs.JsonSlots.{value_error, slot_of, string_slot, array_slot}
-use Rattle.json_read.specs.LineRows.{Row, rows_from}
+use Rattle.json_read.specs.LineRows.{LineRow, rows_from}
 use Rattle.json_read.specs.SlotAdded.{IsPushError, SlotAdded}
 use Rattle.json_read.specs.declared.error.LineError.TheVariants as line_errors
 use Rattle.json_read.specs.declared.error.LineError.TheVariants.{InvalidJson}
@@ -68,7 +68,7 @@ all-lines text = take_all (length text) (lines_of text) (few-lines text)
 pub all-text : (text : List ℕ) (used : ℕ) → used ≡ length text → take used text ≡ text
 all-text text used e = take_all used text (omega (arith, e))
 
-pub row-taken : (r : Row) (old new : BuilderTree) → LineAdded r old new → (s : Slot) × ((r ≡ Ok s) × SlotAdded s old new)
+pub row-taken : (r : LineRow) (old new : BuilderTree) → LineAdded r old new → (s : Slot) × ((r ≡ Ok s) × SlotAdded s old new)
 row-taken (Ok s) old new h = (s, (refl, h))
 row-taken (Err e) old new h = absurd h
 

@@ -2,7 +2,7 @@
 use Rattle.std.proofs.Common.{◌≡◌, ◌∙◌, ℕ, zero, suc, ◌+◌, ◌<◌, ◌≤◌, List, [], ◌∷◌, ◌++◌, length, take, Bool, true, false, Result, Ok, Err, ◌==◌, if◌then◌else◌, refl, ap, sym, subst, arith}
 use Rattle.std.specs.List.{onto_first}
 use Rattle.nest_model.specs.Slot.{Slot}
-use Rattle.json_read.specs.LineRows.{Row, Rows, rows_from, prepend_row, prepend_slot}
+use Rattle.json_read.specs.LineRows.{LineRow, Rows, rows_from, prepend_row, prepend_slot}
 use Rattle.json_read.specs.LineSplit.{lines_of}
 use Rattle.json_read.specs.declared.error.LineError.{LineError}
 
@@ -16,13 +16,13 @@ unfolding shift
 shift-onto d s (Ok ss) = refl
 shift-onto d s (Err f) = refl
 
-module _ (row : List ℕ → Row) where
+module _ (row : List ℕ → LineRow) where
   shifted : (d m : ℕ) (ls : List (List ℕ)) → rows_from row (d + m) ls ≡ shift d (rows_from row m ls)
   unfolding shift
   shifted d m [] = refl
   shifted d m (l ∷ ls) = go (row l) (let e : d + m + 1 ≡ d + (m + 1) = omega arith in ap (λ k. rows_from row k ls) e ∙ shifted d (m + 1) ls)
     where
-      go : (r : Row) → rows_from row (d + m + 1) ls ≡ shift d (rows_from row (m + 1) ls) → prepend_row r (d + m) (rows_from row (d + m + 1) ls) ≡ shift d (prepend_row r m (rows_from row (m + 1) ls))
+      go : (r : LineRow) → rows_from row (d + m + 1) ls ≡ shift d (rows_from row (m + 1) ls) → prepend_row r (d + m) (rows_from row (d + m + 1) ls) ≡ shift d (prepend_row r m (rows_from row (m + 1) ls))
       go (Ok s) h = ap (prepend_slot s) h ∙ shift-onto d s (rows_from row (m + 1) ls)
       go (Err e) h = refl
 
@@ -38,7 +38,7 @@ module _ (row : List ℕ → Row) where
   both-ok a [] ys ss zs h k = behind-ok a ys zs k ∙ ap (λ ts. Ok (ts ++ zs)) (let e : [] ≡ ss = cc in e)
   both-ok a (x ∷ xs) ys ss zs h k = go (row x) (rows_from row (a + 1) xs) ss h refl (λ ts e. both-ok (a + 1) xs ys ts zs e k)
     where
-      go : (r : Row) (rest : Rows) (us : List Slot) → prepend_row r a rest ≡ Ok us → rows_from row (a + 1) xs ≡ rest → ((ts : List Slot) → rows_from row (a + 1) xs ≡ Ok ts → rows_from row (a + 1) (xs ++ ys) ≡ Ok (ts ++ zs))
+      go : (r : LineRow) (rest : Rows) (us : List Slot) → prepend_row r a rest ≡ Ok us → rows_from row (a + 1) xs ≡ rest → ((ts : List Slot) → rows_from row (a + 1) xs ≡ Ok ts → rows_from row (a + 1) (xs ++ ys) ≡ Ok (ts ++ zs))
           → prepend_row r a (rows_from row (a + 1) (xs ++ ys)) ≡ Ok (us ++ zs)
       go (Ok s) (Ok ts) us e q f = ap (prepend_slot s) (f ts q) ∙ ap (λ vs. Ok (vs ++ zs)) (let p : s ∷ ts ≡ us = cc in p)
       go (Ok s) (Err f') us e q f = absurd cc
@@ -48,7 +48,7 @@ module _ (row : List ℕ → Row) where
   both-err a [] ys ss k e h g = behind-err a ys k e g ∙ ap (λ n. Err (n, e)) (let q : a + k ≡ a + 0 + k = omega arith in q)
   both-err a (x ∷ xs) ys ss k e h g = go (row x) (rows_from row (a + 1) xs) h refl (λ ts q. both-err (a + 1) xs ys ts k e q g)
     where
-      go : (r : Row) (rest : Rows) → prepend_row r a rest ≡ Ok ss → rows_from row (a + 1) xs ≡ rest → ((ts : List Slot) → rows_from row (a + 1) xs ≡ Ok ts → rows_from row (a + 1) (xs ++ ys) ≡ Err (a + 1 + length xs + k, e))
+      go : (r : LineRow) (rest : Rows) → prepend_row r a rest ≡ Ok ss → rows_from row (a + 1) xs ≡ rest → ((ts : List Slot) → rows_from row (a + 1) xs ≡ Ok ts → rows_from row (a + 1) (xs ++ ys) ≡ Err (a + 1 + length xs + k, e))
           → prepend_row r a (rows_from row (a + 1) (xs ++ ys)) ≡ Err (a + length (x ∷ xs) + k, e)
       go (Ok s) (Ok ts) p q f = ap (prepend_slot s) (f ts q) ∙ ap (λ n. Err (n, e)) (let z : a + 1 + length xs + k ≡ a + suc (length xs) + k = omega arith in z)
       go (Ok s) (Err f') p q f = absurd cc
@@ -60,7 +60,7 @@ module _ (row : List ℕ → Row) where
   first-err a (suc n) [] f h = absurd cc
   first-err a (suc n) (l ∷ ls) f h = go (row l) (rows_from row (a + 1) (take n ls)) h refl (λ g e. first-err (a + 1) n ls g e)
     where
-      go : (r : Row) (rest : Rows) → prepend_row r a rest ≡ Err f → rows_from row (a + 1) (take n ls) ≡ rest → ((g : ℕ × LineError) → rows_from row (a + 1) (take n ls) ≡ Err g → rows_from row (a + 1) ls ≡ Err g) → prepend_row r a (rows_from row (a + 1) ls) ≡ Err f
+      go : (r : LineRow) (rest : Rows) → prepend_row r a rest ≡ Err f → rows_from row (a + 1) (take n ls) ≡ rest → ((g : ℕ × LineError) → rows_from row (a + 1) (take n ls) ≡ Err g → rows_from row (a + 1) ls ≡ Err g) → prepend_row r a (rows_from row (a + 1) ls) ≡ Err f
       go (Ok s) (Ok ts) p q k = absurd cc
       go (Ok s) (Err g) p q k = ap (prepend_slot s) (k g q) ∙ p
       go (Err r) rest p q k = p
@@ -70,7 +70,7 @@ module _ (row : List ℕ → Row) where
   err-within a [] k e h = absurd cc
   err-within a (l ∷ ls) k e h = go (row l) (rows_from row (a + 1) ls) h (λ q. err-within (a + 1) ls k e q) refl
     where
-      go : (r : Row) (rest : Rows) → prepend_row r a rest ≡ Err (k, e) → (rows_from row (a + 1) ls ≡ Err (k, e) → k < a + 1 + length ls) → rows_from row (a + 1) ls ≡ rest → k < a + suc (length ls)
+      go : (r : LineRow) (rest : Rows) → prepend_row r a rest ≡ Err (k, e) → (rows_from row (a + 1) ls ≡ Err (k, e) → k < a + 1 + length ls) → rows_from row (a + 1) ls ≡ rest → k < a + suc (length ls)
       go (Ok s) (Ok ts) p f q = absurd cc
       go (Ok s) (Err g) p f q = omega (arith, f (q ∙ p))
       go (Err r) rest p f q =

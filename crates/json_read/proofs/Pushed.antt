@@ -15,7 +15,7 @@ use Rattle.json_read.specs.StructMembers.{MembersAddedTo, MembersAdded, MemberAd
 use Rattle.json_write.specs.Formats.{format_of_type}
 use Rattle.json_write.specs.declared.format.ValueFormat.{ValueFormat}
 use Rattle.json_read.specs.FlatValues.{first_error, item_numbers, flat_error}
-use Rattle.json_read.specs.JsonSlots.{array_error, count_of, value_error, flat_value_error, field_slots, items_error, item_slots, values_physical_type, member_slots, members_error, object_error, length_error, slot_of, type_named}
+use Rattle.json_read.specs.JsonSlots.{array_error, json_item_count, value_error, flat_value_error, field_slots, items_error, item_slots, values_physical_type, member_slots, members_error, object_error, list_length_error, slot_of, type_named}
 use Rattle.json_read.specs.SlotAdded.{SlotAdded, IsPushError, IsList}
 use Rattle.json_read.specs.declared.value_error.ValueError.{ValueError}
 use Rattle.json_read.specs.declared.value_error.ValueError.TheVariants.{DuplicateField, WrongLength}
@@ -50,27 +50,27 @@ pub items-sealed : {A : Type 0} (t : TypeTree) (vs : List (Value A)) → item_sl
 items-sealed t [] = refl
 items-sealed t (v ∷ vs) = ap (slots.more_slots (slot_of t (value_view v))) (items-sealed t vs)
 
-pub items-count : {A : Type 0} (vs : List (Value A)) → length vs ≡ count_of (items_view vs)
+pub items-count : {A : Type 0} (vs : List (Value A)) → length vs ≡ json_item_count (items_view vs)
 items-count [] = refl
 items-count (v ∷ vs) = ap suc (items-count vs)
 
 pub value-list : {A : Type 0} (t : TypeTree) (vs : List (Value A)) → IsOfLists (physical_type t) → slot_of t (json.array (items_view vs)) ≡ slots.list (seal (map (λ v. slot_of (items_type t) (value_view v)) vs))
 value-list t vs h = list-slot t (item_numbers (items_view vs)) (item_slots (items_type t) (items_view vs)) h ∙ ap slots.list (items-sealed (items_type t) vs)
 
-pub error-list : {A : Type 0} (t : TypeTree) (vs : List (Value A)) → IsOfLists (physical_type t) → value_error t (json.array (items_view vs)) ≡ first_error (items_error (items_type t) (items_view vs)) (length_error (fixed_size t) (length vs))
+pub error-list : {A : Type 0} (t : TypeTree) (vs : List (Value A)) → IsOfLists (physical_type t) → value_error t (json.array (items_view vs)) ≡ first_error (items_error (items_type t) (items_view vs)) (list_length_error (fixed_size t) (length vs))
 error-list t vs h = list-error t (items_view vs) (items_error (items_type t) (items_view vs)) (length vs) h (items-count vs)
 
-pub size-wrong : (o : Option ℕ) (s n : ℕ) → o ≡ Some s → (s ≡ n → ⊥) → length_error o n ≡ Some WrongLength
-size-wrong o s n e h = ap (λ x. length_error x n) e ∙ go (eqb_tells s n)
+pub size-wrong : (o : Option ℕ) (s n : ℕ) → o ≡ Some s → (s ≡ n → ⊥) → list_length_error o n ≡ Some WrongLength
+size-wrong o s n e h = ap (λ x. list_length_error x n) e ∙ go (eqb_tells s n)
   where
-    go : ((s == n ≡ true) × (s ≡ n)) ⊎ ((s == n ≡ false) × (s ≡ n → ⊥)) → length_error (Some s) n ≡ Some WrongLength
+    go : ((s == n ≡ true) × (s ≡ n)) ⊎ ((s == n ≡ false) × (s ≡ n → ⊥)) → list_length_error (Some s) n ≡ Some WrongLength
     go (inl p) = absurd (h p.1)
     go (inr q) = rw q.0 refl
 
-pub size-right : (o : Option ℕ) (s n : ℕ) → o ≡ Some s → s ≡ n → length_error o n ≡ None
-size-right o s n e h = ap (λ x. length_error x n) e ∙ go (eqb_tells s n)
+pub size-right : (o : Option ℕ) (s n : ℕ) → o ≡ Some s → s ≡ n → list_length_error o n ≡ None
+size-right o s n e h = ap (λ x. list_length_error x n) e ∙ go (eqb_tells s n)
   where
-    go : ((s == n ≡ true) × (s ≡ n)) ⊎ ((s == n ≡ false) × (s ≡ n → ⊥)) → length_error (Some s) n ≡ None
+    go : ((s == n ≡ true) × (s ≡ n)) ⊎ ((s == n ≡ false) × (s ≡ n → ⊥)) → list_length_error (Some s) n ≡ None
     go (inl p) = rw p.0 refl
     go (inr q) = absurd (q.1 h)
 

@@ -5,40 +5,40 @@ use Rattle.std.proofs.lemmas.Bool.{cases_lt}
 use Rattle.std.proofs.lemmas.List.{length-append, take-append-drop, take_all, drop_all}
 use Rattle.std.specs.List.{onto_first}
 use Rattle.nest_model.specs.Slot.{Slot}
-use Rattle.json_read.specs.LineRows.{Row, Rows, rows_from, prepend_row, prepend_slot}
+use Rattle.json_read.specs.LineRows.{LineRow, Rows, rows_from, prepend_row, prepend_slot}
 use Rattle.json_read.specs.LineSplit.{AreFirstLines, EndsLines, lines_of}
 use Rattle.json_read.specs.declared.error.LineError.{LineError}
 
 -- ---- rows
 
-pub record Taken (r : Row) (rest : Rows) (ss : List Slot) : Type 0 where
+pub record Taken (r : LineRow) (rest : Rows) (ss : List Slot) : Type 0 where
   pub first : Slot
   pub others : List Slot
   pub row : r ≡ Ok first
   pub after : rest ≡ Ok others
   pub all : ss ≡ first ∷ others
 
-pub taken : (r : Row) (above : ℕ) (rest : Rows) (ss : List Slot) → prepend_row r above rest ≡ Ok ss → Taken r rest ss
+pub taken : (r : LineRow) (above : ℕ) (rest : Rows) (ss : List Slot) → prepend_row r above rest ≡ Ok ss → Taken r rest ss
 taken (Ok s) above (Ok others) ss h = let e : s ∷ others ≡ ss = cc in record { first = s; others = others; row = refl; after = refl; all = sym e }
 taken (Ok s) above (Err f) ss h = cc
 taken (Err e) above rest ss h = cc
 
-pub rows-grow : (row : List ℕ → Row) (above : ℕ) (lines : List (List ℕ)) (line : List ℕ) (ss : List Slot) (s : Slot) → rows_from row above lines ≡ Ok ss → row line ≡ Ok s → rows_from row above (lines ++ line ∷ []) ≡ Ok (ss ++ s ∷ [])
+pub rows-grow : (row : List ℕ → LineRow) (above : ℕ) (lines : List (List ℕ)) (line : List ℕ) (ss : List Slot) (s : Slot) → rows_from row above lines ≡ Ok ss → row line ≡ Ok s → rows_from row above (lines ++ line ∷ []) ≡ Ok (ss ++ s ∷ [])
 rows-grow row above [] line ss s h e =
     let none : [] ≡ ss = cc in
-    ap (λ (r : Row). prepend_row r above (Ok [])) e ∙ ap (λ (l : List Slot). Ok (l ++ s ∷ [])) none
+    ap (λ (r : LineRow). prepend_row r above (Ok [])) e ∙ ap (λ (l : List Slot). Ok (l ++ s ∷ [])) none
 rows-grow row above (x ∷ lines) line ss s h e =
     let t = taken _ above _ ss h in
-    ap (λ (r : Row). prepend_row r above (rows_from row (above + 1) (lines ++ line ∷ []))) t.row ∙ ap (prepend_slot t.first) (rows-grow row (above + 1) lines line t.others s t.after e)
+    ap (λ (r : LineRow). prepend_row r above (rows_from row (above + 1) (lines ++ line ∷ []))) t.row ∙ ap (prepend_slot t.first) (rows-grow row (above + 1) lines line t.others s t.after e)
     ∙ ap (λ (l : List Slot). Ok (l ++ s ∷ [])) (sym t.all)
 
-rows-stop : (row : List ℕ → Row) (above : ℕ) (lines : List (List ℕ)) (line : List ℕ) (more : List (List ℕ)) (ss : List Slot) (e : LineError)
+rows-stop : (row : List ℕ → LineRow) (above : ℕ) (lines : List (List ℕ)) (line : List ℕ) (more : List (List ℕ)) (ss : List Slot) (e : LineError)
     → rows_from row above lines ≡ Ok ss → row line ≡ Err e → rows_from row above (lines ++ line ∷ more) ≡ Err (above + length lines, e)
-rows-stop row above [] line more ss e h bad = ap (λ (r : Row). prepend_row r above (rows_from row (above + 1) more)) bad ∙ (let z : above ≡ above + 0 = omega arith in ap (λ k. Err (k, e)) z)
+rows-stop row above [] line more ss e h bad = ap (λ (r : LineRow). prepend_row r above (rows_from row (above + 1) more)) bad ∙ (let z : above ≡ above + 0 = omega arith in ap (λ k. Err (k, e)) z)
 rows-stop row above (x ∷ lines) line more ss e h bad =
     let t = taken _ above _ ss h in
     let n : above + 1 + length lines ≡ above + length (x ∷ lines) = omega arith in
-    ap (λ (r : Row). prepend_row r above (rows_from row (above + 1) (lines ++ line ∷ more))) t.row ∙ ap (prepend_slot t.first) (rows-stop row (above + 1) lines line more t.others e t.after bad) ∙ ap (λ k. Err (k, e)) n
+    ap (λ (r : LineRow). prepend_row r above (rows_from row (above + 1) (lines ++ line ∷ more))) t.row ∙ ap (prepend_slot t.first) (rows-stop row (above + 1) lines line more t.others e t.after bad) ∙ ap (λ k. Err (k, e)) n
 
 -- ---- lines
 
@@ -75,17 +75,17 @@ take-past (x ∷ xs) l ys (suc limit) lt = let rest = take-past xs l ys limit (o
 -- ---- the loop over lines
 
 -- what was taken of a text: its first lines, and what they are
-pub record Read (row : List ℕ → Row) (text : List ℕ) (limit used count : ℕ) (ss : List Slot) : Type 0 where
+pub record Read (row : List ℕ → LineRow) (text : List ℕ) (limit used count : ℕ) (ss : List Slot) : Type 0 where
   pub within : used ≤ length text
   pub ends : used < length text → EndsLines (take used text)
   pub counted : length (lines_of (take used text)) ≡ count
   pub few : count ≤ limit
   pub rows : rows_from row 0 (lines_of (take used text)) ≡ Ok ss
 
-pub read-none : (row : List ℕ → Row) (text : List ℕ) (limit : ℕ) → Read row text limit 0 0 []
+pub read-none : (row : List ℕ → LineRow) (text : List ℕ) (limit : ℕ) → Read row text limit 0 0 []
 read-none row text limit = record { within = omega arith; ends = λ lt more. refl; counted = refl; few = omega arith; rows = refl }
 
-module _ (row : List ℕ → Row) (text line : List ℕ) (limit used count n : ℕ) (ss : List Slot) (read : Read row text limit used count ss) (open_ : used < length text) (is : IsLine (drop used text) line n) (length-left : length (drop used text) ≡ length text - used) where
+module _ (row : List ℕ → LineRow) (text line : List ℕ) (limit used count n : ℕ) (ss : List Slot) (read : Read row text limit used count ss) (open_ : used < length text) (is : IsLine (drop used text) line n) (length-left : length (drop used text) ≡ length text - used) where
   two : take (used + n) text ≡ take used text ++ take n (drop used text)
   two = take-add used n text
 
@@ -122,7 +122,7 @@ rest-apart text used ends = elim (cases_lt used (length text)) [
   | inr le ↦ sym (append-nil (lines_of text)) ∙ (λ i. lines_of (sym (take_all used text le) i) ++ lines_of (sym (drop_all used text le) i))
 ]
 
-pub read-end : (row : List ℕ → Row) (text : List ℕ) (limit used count : ℕ) (ss : List Slot) → Read row text limit used count ss → (count < limit → used ≡ length text) → AreFirstLines text limit used count
+pub read-end : (row : List ℕ → LineRow) (text : List ℕ) (limit used count : ℕ) (ss : List Slot) → Read row text limit used count ss → (count < limit → used ≡ length text) → AreFirstLines text limit used count
 read-end row text limit used count ss read done = record { within = read.within; rest = rest-apart text used read.ends; counted = read.counted; few = read.few; complete = done }
 
 -- ---- all lines

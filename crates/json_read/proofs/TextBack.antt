@@ -8,7 +8,7 @@ use Rattle.std.specs.Int.Signed.{mag}
 use Rattle.std.specs.Option.{option_map}
 use Rattle.std.proofs.Math.IntN.{+ℤ_idr}
 use Rattle.json_write.proofs.Signed.{signed}
-use Rattle.json_read.specs.TextNumbers.{first_of, first_result, numbers_that, is_text, numbers_of_text}
+use Rattle.json_read.specs.TextNumbers.{first_found, first_result, numbers_that, has_text, numbers_of_text}
 use Rattle.json_write.proofs.OneText.{one-text, count-told}
 use Rattle.json_write.specs.Formats.{text_of_numbers, numbers_count}
 use Rattle.json_write.specs.TypedSlots.{NumbersFitIn128Bits}
@@ -30,14 +30,14 @@ first-none : (f : ℤ → Option (List ℤ)) (z : ℤ) → first_result f z 0 �
 unfolding first_result
 first-none f z = refl
 
-first-more : (f : ℤ → Option (List ℤ)) (z : ℤ) (n : ℕ) → first_result f z (suc n) ≡ first_of (f z) (first_result f (z +ℤ pos 1) n)
+first-more : (f : ℤ → Option (List ℤ)) (z : ℤ) (n : ℕ) → first_result f z (suc n) ≡ first_found (f z) (first_result f (z +ℤ pos 1) n)
 unfolding first_result
 first-more f z n = refl
 
 result-go : (f : ℤ → Option (List ℤ)) (z : ℤ) (n : ℕ) (zs : List ℤ) → (first_result f (z +ℤ pos 1) n ≡ Some zs → IsResult f zs) → first_result f z (suc n) ≡ Some zs → (o : Option (List ℤ)) → f z ≡ o → IsResult f zs
 result-go f z n zs more e (Some q) h =
-    record { at = z; found = h ∙ (sym (ap (λ o. first_of o (first_result f (z +ℤ pos 1) n)) h) ∙ (sym (first-more f z n) ∙ e)) }
-result-go f z n zs more e None h = more (sym (ap (λ o. first_of o (first_result f (z +ℤ pos 1) n)) h) ∙ (sym (first-more f z n) ∙ e))
+    record { at = z; found = h ∙ (sym (ap (λ o. first_found o (first_result f (z +ℤ pos 1) n)) h) ∙ (sym (first-more f z n) ∙ e)) }
+result-go f z n zs more e None h = more (sym (ap (λ o. first_found o (first_result f (z +ℤ pos 1) n)) h) ∙ (sym (first-more f z n) ∙ e))
 
 result-of : (f : ℤ → Option (List ℤ)) (z : ℤ) (n : ℕ) (zs : List ℤ) → first_result f z n ≡ Some zs → IsResult f zs
 result-of f z zero zs e = absurd (nothing zs (sym (first-none f z) ∙ e))
@@ -47,14 +47,14 @@ add-one : (z : ℤ) (k : ℕ) → (z +ℤ pos 1) +ℤ pos k ≡ z +ℤ pos (suc 
 add-one z k = omega (arith, signed)
 
 value-go : (f : ℤ → Option (List ℤ)) (z : ℤ) (n : ℕ) → HasValue (first_result f (z +ℤ pos 1) n) → (o : Option (List ℤ)) → f z ≡ o → HasValue (first_result f z (suc n))
-value-go f z n more (Some q) h = record { value = q; found = first-more f z n ∙ ap (λ o. first_of o (first_result f (z +ℤ pos 1) n)) h }
+value-go f z n more (Some q) h = record { value = q; found = first-more f z n ∙ ap (λ o. first_found o (first_result f (z +ℤ pos 1) n)) h }
 value-go f z n more None h =
-    record { value = more.value; found = first-more f z n ∙ (ap (λ o. first_of o (first_result f (z +ℤ pos 1) n)) h ∙ more.found) }
+    record { value = more.value; found = first-more f z n ∙ (ap (λ o. first_found o (first_result f (z +ℤ pos 1) n)) h ∙ more.found) }
 
 has-result : (f : ℤ → Option (List ℤ)) (z : ℤ) (n k : ℕ) (zs : List ℤ) → k < n → f (z +ℤ pos k) ≡ Some zs → HasValue (first_result f z n)
 has-result f z zero k zs l e = absurd (omega (arith, l))
 has-result f z (suc n) zero zs l e =
-    record { value = zs; found = first-more f z n ∙ ap (λ o. first_of o (first_result f (z +ℤ pos 1) n)) (ap f (sym (+ℤ_idr z)) ∙ e) }
+    record { value = zs; found = first-more f z n ∙ ap (λ o. first_found o (first_result f (z +ℤ pos 1) n)) (ap f (sym (+ℤ_idr z)) ∙ e) }
 has-result f z (suc n) (suc k) zs l e = value-go f z n (has-result f (z +ℤ pos 1) n k zs (omega (arith, l)) (ap f (add-one z k) ∙ e)) (f z) refl
 
 -- the integers that are tried, by their distance from the least
@@ -100,21 +100,21 @@ has-numbers (suc k) p (z ∷ zs) n h e =
     has-result f (neg_ℤ (pos (2 ^ 128))) (2 ^ 129) (distance z) (z ∷ rest.value) (distance-less z h.0)
     (ap f (distance-is z h.0) ∙ ap (option_map (λ ys. z ∷ ys)) rest.found)
 
-text-is : (o : Option (List ℕ)) (s : List ℕ) → is_text o s ≡ true → o ≡ Some s
+text-is : (o : Option (List ℕ)) (s : List ℕ) → has_text o s ≡ true → o ≡ Some s
 text-is None s h = absurd (false≢true h)
 text-is (Some text) s h = ap Some ((bytes_eq-Decides text s).0 h)
 
-text-has : (o : Option (List ℕ)) (s : List ℕ) → o ≡ Some s → is_text o s ≡ true
-text-has o s e = ap (λ x. is_text x s) e ∙ (bytes_eq-Decides s s).1 refl
+text-has : (o : Option (List ℕ)) (s : List ℕ) → o ≡ Some s → has_text o s ≡ true
+text-has o s e = ap (λ x. has_text x s) e ∙ (bytes_eq-Decides s s).1 refl
 
 pub found-text : (v : ValueFormat) (zs : List ℤ) (s : List ℕ) → numbers_of_text v s ≡ Some zs → text_of_numbers v zs ≡ Some s
 unfolding numbers_of_text
-found-text v zs s e = text-is (text_of_numbers v zs) s (numbers-pass (numbers_count v) (λ ys. is_text (text_of_numbers v ys) s) zs e)
+found-text v zs s e = text-is (text_of_numbers v zs) s (numbers-pass (numbers_count v) (λ ys. has_text (text_of_numbers v ys) s) zs e)
 
 pub text-back : (v : ValueFormat) (zs : List ℤ) (s : List ℕ) → NumbersFitIn128Bits zs → text_of_numbers v zs ≡ Some s → numbers_of_text v s ≡ Some zs
 unfolding numbers_of_text
 text-back v zs s h e =
-    let p : List ℤ → Bool = λ ys. is_text (text_of_numbers v ys) s in
+    let p : List ℤ → Bool = λ ys. has_text (text_of_numbers v ys) s in
     let found = has-numbers (numbers_count v) p zs (count-told v zs s e) h (text-has (text_of_numbers v zs) s e) in
     let told = text-is (text_of_numbers v found.value) s (numbers-pass (numbers_count v) p found.value found.found) in
     found.found ∙ ap Some (one-text v found.value zs s told e)

@@ -9,7 +9,7 @@ use Rattle.json.specs.Json.{string}
 use Rattle.nest_flat.specs.AnyNative.{native_kind, native_numbers}
 use Rattle.nest_flat.specs.declared.any_native.AnyNative.{AnyNative}
 use Rattle.json_read.specs.FlatValues.{Range, signed, is_in, are_in, first_error, error_unless, text_error, value_error_of, ranges_of}
-use Rattle.json_read.specs.NativeNumbers.{ReadsValue}
+use Rattle.json_read.specs.NativeNumbers.{ReadsNativeValue}
 use Rattle.json_read.specs.TextNumbers.{is_within_precision, numbers_of_text}
 use Rattle.json_read.specs.declared.value_error.ValueError.{ValueError}
 use Rattle.json_read.specs.declared.value_error.ValueError.TheVariants.{InvalidText, PrecisionExceeded}
@@ -155,12 +155,12 @@ pub decimal-format : (p k : ℕ) → IsFormat (Decimal p k) (signed 128) (decima
 decimal-format p k = record { text = λ z f. refl; back = λ z s i e. (fits-128 z i, sym (same_Some _ _ e)); within = in-128; short = short-128 }
 
 -- a value of the format, from what is read
-pub number-result : (p : PrimitiveType) (v : ValueFormat) (r : Range) (T : ℤ → List ℕ) (Fits : ℤ → Type 0) (s : List ℕ) (make : ℤ → AnyNative) → IsFormat v r T Fits → value_error_of p v (string s) ≡ text_error v (r ∷ []) (numbers_of_text v s) → ((z : ℤ) → is_within_precision v (z ∷ []) ≡ true) → ((z : ℤ) → (native_kind (make z) ≡ p) × (native_numbers (make z) ≡ z ∷ [])) → (o : Option ℤ) → IsParsed T Fits s o → (res : Result AnyNative ValueError) → MatchOption o (res ≡ Err InvalidText) (λ n. res ≡ Ok (make n)) → ReadsValue p v (string s) res
-number-result p v r T Fits s make k read within kind None h res e = subst (λ x. ReadsValue p v (string s) x) (sym e) (read ∙ one-none v r T Fits s k h)
+pub number-result : (p : PrimitiveType) (v : ValueFormat) (r : Range) (T : ℤ → List ℕ) (Fits : ℤ → Type 0) (s : List ℕ) (make : ℤ → AnyNative) → IsFormat v r T Fits → value_error_of p v (string s) ≡ text_error v (r ∷ []) (numbers_of_text v s) → ((z : ℤ) → is_within_precision v (z ∷ []) ≡ true) → ((z : ℤ) → (native_kind (make z) ≡ p) × (native_numbers (make z) ≡ z ∷ [])) → (o : Option ℤ) → IsParsed T Fits s o → (res : Result AnyNative ValueError) → MatchOption o (res ≡ Err InvalidText) (λ n. res ≡ Ok (make n)) → ReadsNativeValue p v (string s) res
+number-result p v r T Fits s make k read within kind None h res e = subst (λ x. ReadsNativeValue p v (string s) x) (sym e) (read ∙ one-none v r T Fits s k h)
 number-result p v r T Fits s make k read within kind (Some z) h res e =
     let some = one-some v r T Fits s z k h (within z) in
-    let made : ReadsValue p v (string s) (Ok (make z)) = (read ∙ some.0, (kind z).0, (kind z).1 ∙ sym some.1) in
-    subst (λ x. ReadsValue p v (string s) x) (sym e) made
+    let made : ReadsNativeValue p v (string s) (Ok (make z)) = (read ∙ some.0, (kind z).0, (kind z).1 ∙ sym some.1) in
+    subst (λ x. ReadsNativeValue p v (string s) x) (sym e) made
 
 -- ---- intervals
 

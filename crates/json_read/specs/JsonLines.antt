@@ -4,7 +4,7 @@ use Rattle.std.specs.Str.{is_utf8}
 use Rattle.json.specs.Find.{is_null}
 use Rattle.json.specs.Json.{Json, document}
 use Rattle.json_read.specs.JsonSlots.{value_error, slot_of}
-use Rattle.json_read.specs.LineRows.{Row, Rows, rows_from}
+use Rattle.json_read.specs.LineRows.{LineRow, Rows, rows_from}
 use Rattle.json_read.specs.SlotAdded.{SlotAdded}
 use Rattle.json_read.specs.UnsupportedTypes.{unsupported_type}
 use Rattle.json_read.specs.declared.error.LineError.TheVariants as line_errors
@@ -29,7 +29,7 @@ use Rattle.nest_model.specs.Slot.{Slot}
 abbrev pub json_value : List ℕ → Option Json
 json_value line = if is_utf8 line then document line else None
 
-abbrev pub slot_unless_error : Option ValueError → Slot → Row
+abbrev pub slot_unless_error : Option ValueError → Slot → LineRow
 slot_unless_error None s = Ok s
 slot_unless_error (Some e) s = Err (line_errors.Value e)
 
@@ -46,12 +46,12 @@ spec_is_null_struct t j = is_null j && spec_is_struct (physical_type t)
 abbrev pub row_error : TypeTree → Json → Option ValueError
 row_error t j = if spec_is_null_struct t j then Some WrongType else value_error t j
 
-abbrev pub value_row : TypeTree → Option Json → Row
+abbrev pub value_row : TypeTree → Option Json → LineRow
 value_row t None = Err InvalidJson
 value_row t (Some j) = slot_unless_error (row_error t j) (slot_of t j)
 
 -- the slot of a line, or its error
-abbrev pub line_row : TypeTree → List ℕ → Row
+abbrev pub line_row : TypeTree → List ℕ → LineRow
 line_row t line = value_row t (json_value line)
 
 -- the slots of lines, or the index and the error of the first invalid line
@@ -79,12 +79,12 @@ spec_json_read_error line push_line_errors.Overflow = read_errors.Overflow
 spec_json_read_error line push_line_errors.Memory = read_errors.Memory
 
 -- the slot of a line was added to a builder
-abbrev pub LineAdded : Row → BuilderTree → BuilderTree → Type 0
+abbrev pub LineAdded : LineRow → BuilderTree → BuilderTree → Type 0
 LineAdded (Ok s) old new = SlotAdded s old new
 LineAdded (Err e) old new = ⊥
 
 -- the error of a line, or a limit or a failed allocation
-abbrev pub IsLineError : PushLineError → Row → Type 0
+abbrev pub IsLineError : PushLineError → LineRow → Type 0
 IsLineError (push_line_errors.Line e) row = row ≡ Err e
 IsLineError push_line_errors.Overflow row = Unit {0}
 IsLineError push_line_errors.Memory row = Unit {0}

@@ -74,20 +74,20 @@ abbrev mutual
 abbrev pub struct_slot : FieldTrees → Members → Slot
 struct_slot fs ms = slots.record_of (field_slots fs (member_slots fs ms))
 
-abbrev pub count_of : Items → ℕ
-count_of no_items = 0
-count_of (item j js) = suc (count_of js)
+abbrev pub json_item_count : Items → ℕ
+json_item_count no_items = 0
+json_item_count (item j js) = suc (json_item_count js)
 
 -- the number of items of a fixed-size list
-abbrev pub length_error : Option ℕ → ℕ → Option ValueError
-length_error None n = None
-length_error (Some size) n = error_unless (size == n) WrongLength
+abbrev pub list_length_error : Option ℕ → ℕ → Option ValueError
+list_length_error None n = None
+list_length_error (Some size) n = error_unless (size == n) WrongLength
 
 -- the error of an array for a physical type
 abbrev pub array_error : PhysicalType → ℕ → ValueFormat → Items → Option ValueError → Option ValueError
 array_error physical.List size v js inside = inside
 array_error physical.LargeList size v js inside = inside
-array_error physical.FixedSizeList size v js inside = first_error inside (length_error (Some size) (count_of js))
+array_error physical.FixedSizeList size v js inside = first_error inside (list_length_error (Some size) (json_item_count js))
 array_error p size v js inside = flat_error p size v (json.array js)
 
 abbrev pub object_error : PhysicalType → Option ValueError → Option ValueError

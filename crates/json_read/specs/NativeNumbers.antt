@@ -51,6 +51,6 @@ value_numbers v (json.string s) = unwrap_or (numbers_of_text v s) []
 value_numbers v j = numbers_in j
 
 -- the native value of that type and that format, or its error
-abbrev pub ReadsValue : PrimitiveType → ValueFormat → Json → Result AnyNative ValueError → Type 0
-ReadsValue kind v j (Ok x) = (value_error_of kind v j ≡ None) × (native_kind x ≡ kind) × (native_numbers x ≡ value_numbers v j)
-ReadsValue kind v j (Err e) = value_error_of kind v j ≡ Some e
+abbrev pub ReadsNativeValue : PrimitiveType → ValueFormat → Json → Result AnyNative ValueError → Type 0
+ReadsNativeValue kind v j (Ok x) = (value_error_of kind v j ≡ None) × (native_kind x ≡ kind) × (native_numbers x ≡ value_numbers v j)
+ReadsNativeValue kind v j (Err e) = value_error_of kind v j ≡ Some e

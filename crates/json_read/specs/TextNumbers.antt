@@ -6,27 +6,27 @@ use Rattle.json_write.specs.Formats.{text_of_numbers, numbers_count}
 use Rattle.json_write.specs.declared.format.ValueFormat.{ValueFormat}
 use Rattle.json_write.specs.declared.format.ValueFormat.TheVariants.{Decimal}
 
-abbrev pub first_of : Option (List ℤ) → Option (List ℤ) → Option (List ℤ)
-first_of None rest = rest
-first_of (Some zs) rest = Some zs
+abbrev pub first_found : Option (List ℤ) → Option (List ℤ) → Option (List ℤ)
+first_found None rest = rest
+first_found (Some zs) rest = Some zs
 
 -- the first result for `n` integers from `z` on
 unfoldable pub first_result : (ℤ → Option (List ℤ)) → ℤ → ℕ → Option (List ℤ)
 first_result f z zero = None
-first_result f z (suc n) = first_of (f z) (first_result f (z +ℤ pos 1) n)
+first_result f z (suc n) = first_found (f z) (first_result f (z +ℤ pos 1) n)
 
 -- the first `k` integers from -2^128 to below 2^128 that pass the test
 abbrev pub numbers_that : ℕ → (List ℤ → Bool) → Option (List ℤ)
 numbers_that zero p = if p [] then Some [] else None
 numbers_that (suc k) p = first_result (λ z. option_map (λ zs. z ∷ zs) (numbers_that k (λ zs. p (z ∷ zs)))) (neg_ℤ (pos (2 ^ 128))) (2 ^ 129)
 
-abbrev pub is_text : Option (List ℕ) → List ℕ → Bool
-is_text None s = false
-is_text (Some text) s = bytes_eq text s
+abbrev pub has_text : Option (List ℕ) → List ℕ → Bool
+has_text None s = false
+has_text (Some text) s = bytes_eq text s
 
 -- the numbers of the value with this text
 unfoldable pub numbers_of_text : ValueFormat → List ℕ → Option (List ℤ)
-numbers_of_text v s = numbers_that (numbers_count v) (λ zs. is_text (text_of_numbers v zs) s)
+numbers_of_text v s = numbers_that (numbers_count v) (λ zs. has_text (text_of_numbers v zs) s)
 
 -- a decimal has at most so many digits
 abbrev pub is_within_precision : ValueFormat → List ℤ → Bool

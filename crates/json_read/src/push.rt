@@ -7,7 +7,7 @@ ghost use Rattle.nest_any.specs.Words.{HasCompleteChildren, IsOfLists, IsComplet
 ghost use Rattle.json_read.specs.DistinctNames.{HasDistinctFieldNames};
 ghost use Rattle.json_read.specs.StructMembers.{MembersAdded, MemberAdded, child_error, child_named};
 ghost use Rattle.json_read.specs.FlatValues.{first_error};
-ghost use Rattle.json_read.specs.JsonSlots.{items_error, length_error, members_error, slot_of, struct_slot, value_error};
+ghost use Rattle.json_read.specs.JsonSlots.{items_error, list_length_error, members_error, slot_of, struct_slot, value_error};
 ghost use Rattle.json_read.specs.SlotAdded.{IsList, IsPushError, SlotAdded, SlotsAdded};
 ghost use Rattle.nest_memory.specs.TypeOf.{type_of};
 ghost use Rattle.nest_memory.specs.TypeTree.{fields_of, fixed_size};
@@ -108,8 +108,8 @@ fn push_list(
     requires size { size ≡ fixed_size (builder_type lists.old) }
     ensures lists { IsOfLists (physical_type (builder_type lists.old)) }
     ensures added { OnOk result (SlotAdded (slots.list (seal (map (λ v. slot_of (items_type (builder_type lists.old)) (value_view v)) items.now))) lists.old lists.new) }
-    ensures valid { OnOk result (first_error (items_error (items_type (builder_type lists.old)) (items_view items.now)) (length_error size (length items.now)) ≡ None) }
-    ensures error { IfErr result (λ e. IsPushError e (first_error (items_error (items_type (builder_type lists.old)) (items_view items.now)) (length_error size (length items.now)))) }
+    ensures valid { OnOk result (first_error (items_error (items_type (builder_type lists.old)) (items_view items.now)) (list_length_error size (length items.now)) ≡ None) }
+    ensures error { IfErr result (λ e. IsPushError e (first_error (items_error (items_type (builder_type lists.old)) (items_view items.now)) (list_length_error size (length items.now)))) }
 {
     lists.known();
     if let Err(error) = push_items(alloc, lists.child(), items) {

@@ -3,7 +3,7 @@ ghost use Rattle.std.specs.Prelude.{◌≡◌, ◌^◌, ◌<◌, Err, FitsSigned
 ghost use Rattle.std.specs.Int.{w32, w64};
 ghost use Rattle.json.specs.Json.{string};
 ghost use Rattle.json.specs.Value.{value_view};
-ghost use Rattle.json_read.specs.NativeNumbers.{ReadsValue};
+ghost use Rattle.json_read.specs.NativeNumbers.{ReadsNativeValue};
 ghost use Rattle.json_read.specs.declared.value_error.ValueError.TheVariants.{InvalidText};
 ghost use Rattle.json_write.specs.Formats.{has_format};
 ghost use Rattle.nest_flat.specs.declared.any_native.AnyNative.TheVariants as native;
@@ -39,7 +39,7 @@ pub(crate) fn value_of(
     value: &Value<'_>,
 ) -> Result<AnyNative, ValueError>
     requires { has_format kind format ≡ true }
-    ensures { ReadsValue kind format (value_view value.now) result }
+    ensures { ReadsNativeValue kind format (value_view value.now) result }
 {
     match value {
         Value::String(text) => value_of_text(kind, format, text.as_bytes()),
@@ -57,7 +57,7 @@ fn value_of_text(
     text: &[u8],
 ) -> Result<AnyNative, ValueError>
     requires { has_format kind format ≡ true }
-    ensures { ReadsValue kind format (string text.now) result }
+    ensures { ReadsNativeValue kind format (string text.now) result }
 {
     match kind {
         PrimitiveType::Int32 => value_of_32(format, text),
@@ -72,7 +72,7 @@ fn value_of_text(
 // Returns a value of 32 bits.
 fn value_of_32(format: ValueFormat, text: &[u8]) -> Result<AnyNative, ValueError>
     requires { has_format Int32 format ≡ true }
-    ensures { ReadsValue Int32 format (string text.now) result }
+    ensures { ReadsNativeValue Int32 format (string text.now) result }
 {
     match format {
         ValueFormat::Date => native_32(date_32(text)),
@@ -117,7 +117,7 @@ fn i64_to_i32(number: i64) -> Option<i32>
 // Returns a value of 64 bits.
 fn value_of_64(format: ValueFormat, text: &[u8]) -> Result<AnyNative, ValueError>
     requires { has_format Int64 format ≡ true }
-    ensures { ReadsValue Int64 format (string text.now) result }
+    ensures { ReadsNativeValue Int64 format (string text.now) result }
 {
     match format {
         ValueFormat::MillisecondDate => native_64(parse_millisecond_date(text)),
@@ -152,7 +152,7 @@ fn time_of_day(text: &[u8], unit: TimeUnit) -> Option<i64>
 // Returns a decimal.
 fn decimal_of(format: ValueFormat, text: &[u8]) -> Result<AnyNative, ValueError>
     requires { has_format Int128 format ≡ true }
-    ensures { ReadsValue Int128 format (string text.now) result }
+    ensures { ReadsNativeValue Int128 format (string text.now) result }
 {
     let ValueFormat::Decimal(precision, scale) = format else {
         return Err(ValueError::WrongType);
@@ -179,7 +179,7 @@ fn is_within(number: i128, precision: usize) -> bool
 // Returns an interval of days and milliseconds.
 fn days_ms_of_text(format: ValueFormat, text: &[u8]) -> Result<AnyNative, ValueError>
     requires { has_format DaysMs format ≡ true }
-    ensures { ReadsValue DaysMs format (string text.now) result }
+    ensures { ReadsNativeValue DaysMs format (string text.now) result }
 {
     let ValueFormat::DaysMs = format else {
         return Err(ValueError::WrongType);
@@ -193,7 +193,7 @@ fn days_ms_of_text(format: ValueFormat, text: &[u8]) -> Result<AnyNative, ValueE
 // Returns an interval of months, days and nanoseconds.
 fn month_day_nano_of_text(format: ValueFormat, text: &[u8]) -> Result<AnyNative, ValueError>
     requires { has_format MonthDayNano format ≡ true }
-    ensures { ReadsValue MonthDayNano format (string text.now) result }
+    ensures { ReadsNativeValue MonthDayNano format (string text.now) result }
 {
     let ValueFormat::MonthDayNano = format else {
         return Err(ValueError::WrongType);

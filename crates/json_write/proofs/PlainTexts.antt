@@ -15,7 +15,7 @@ use Rattle.json_write.specs.declared.format.ValueFormat.{ValueFormat}
 use Rattle.json_write.specs.declared.format.ValueFormat.TheVariants.{Number, Decimal, Date, MillisecondDate, Time, Timestamp, Duration, Months, DaysMs, MonthDayNano}
 use Rattle.json_write.specs.Calendar.{date_of}
 use Rattle.json_write.specs.Decimals.{decimal_text}
-use Rattle.json_write.specs.Digits.{digit, number_text, integer_text, last_digits, at_least, fraction_text}
+use Rattle.json_write.specs.Digits.{digit, number_text, signed_integer_text, last_digits, at_least, fraction_text}
 use Rattle.json_write.specs.Times.{year_text, calendar_text, date_text, clock_text, is_time_of_day, time_text, zone_text, timestamp_text, millisecond_date_text, duration_text, months_text, days_text, days_ms_text, month_day_nano_text, unit_digits, whole_seconds, subseconds}
 use Rattle.json_write.specs.declared.value_text.calendar.Date.{Date as CalendarDate}
 
@@ -52,7 +52,7 @@ plain-sign : (b : Bool) → IsPlain (sign_text b)
 plain-sign true = (omega arith, omega arith, tt)
 plain-sign false = tt
 
-plain-integer : (z : ℤ) → IsPlain (integer_text z)
+plain-integer : (z : ℤ) → IsPlain (signed_integer_text z)
 plain-integer z = plain-append (sign_text (int_lt z (pos 0))) (number_text (unsigned_abs z)) (plain-sign (int_lt z (pos 0))) (plain-number (unsigned_abs z))
 
 plain-at-least : (k n : ℕ) → IsPlain (at_least k n)
@@ -101,7 +101,7 @@ plain-zone false = tt
 plain-time : (k : ℕ) (n : ℤ) → IsPlain (time_text k n)
 plain-time k n =
     let second = unsigned_abs (whole_seconds k n) in
-    plain-if (is_time_of_day k n) (clock_text k second (subseconds k n)) (integer_text n) (plain-clock k second (subseconds k n)) (plain-integer n)
+    plain-if (is_time_of_day k n) (clock_text k second (subseconds k n)) (signed_integer_text n) (plain-clock k second (subseconds k n)) (plain-integer n)
 
 plain-timestamp : (k : ℕ) (utc : Bool) (n : ℤ) → IsPlain (timestamp_text k utc n)
 plain-timestamp k utc n =
@@ -123,16 +123,16 @@ plain-duration k n =
     (omega arith, omega arith, (omega arith, omega arith, plain-append (decimal_text k n) (83 ∷ []) (plain-decimal k n) (omega arith, omega arith, tt)))
 
 plain-months : (n : ℤ) → IsPlain (months_text n)
-plain-months n = (omega arith, omega arith, plain-append (integer_text n) (77 ∷ []) (plain-integer n) (omega arith, omega arith, tt))
+plain-months n = (omega arith, omega arith, plain-append (signed_integer_text n) (77 ∷ []) (plain-integer n) (omega arith, omega arith, tt))
 
 plain-days : (k : ℕ) (days units : ℤ) → IsPlain (days_text k days units)
 plain-days k days units =
-    plain-append (integer_text days) (68 ∷ 84 ∷ (decimal_text k units ++ 83 ∷ [])) (plain-integer days)
+    plain-append (signed_integer_text days) (68 ∷ 84 ∷ (decimal_text k units ++ 83 ∷ [])) (plain-integer days)
     (omega arith, omega arith, (omega arith, omega arith, plain-append (decimal_text k units) (83 ∷ []) (plain-decimal k units) (omega arith, omega arith, tt)))
 
 plain-month-day-nano : (months days ns : ℤ) → IsPlain (month_day_nano_text months days ns)
 plain-month-day-nano months days ns =
-    (omega arith, omega arith, plain-append (integer_text months) (77 ∷ days_text 9 days ns) (plain-integer months) (omega arith, omega arith, plain-days 9 days ns))
+    (omega arith, omega arith, plain-append (signed_integer_text months) (77 ∷ days_text 9 days ns) (plain-integer months) (omega arith, omega arith, plain-days 9 days ns))
 
 -- ---- native values
 

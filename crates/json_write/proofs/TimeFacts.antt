@@ -6,7 +6,7 @@ use Rattle.std.proofs.lemmas.Bool.Decides.{nat_tests, leb_tells}
 use Rattle.std.specs.Int.{int_div_euclid, int_rem_euclid}
 use Rattle.std.specs.Fmt.{sign_text}
 use Rattle.json_write.specs.Calendar.{IsDate, is_leap_year, days_in_month, date_of, day_number}
-use Rattle.json_write.specs.Digits.{digit, number_text, integer_text, last_digits, at_least, fraction_text}
+use Rattle.json_write.specs.Digits.{digit, number_text, signed_integer_text, last_digits, at_least, fraction_text}
 use Rattle.json_write.specs.Decimals.{decimal_text}
 use Rattle.json_write.specs.Times.{year_text, calendar_text, date_text, whole_seconds, subseconds, clock_text, is_time_of_day, time_text, zone_text, timestamp_text, millisecond_date_text, duration_text, months_text, days_text, days_ms_text, month_day_nano_text}
 use Rattle.json_write.specs.declared.value_text.calendar.Date.{Date}
@@ -65,7 +65,7 @@ no_letters_sign : (b : Bool) → NoLetters (sign_text b)
 no_letters_sign true = no_letters_cons 45 [] (omega arith) no_letters_nil
 no_letters_sign false = no_letters_nil
 
-pub no_letters_integer : (z : ℤ) → NoLetters (integer_text z)
+pub no_letters_integer : (z : ℤ) → NoLetters (signed_integer_text z)
 no_letters_integer z = no_letters_append (sign_text (int_lt z (pos 0))) (number_text (unsigned_abs z)) (no_letters_sign (int_lt z (pos 0))) (no_letters_number (unsigned_abs z))
 
 no_letters_least : (k n : ℕ) (b : Bool) → NoLetters (cond b (last_digits k n) (number_text n))
@@ -99,7 +99,7 @@ same_numbers true false m n e = absurd (omega (arith, ap (λ xs. get_or xs 0 0) 
 same_numbers false true m n e = absurd (omega (arith, ap (λ xs. get_or xs 0 0) e, (number_first m).1))
 same_numbers false false m n e = (number_injective n m e, refl)
 
-pub integer_injective : (y z : ℤ) → integer_text y ≡ integer_text z → y ≡ z
+pub integer_injective : (y z : ℤ) → signed_integer_text y ≡ signed_integer_text z → y ≡ z
 integer_injective y z e =
     let parts = same_numbers (int_lt y (pos 0)) (int_lt z (pos 0)) (unsigned_abs y) (unsigned_abs z) e in
     same_from_abs y z parts.0 parts.1
@@ -230,7 +230,7 @@ pub in_day : (z : ℤ) → (not (int_lt z (pos 0)) && int_lt z (pos 86_400)) ≡
 in_day (pos a) h = (in_day_nat a h, refl)
 in_day (negsuc a) h = cc
 
-same_times : (k : ℕ) (m n : ℤ) (a b : Bool) → is_time_of_day k m ≡ a → is_time_of_day k n ≡ b → cond a (clock_text k (unsigned_abs (whole_seconds k m)) (subseconds k m)) (integer_text m) ≡ cond b (clock_text k (unsigned_abs (whole_seconds k n)) (subseconds k n)) (integer_text n) → m ≡ n
+same_times : (k : ℕ) (m n : ℤ) (a b : Bool) → is_time_of_day k m ≡ a → is_time_of_day k n ≡ b → cond a (clock_text k (unsigned_abs (whole_seconds k m)) (subseconds k m)) (signed_integer_text m) ≡ cond b (clock_text k (unsigned_abs (whole_seconds k n)) (subseconds k n)) (signed_integer_text n) → m ≡ n
 same_times k m n true true h i e =
     let p = in_day (whole_seconds k m) h in
     let q = in_day (whole_seconds k n) i in
@@ -284,11 +284,11 @@ pub duration_injective : (k : ℕ) (m n : ℤ) → duration_text k m ≡ duratio
 duration_injective k m n e = decimal_injective k m n (same_parts (decimal_text k m) (decimal_text k n) (codes "S") (codes "S") refl (ap (λ xs. drop 2 xs) e)).0
 
 pub months_injective : (m n : ℤ) → months_text m ≡ months_text n → m ≡ n
-months_injective m n e = integer_injective m n (same_parts (integer_text m) (integer_text n) (codes "M") (codes "M") refl (ap (λ xs. drop 1 xs) e)).0
+months_injective m n e = integer_injective m n (same_parts (signed_integer_text m) (signed_integer_text n) (codes "M") (codes "M") refl (ap (λ xs. drop 1 xs) e)).0
 
 pub days_injective : (k : ℕ) (a m b n : ℤ) → days_text k a m ≡ days_text k b n → (a ≡ b) × (m ≡ n)
 days_injective k a m b n e =
-    let days = same_until_letter (integer_text a) (integer_text b) 68 (84 ∷ (decimal_text k m ++ codes "S")) (84 ∷ (decimal_text k n ++ codes "S")) (omega arith) (no_letters_integer a) (no_letters_integer b) e in
+    let days = same_until_letter (signed_integer_text a) (signed_integer_text b) 68 (84 ∷ (decimal_text k m ++ codes "S")) (84 ∷ (decimal_text k n ++ codes "S")) (omega arith) (no_letters_integer a) (no_letters_integer b) e in
     (integer_injective a b days.0, decimal_injective k m n (same_parts (decimal_text k m) (decimal_text k n) (codes "S") (codes "S") refl (ap (λ xs. drop 1 xs) days.1)).0)
 
 pub days_ms_injective : (a m b n : ℤ) → days_ms_text a m ≡ days_ms_text b n → (a ≡ b) × (m ≡ n)
@@ -296,6 +296,6 @@ days_ms_injective a m b n e = days_injective 3 a m b n (ap (λ xs. drop 1 xs) e)
 
 pub month_day_nano_injective : (x a m y b n : ℤ) → month_day_nano_text x a m ≡ month_day_nano_text y b n → (x ≡ y) × (a ≡ b) × (m ≡ n)
 month_day_nano_injective x a m y b n e =
-    let months = same_until_letter (integer_text x) (integer_text y) 77 (days_text 9 a m) (days_text 9 b n) (omega arith) (no_letters_integer x) (no_letters_integer y) (ap (λ xs. drop 1 xs) e) in
+    let months = same_until_letter (signed_integer_text x) (signed_integer_text y) 77 (days_text 9 a m) (days_text 9 b n) (omega arith) (no_letters_integer x) (no_letters_integer y) (ap (λ xs. drop 1 xs) e) in
     let days = days_injective 9 a m b n months.1 in
     (integer_injective x y months.0, days.0, days.1)

@@ -5,7 +5,7 @@ use Rattle.std.proofs.lemmas.Bool.Decides.{nat_tests}
 use Rattle.std.specs.Int.{int_div_euclid, int_rem_euclid}
 use native.Mathlib.Nat.{div-le_self}
 use Rattle.std.specs.Option.{SomeIff}
-use Rattle.json_write.specs.Digits.{integer_text}
+use Rattle.json_write.specs.Digits.{signed_integer_text}
 use Rattle.json_write.specs.Reading.{IsParsed, IsTimeOf}
 use Rattle.json_write.specs.Times.{date_text, whole_seconds, subseconds, clock_text, clock_length, is_time_of_day, time_text, timestamp_text, millisecond_date_text}
 use Rattle.json_write.proofs.Signed.{signed}
@@ -43,12 +43,12 @@ by_cases true f g = f refl
 by_cases false f g = g refl
 
 time_in : (k : ℕ) (n : ℤ) → is_time_of_day k n ≡ true → time_text k n ≡ clock_text k (unsigned_abs (whole_seconds k n)) (subseconds k n)
-time_in k n h = ap (λ b. cond b (clock_text k (unsigned_abs (whole_seconds k n)) (subseconds k n)) (integer_text n)) h
+time_in k n h = ap (λ b. cond b (clock_text k (unsigned_abs (whole_seconds k n)) (subseconds k n)) (signed_integer_text n)) h
 
-time_out : (k : ℕ) (n : ℤ) → is_time_of_day k n ≡ false → time_text k n ≡ integer_text n
-time_out k n h = ap (λ b. cond b (clock_text k (unsigned_abs (whole_seconds k n)) (subseconds k n)) (integer_text n)) h
+time_out : (k : ℕ) (n : ℤ) → is_time_of_day k n ≡ false → time_text k n ≡ signed_integer_text n
+time_out k n h = ap (λ b. cond b (clock_text k (unsigned_abs (whole_seconds k n)) (subseconds k n)) (signed_integer_text n)) h
 
-no_colon : (k s f : ℕ) (n : ℤ) → ¬ (clock_text k s f ≡ integer_text n)
+no_colon : (k s f : ℕ) (n : ℤ) → ¬ (clock_text k s f ≡ signed_integer_text n)
 no_colon k s f n e = omega (arith, sym (colon_at k s f) ∙ ap (λ xs. get_or xs 2 0) e, no_letters_integer n 2)
 
 within_day : (s : ℕ) → s < 86_400 → (not (nat_lt s 0) && nat_lt s 86_400) ≡ true
@@ -66,7 +66,7 @@ time_result text k second fraction seconds small part same t (Some n) h =
     let is : is_time_of_day k n ≡ true = ap (λ z. not (int_lt z (pos 0)) && int_lt z (pos 86_400)) whole ∙ within_day second small in
     (h.0, t ∙ ap (λ z. clock_text k (unsigned_abs z) fraction) (sym whole) ∙ ap (λ f. clock_text k (unsigned_abs (whole_seconds k n)) f) (sym h.2) ∙ sym (time_in k n is))
 
-pub time_number : (text : List ℕ) (k : ℕ) → ((p : ℕ × ℕ) → (p.0 < 86_400) × (p.1 < 10 ^ k) → ¬ (text ≡ clock_text k p.0 p.1)) → (r : Option ℤ) → IsParsed integer_text (λ n. FitsSigned w64 n × (is_time_of_day k n ≡ false)) text r → IsParsed (time_text k) (FitsSigned w64) text r
+pub time_number : (text : List ℕ) (k : ℕ) → ((p : ℕ × ℕ) → (p.0 < 86_400) × (p.1 < 10 ^ k) → ¬ (text ≡ clock_text k p.0 p.1)) → (r : Option ℤ) → IsParsed signed_integer_text (λ n. FitsSigned w64 n × (is_time_of_day k n ≡ false)) text r → IsParsed (time_text k) (FitsSigned w64) text r
 time_number text k none None h = λ n fits e. by_cases (is_time_of_day k n)
     (λ is. none (unsigned_abs (whole_seconds k n), subseconds k n) ((in_day (whole_seconds k n) is).0, remainder_bound (10 ^ k) n (ten_some k)) (e ∙ time_in k n is))
     (λ isnt. h n (fits, isnt) (e ∙ time_out k n isnt))

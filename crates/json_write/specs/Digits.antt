@@ -11,8 +11,8 @@ unfoldable pub number_text : ℕ → List ℕ
 number_text n = if n == 0 then 48 ∷ [] else map digit (digits_of 10 n)
 
 -- an integer, with a sign if it is negative
-abbrev pub integer_text : ℤ → List ℕ
-integer_text z = sign_text (int_lt z (pos 0)) ++ number_text (unsigned_abs z)
+abbrev pub signed_integer_text : ℤ → List ℕ
+signed_integer_text z = sign_text (int_lt z (pos 0)) ++ number_text (unsigned_abs z)
 
 -- the last `k` digits of a number, with leading zeros if it has fewer
 unfoldable pub last_digits : ℕ → ℕ → List ℕ

@@ -4,7 +4,7 @@ use Rattle.std.specs.Prelude.{ℕ, suc, ◌+◌, ◌/◌, ◌%◌, ◌^◌, ◌=
 use Rattle.std.specs.Int.{int_div_euclid, int_rem_euclid}
 use Rattle.json_write.specs.Calendar.{date_of}
 use Rattle.json_write.specs.Decimals.{decimal_text}
-use Rattle.json_write.specs.Digits.{integer_text, last_digits, at_least, fraction_text}
+use Rattle.json_write.specs.Digits.{signed_integer_text, last_digits, at_least, fraction_text}
 use Rattle.json_write.specs.declared.value_text.calendar.Date.{Date}
 use Rattle.nest_memory.specs.declared.datatypes.TimeUnit.{TimeUnit}
 use Rattle.nest_memory.specs.declared.datatypes.TimeUnit.TheVariants.{Second, Millisecond, Microsecond, Nanosecond}
@@ -57,7 +57,7 @@ is_time_of_day k n = not (int_lt (whole_seconds k n) (pos 0)) && int_lt (whole_s
 
 -- the units since midnight as a time of day; any other number is itself
 abbrev pub time_text : ℕ → ℤ → List ℕ
-time_text k n = if is_time_of_day k n then clock_text k (unsigned_abs (whole_seconds k n)) (subseconds k n) else integer_text n
+time_text k n = if is_time_of_day k n then clock_text k (unsigned_abs (whole_seconds k n)) (subseconds k n) else signed_integer_text n
 
 -- `Z` marks UTC
 abbrev pub zone_text : Bool → List ℕ
@@ -79,11 +79,11 @@ abbrev pub duration_text : ℕ → ℤ → List ℕ
 duration_text k n = codes "PT" ++ (decimal_text k n ++ codes "S")
 
 abbrev pub months_text : ℤ → List ℕ
-months_text months = codes "P" ++ (integer_text months ++ codes "M")
+months_text months = codes "P" ++ (signed_integer_text months ++ codes "M")
 
 -- the days and the seconds after them
 abbrev pub days_text : ℕ → ℤ → ℤ → List ℕ
-days_text k days units = integer_text days ++ (codes "DT" ++ (decimal_text k units ++ codes "S"))
+days_text k days units = signed_integer_text days ++ (codes "DT" ++ (decimal_text k units ++ codes "S"))
 
 -- days and milliseconds
 abbrev pub days_ms_text : ℤ → ℤ → List ℕ
@@ -91,4 +91,4 @@ days_ms_text days ms = codes "P" ++ days_text 3 days ms
 
 -- months, days and nanoseconds
 abbrev pub month_day_nano_text : ℤ → ℤ → ℤ → List ℕ
-month_day_nano_text months days ns = codes "P" ++ (integer_text months ++ (codes "M" ++ days_text 9 days ns))
+month_day_nano_text months days ns = codes "P" ++ (signed_integer_text months ++ (codes "M" ++ days_text 9 days ns))

@@ -20,7 +20,7 @@ use Rattle.nest_build.specs.Children.{list_child}
 use Rattle.nest_build.specs.NumberRows.{number_row_fits, number_row_items, number_row_past}
 use Rattle.nest_build.specs.Slices.{row_item, row_len}
 use Rattle.listcut_rows.specs.RowsBuilder.{item_total, tree_of}
-use Rattle.listcut_rows.specs.RowSlots.{row_slot}
+use Rattle.listcut_rows.specs.RowSlots.{optional_row_slot}
 use Rattle.listcut_rows.proofs.ItemsOfRow.{int64_value, row-slot}
 
 module _ (t : TypeTree) (rows : List Row) (items : Layout) (row : Option (List (Option ℤ))) (int64 : layout_type items ≡ types.int64) where
@@ -28,7 +28,7 @@ module _ (t : TypeTree) (rows : List Row) (items : Layout) (row : Option (List (
   number = ap physical_type int64
 
   -- an accepted row is its slot, adds its items, and keeps their type
-  pub row-last : (new : BuilderTree) → Accepted (row_item int64_value row) (tree_of t rows items) new → own_slots new ≡ own_slots (tree_of t rows items) ++ row_slot row ∷ []
+  pub row-last : (new : BuilderTree) → Accepted (row_item int64_value row) (tree_of t rows items) new → own_slots new ≡ own_slots (tree_of t rows items) ++ optional_row_slot row ∷ []
   row-last new a = a.last ∙ ap (λ s. own_slots (tree_of t rows items) ++ s ∷ []) (row-slot row)
 
   pub row-items : (new : BuilderTree) → Accepted (row_item int64_value row) (tree_of t rows items) new → item_total new ≡ item_total (tree_of t rows items) + row_len row

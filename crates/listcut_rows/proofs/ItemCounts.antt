@@ -19,10 +19,10 @@ use Rattle.nest_model.specs.Slot.{Slot, seal}
 use Rattle.nest_take.specs.Limits.{PassesLimits}
 use Rattle.nest_take.specs.Taken.{RefusesTake}
 use Rattle.nest_take.specs.Indices.{AreBelow, count_at, item_indices}
-use Rattle.listcut_rows.specs.Rows.{item_count, row_len}
+use Rattle.listcut_rows.specs.Rows.{item_count, list_row_len}
 use Rattle.listcut_rows.proofs.Sealed.{unseal-seal}
 
-row-items : (valid : Bool) (items : List Slot) (n : ℕ) → length items ≡ n → row_len (cond valid (slots.list (seal items)) slots.null) ≡ cond valid n 0
+row-items : (valid : Bool) (items : List Slot) (n : ℕ) → length items ≡ n → list_row_len (cond valid (slots.list (seal items)) slots.null) ≡ cond valid n 0
 row-items true items n e = ap length (unseal-seal items) ∙ e
 row-items false items n e = refl
 
@@ -30,15 +30,15 @@ module _ (t : TypeTree) (os : List ℕ) (c : Layout) (va : Validity) where
   abbrev lists : Layout
   lists = layouts.list false t os c va
 
-  row-count : (i : ℕ) → row_len (slot lists i) ≡ count_at os va i
+  row-count : (i : ℕ) → list_row_len (slot lists i) ≡ count_at os va i
   row-count i = row-items (valid_at va i) (run (slot c) (begin os i) (extent os i)) (extent os i) (length-run (slot c) (begin os i) (extent os i))
 
   items-selected : (is : List ℕ) → AreBelow is (len lists) → item_count (selected (slots_of lists) is) ≡ sum_by (count_at os va) is
   items-selected [] h = refl
   items-selected (i ∷ is) h =
       let s = get_or (slots_of lists) i slots.null in
-      let here : row_len s ≡ count_at os va i = ap row_len (slot-place lists i slots.null (h 0 0 (omega arith))) ∙ row-count i in
-      sum_by-cons row_len s (selected (slots_of lists) is)
+      let here : list_row_len s ≡ count_at os va i = ap list_row_len (slot-place lists i slots.null (h 0 0 (omega arith))) ∙ row-count i in
+      sum_by-cons list_row_len s (selected (slots_of lists) is)
       ∙ ap (λ n. n + item_count (selected (slots_of lists) is)) here
       ∙ ap (λ n. count_at os va i + n) (items-selected is (λ k d l. h (suc k) d (omega arith)))
       ∙ sym (sum_by-cons (count_at os va) i is)

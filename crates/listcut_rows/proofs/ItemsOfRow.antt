@@ -11,11 +11,11 @@ use Rattle.nest_model.specs.BuilderInput.{value_item}
 use Rattle.nest_model.specs.Slot as slots
 use Rattle.nest_model.specs.Slot.{seal}
 use Rattle.nest_build.specs.Slices.{row_item, row_len as len_of_row}
-use Rattle.listcut_rows.specs.Rows.{row_len}
-use Rattle.listcut_rows.specs.RowSlots.{item_slot, row_slot, slot_of_row}
+use Rattle.listcut_rows.specs.Rows.{list_row_len}
+use Rattle.listcut_rows.specs.RowSlots.{item_slot, optional_row_slot, slot_of_row}
 use Rattle.listcut_rows.proofs.Sealed.{unseal-seal}
 
-pub items-len : (row : Option (Bor (List (Option ℤ)))) → len_of_row (option_copied row) ≡ row_len (slot_of_row row)
+pub items-len : (row : Option (Bor (List (Option ℤ)))) → len_of_row (option_copied row) ≡ list_row_len (slot_of_row row)
 items-len None = refl
 items-len (Some items) = sym (ap length (unseal-seal (map item_slot items.now)) ∙ length-map items.now item_slot)
 
@@ -28,6 +28,6 @@ item-slots [] = refl
 item-slots (None ∷ xs) = let t = item-slots xs in λ i. slots.null ∷ t i
 item-slots (Some z ∷ xs) = let t = item-slots xs in λ i. slots.number (z ∷ []) ∷ t i
 
-pub row-slot : (r : Option (List (Option ℤ))) → slot_of_item (row_item int64_value r) ≡ row_slot r
+pub row-slot : (r : Option (List (Option ℤ))) → slot_of_item (row_item int64_value r) ≡ optional_row_slot r
 row-slot None = refl
 row-slot (Some xs) = ap slots.list (slots-sealed (map (value_item int64_value) xs) ∙ ap seal (item-slots xs))

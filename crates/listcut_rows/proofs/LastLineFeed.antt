@@ -8,7 +8,7 @@ use Rattle.nest_model.specs.Slot as slots
 use Rattle.nest_model.specs.Slot.{Slot, unseal}
 use Rattle.listcut_rows.specs.Rows.{IsRow, AreRows}
 use Rattle.listcut_rows.specs.Grammar.{lines_of, parsed_rows_after, parsed_rows}
-use Rattle.listcut_rows.specs.RowText.{item_text, row_text, rows_text, IsTextOf}
+use Rattle.listcut_rows.specs.RowText.{item_text, row_text, rows_text, IsRowsText}
 use Rattle.listcut_rows.proofs.RoundTrip.{text_again}
 
 -- a line feed at the end does not change the lines, except after nothing or another line feed
@@ -50,6 +50,6 @@ unended_lines (row ∷ rows) bytes fits e =
     let whole : end.0 ++ end.1 ∷ 10 ∷ [] ≡ rows_text (row ∷ rows) = sym (append_assoc end.0 (end.1 ∷ []) (10 ∷ [])) ∙ ap (λ l. l ++ 10 ∷ []) (sym same) ∙ sym e in
     ap lines_of same ∙ feed_off end.0 end.1 end.2 ∙ ap lines_of whole
 
-pub text_read : (bytes : List ℕ) (rows : List Slot) → AreRows rows → IsTextOf bytes rows → parsed_rows bytes ≡ Ok rows
+pub text_read : (bytes : List ℕ) (rows : List Slot) → AreRows rows → IsRowsText bytes rows → parsed_rows bytes ≡ Ok rows
 text_read bytes rows fits (inl whole) = ap parsed_rows (sym whole) ∙ text_again rows fits
 text_read bytes rows fits (inr lacks) = ap (parsed_rows_after 0 0) (unended_lines rows bytes fits.0 lacks) ∙ text_again rows fits

@@ -15,10 +15,10 @@ use Rattle.std.proofs.lemmas.List.Sums.{sum_by-append}
 use Rattle.std.proofs.lemmas.List.Concat.{flat_map-cons}
 use Rattle.nest_model.specs.Slot as slots
 use Rattle.nest_model.specs.Slot.{Slot, Slots, seal, unseal, no_slots, more_slots}
-use Rattle.listcut_rows.specs.Rows.{row_len, item_count, IsItem, IsRow, AreRows}
+use Rattle.listcut_rows.specs.Rows.{list_row_len, item_count, IsItem, IsRow, AreRows}
 use Rattle.listcut_rows.proofs.Sealed.{unseal-seal}
 use Rattle.listcut_rows.specs.Grammar.{is_decimal, number_below, parsed_number, parsed_item, parsed_items, all_of, bracketed, parsed_row, lines_of, parsed_rows_after, parsed_rows, prepend_row}
-use Rattle.listcut_rows.specs.RowText.{item_text, row_text, rows_text, IsTextOf}
+use Rattle.listcut_rows.specs.RowText.{item_text, row_text, rows_text, IsRowsText}
 use Rattle.listcut_rows.proofs.Digits.{own}
 use Rattle.listcut_rows.proofs.Separated.{is_byte}
 
@@ -199,14 +199,14 @@ lines_take above items (line ∷ lines) rows few e =
           absurd (let clash : Err (above + 1) ≡ Ok rows = sym bad ∙ e in cc)
       | inr found ↦
           let row = found.0 in
-          let step : parsed_rows_after above items (line ∷ lines) ≡ cond (ltb (items + row_len row) (2 ^ 31)) (prepend_row row (parsed_rows_after (above + 1) (items + row_len row) lines)) (Err (above + 1)) = rw (found.1, parsed_rows_after) refl in
-          elim (selected (ltb (items + row_len row) (2 ^ 31)) (prepend_row row (parsed_rows_after (above + 1) (items + row_len row) lines)) (Err (above + 1)) (Ok rows) (sym step ∙ e)) [
+          let step : parsed_rows_after above items (line ∷ lines) ≡ cond (ltb (items + list_row_len row) (2 ^ 31)) (prepend_row row (parsed_rows_after (above + 1) (items + list_row_len row) lines)) (Err (above + 1)) = rw (found.1, parsed_rows_after) refl in
+          elim (selected (ltb (items + list_row_len row) (2 ^ 31)) (prepend_row row (parsed_rows_after (above + 1) (items + list_row_len row) lines)) (Err (above + 1)) (Ok rows) (sym step ∙ e)) [
             | inl within ↦
-                let small : items + row_len row < 2 ^ 31 = ltb-true _ _ within.0 in
-                let o = onto_ok row (parsed_rows_after (above + 1) (items + row_len row) lines) rows within.1 in
+                let small : items + list_row_len row < 2 ^ 31 = ltb-true _ _ within.0 in
+                let o = onto_ok row (parsed_rows_after (above + 1) (items + list_row_len row) lines) rows within.1 in
                 let first = row_takes line row found.1 in
-                let others = lines_take (above + 1) (items + row_len row) lines o.0 small o.1 in
-                let sum : item_count (row ∷ o.0) ≡ row_len row + item_count o.0 = sum_by-append row_len (row ∷ []) o.0 ∙ ap (λ n. n + item_count o.0) (zero-add (row_len row)) in
+                let others = lines_take (above + 1) (items + list_row_len row) lines o.0 small o.1 in
+                let sum : item_count (row ∷ o.0) ≡ list_row_len row + item_count o.0 = sum_by-append list_row_len (row ∷ []) o.0 ∙ ap (λ n. n + item_count o.0) (zero-add (list_row_len row)) in
                 subst (LinesTake items (line ∷ lines)) o.2 ((first.0, others.0), omega (arith, others.1), ap (λ t. t ∷ map row_text o.0) first.1 ∙ ap (λ ts. line ∷ ts) others.2)
             | inr many ↦ absurd (let clash : Err (above + 1) ≡ Ok rows = many.1 in cc)
           ]
@@ -250,7 +250,7 @@ ended_text : (rows : List Slot) → ended (map row_text rows) ≡ rows_text rows
 ended_text [] = refl
 ended_text (row ∷ rows) = flat_map-cons (λ l. l ++ 10 ∷ []) (row_text row) (map row_text rows) ∙ ap (λ l. (row_text row ++ 10 ∷ []) ++ l) (ended_text rows) ∙ sym (flat_map-cons (λ r. row_text r ++ 10 ∷ []) row rows)
 
-pub bytes_spelled : (bytes : List ℕ) (rows : List Slot) → parsed_rows bytes ≡ Ok rows → AreRows rows × IsTextOf bytes rows
+pub bytes_spelled : (bytes : List ℕ) (rows : List Slot) → parsed_rows bytes ≡ Ok rows → AreRows rows × IsRowsText bytes rows
 bytes_spelled bytes rows e =
     let t = lines_take 0 0 (lines_of bytes) rows (lit< tt) e in
     ((t.0, omega (arith, t.1)), subst (Ends bytes) (ap ended (sym t.2) ∙ ended_text rows) (lines_back bytes))

@@ -14,7 +14,7 @@ use Rattle.std.proofs.lemmas.List.Sums.{sum_by-append}
 use Rattle.std.proofs.lemmas.List.Concat.{flat_map-cons}
 use Rattle.nest_model.specs.Slot as slots
 use Rattle.nest_model.specs.Slot.{Slot, Slots, seal, unseal, no_slots, more_slots}
-use Rattle.listcut_rows.specs.Rows.{row_len, item_count, IsItem, IsRow, AreRows}
+use Rattle.listcut_rows.specs.Rows.{list_row_len, item_count, IsItem, IsRow, AreRows}
 use Rattle.listcut_rows.specs.Grammar.{is_decimal, number_below, parsed_number, parsed_item, parsed_items, all_of, bracketed, parsed_row, lines_of, parsed_rows_after, parsed_rows, prepend_row}
 use Rattle.listcut_rows.specs.RowText.{item_text, row_text, rows_text}
 use Rattle.listcut_rows.proofs.Digits.{AreDigits, own}
@@ -184,11 +184,11 @@ rows_again : (rows : List Slot) (above items : ℕ) → AllByRecursion IsRow row
 unfolding parsed_rows_after
 rows_again [] above items fits few = refl
 rows_again (row ∷ rows) above items fits few =
-    let sum : item_count (row ∷ rows) ≡ row_len row + item_count rows = sum_by-append row_len (row ∷ []) rows ∙ ap (λ n. n + item_count rows) (zero-add (row_len row)) in
-    let here : items + row_len row < 2 ^ 31 = omega arith in
-    let rest : (items + row_len row) + item_count rows < 2 ^ 31 = omega arith in
-    let step : parsed_rows_after above items (row_text row ∷ map row_text rows) ≡ prepend_row row (parsed_rows_after (above + 1) (items + row_len row) (map row_text rows)) = rw (row_again row fits.0, parsed_rows_after) (cond-true _ _ _ (lt-ltb _ _ here)) in
-    step ∙ ap (prepend_row row) (rows_again rows (above + 1) (items + row_len row) fits.1 rest)
+    let sum : item_count (row ∷ rows) ≡ list_row_len row + item_count rows = sum_by-append list_row_len (row ∷ []) rows ∙ ap (λ n. n + item_count rows) (zero-add (list_row_len row)) in
+    let here : items + list_row_len row < 2 ^ 31 = omega arith in
+    let rest : (items + list_row_len row) + item_count rows < 2 ^ 31 = omega arith in
+    let step : parsed_rows_after above items (row_text row ∷ map row_text rows) ≡ prepend_row row (parsed_rows_after (above + 1) (items + list_row_len row) (map row_text rows)) = rw (row_again row fits.0, parsed_rows_after) (cond-true _ _ _ (lt-ltb _ _ here)) in
+    step ∙ ap (prepend_row row) (rows_again rows (above + 1) (items + list_row_len row) fits.1 rest)
 
 pub text_again : (rows : List Slot) → AreRows rows → parsed_rows (rows_text rows) ≡ Ok rows
 text_again rows fits = ap (parsed_rows_after 0 0) (lines_again rows fits.0) ∙ rows_again rows 0 0 fits.0 (omega (arith, fits.1))

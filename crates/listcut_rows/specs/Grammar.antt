@@ -5,7 +5,7 @@ use Rattle.std.specs.Char.{is_ascii_digit}
 use Rattle.std.specs.Str.Parse.{digits_value}
 use Rattle.nest_model.specs.Slot as slots
 use Rattle.nest_model.specs.Slot.{Slot, seal}
-use Rattle.listcut_rows.specs.Rows.{row_len}
+use Rattle.listcut_rows.specs.Rows.{list_row_len}
 
 -- ---- numbers
 
@@ -73,7 +73,7 @@ unfoldable pub parsed_rows_after : ℕ → ℕ → List (List ℕ) → Result (L
 parsed_rows_after above items [] = Ok []
 parsed_rows_after above items (line ∷ lines) = elim (parsed_row line) [
   | None ↦ Err (above + 1)
-  | Some row ↦ if nat_lt (items + row_len row) (2 ^ 31) then prepend_row row (parsed_rows_after (above + 1) (items + row_len row) lines) else Err (above + 1)
+  | Some row ↦ if nat_lt (items + list_row_len row) (2 ^ 31) then prepend_row row (parsed_rows_after (above + 1) (items + list_row_len row) lines) else Err (above + 1)
 ]
 
 -- the rows of the bytes, or the number, from 1, of the first invalid line

@@ -11,10 +11,10 @@ abbrev pub item_slot : Option ℤ → Slot
 item_slot x = optional (λ z. slots.number (z ∷ [])) x
 
 -- null or the list of the items
-abbrev pub row_slot : Option (List (Option ℤ)) → Slot
-row_slot None = slots.null
-row_slot (Some xs) = slots.list (seal (map item_slot xs))
+abbrev pub optional_row_slot : Option (List (Option ℤ)) → Slot
+optional_row_slot None = slots.null
+optional_row_slot (Some xs) = slots.list (seal (map item_slot xs))
 
 -- the slot of a borrowed row
 abbrev pub slot_of_row : Option (Bor (List (Option ℤ))) → Slot
-slot_of_row row = row_slot (option_copied row)
+slot_of_row row = optional_row_slot (option_copied row)

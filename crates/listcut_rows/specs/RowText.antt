@@ -4,7 +4,7 @@ use Rattle.std.specs.List.{join_with_byte}
 use Rattle.std.specs.Fmt.{signed_decimal}
 use Rattle.nest_model.specs.Slot as slots
 use Rattle.nest_model.specs.Slot.{Slot, unseal}
-use Rattle.listcut_rows.specs.Rows.{row_len, item_count, IsRow, AreRows}
+use Rattle.listcut_rows.specs.Rows.{list_row_len, item_count, IsRow, AreRows}
 
 -- `null` or an integer; other slots are no items
 abbrev pub item_text : Slot → List ℕ
@@ -23,10 +23,10 @@ abbrev pub rows_text : List Slot → List ℕ
 rows_text rows = flat_map (λ row. row_text row ++ 10 ∷ []) rows
 
 -- the bytes are the text of the rows, which may lack its last line feed
-abbrev pub IsTextOf : List ℕ → List Slot → Type 0
-IsTextOf bytes rows = (rows_text rows ≡ bytes) ⊎ (rows_text rows ≡ bytes ++ 10 ∷ [])
+abbrev pub IsRowsText : List ℕ → List Slot → Type 0
+IsRowsText bytes rows = (rows_text rows ≡ bytes) ⊎ (rows_text rows ≡ bytes ++ 10 ∷ [])
 
 -- the first k - 1 lines are rows with fewer than 2^31 items in total; line k is no row, or exceeds that number
 abbrev pub IsFirstInvalidLine : List (List ℕ) → ℕ → Type 0
 IsFirstInvalidLine lines k = (rows : List Slot) × (line : List ℕ) × (after : List (List ℕ)) × AreRows rows × (lines ≡ map row_text rows ++ line ∷ after) × (length rows + 1 ≡ k)
-    × ((row : Slot) → IsRow row → row_text row ≡ line → 2 ^ 31 ≤ item_count rows + row_len row)
+    × ((row : Slot) → IsRow row → row_text row ≡ line → 2 ^ 31 ≤ item_count rows + list_row_len row)

@@ -6,13 +6,13 @@ use Rattle.nest_model.specs.Slot as slots
 use Rattle.nest_model.specs.Slot.{Slot, unseal}
 
 -- the number of items of a row
-abbrev pub row_len : Slot → ℕ
-row_len (slots.list items) = length (unseal items)
-row_len other = 0
+abbrev pub list_row_len : Slot → ℕ
+list_row_len (slots.list items) = length (unseal items)
+list_row_len other = 0
 
 -- the number of items of all rows
 abbrev pub item_count : List Slot → ℕ
-item_count rows = sum_by row_len rows
+item_count rows = sum_by list_row_len rows
 
 -- ---- the slots that are rows
 

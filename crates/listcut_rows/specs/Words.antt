@@ -4,7 +4,7 @@ pub use Rattle.listcut_rows.specs.Outcome.{IsRunResult, IsSelectError, IsInputOr
 pub use Rattle.listcut_rows.specs.Rows.{AreRows, item_count}
 pub use Rattle.listcut_rows.specs.Selections.{IsArgumentError, selection_of}
 pub use Rattle.listcut_rows.specs.RowSlots.{item_slot, slot_of_row}
-pub use Rattle.listcut_rows.specs.RowText.{IsFirstInvalidLine, IsTextOf, item_text, row_text, rows_text}
+pub use Rattle.listcut_rows.specs.RowText.{IsFirstInvalidLine, IsRowsText, item_text, row_text, rows_text}
 pub use Rattle.listcut_rows.specs.declared.error.ListcutError.TheVariants.{Memory}
 pub use Rattle.nest_array.specs.Seen.{layout_of}
 pub use Rattle.nest_array.specs.Types.{default_list_type}

@@ -9,7 +9,7 @@ use Rattle.nest_model.specs.Accessors.{child_at}
 use Rattle.nest_model.specs.Array.{TopFits}
 use Rattle.nest_model.specs.Layout.{Layout, Layouts, no_layouts, more_layouts, count_layouts, layout_type, weight, weight_all}
 use Rattle.nest_concat.specs.Joined.{AreArrays, EachJoined, IsJoined}
-use Rattle.nest_concat.specs.Windows.{field_of}
+use Rattle.nest_concat.specs.Windows.{field_window}
 
 pub weight-at : (cs : Layouts) (f : ℕ) → f < count_layouts cs → weight (child_at cs f) < weight_all cs
 weight-at no_layouts f h = absurd (omega arith)
@@ -27,22 +27,22 @@ count-of (x ∷ xs) = ap suc (count-of xs)
 
 -- children from field k on, each concatenated
 pub all-joined : (cs : Layouts) (k : ℕ) (ws : Seq WindowParts) (ys : Seq AnyArray) → length ys ≡ count_layouts cs
-    → ((f : ℕ) (d : AnyArray) → f < count_layouts cs → IsJoined (layout_type (child_at cs f)) (map (field_of (k + f)) ws) (layout_of (get_or ys f d))) → EachJoined cs k ws (layouts_of ys)
+    → ((f : ℕ) (d : AnyArray) → f < count_layouts cs → IsJoined (layout_type (child_at cs f)) (map (field_window (k + f)) ws) (layout_of (get_or ys f d))) → EachJoined cs k ws (layouts_of ys)
 all-joined no_layouts k ws [] e h = tt
 all-joined no_layouts k ws (y ∷ ys) e h = absurd (omega arith)
 all-joined (more_layouts c cs) k ws [] e h = absurd (omega arith)
 all-joined (more_layouts c cs) k ws (y ∷ ys) e h =
     let z : k + 0 ≡ k = omega arith in (
-      subst (λ n. IsJoined (layout_type c) (map (field_of n) ws) (layout_of y)) z (h 0 y (omega arith)),
+      subst (λ n. IsJoined (layout_type c) (map (field_window n) ws) (layout_of y)) z (h 0 y (omega arith)),
       all-joined cs (suc k) ws ys (omega arith)
           (λ f d l.
           let w : k + suc f ≡ suc k + f = omega arith in
-          subst (λ n. IsJoined (layout_type (child_at cs f)) (map (field_of n) ws) (layout_of (get_or ys f d))) w (h (suc f) d (omega arith))),
+          subst (λ n. IsJoined (layout_type (child_at cs f)) (map (field_window n) ws) (layout_of (get_or ys f d))) w (h (suc f) d (omega arith))),
     )
 
 pub each-joined : (cs : Layouts) (ws : Seq WindowParts) (ys : Seq AnyArray) → length ys ≡ count_layouts cs
-    → ((f : ℕ) (d : AnyArray) → f < count_layouts cs → IsJoined (layout_type (child_at cs f)) (map (field_of f) ws) (layout_of (get_or ys f d))) → EachJoined cs 0 ws (layouts_of ys)
-each-joined cs ws ys e h = all-joined cs 0 ws ys e (λ f d l. let z : f ≡ 0 + f = omega arith in subst (λ n. IsJoined (layout_type (child_at cs f)) (map (field_of n) ws) (layout_of (get_or ys f d))) z (h f d l))
+    → ((f : ℕ) (d : AnyArray) → f < count_layouts cs → IsJoined (layout_type (child_at cs f)) (map (field_window f) ws) (layout_of (get_or ys f d))) → EachJoined cs 0 ws (layouts_of ys)
+each-joined cs ws ys e h = all-joined cs 0 ws ys e (λ f d l. let z : f ≡ 0 + f = omega arith in subst (λ n. IsJoined (layout_type (child_at cs f)) (map (field_window n) ws) (layout_of (get_or ys f d))) z (h f d l))
 
 -- one more concatenated child
 before-last : (ys : Seq AnyArray) (y d : AnyArray) (k : ℕ) → k < length ys → get_or (ys ++ y ∷ []) k d ≡ get_or ys k d

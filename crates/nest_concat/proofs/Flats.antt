@@ -20,7 +20,7 @@ use Rattle.nest_model.specs.Runs.{cut-cut, length-cut, product-end, product-exac
 use Rattle.nest_model.specs.Slot as slots
 use Rattle.nest_array.specs.WindowParts.{WindowParts}
 use Rattle.nest_concat.specs.Joined.{AreWithin, IsJoined}
-use Rattle.nest_concat.specs.Windows.{blocks_in, count_of, count_slots, joined_validity, natives_in, booleans_in}
+use Rattle.nest_concat.specs.Windows.{blocks_in, count_of, count_slots, concatenated_validity, natives_in, booleans_in}
 use Rattle.nest_concat.proofs.Logical.{kind-alike, size-alike}
 use Rattle.nest_concat.proofs.Pieces.{AreLong, cut-flat, flat-length}
 use Rattle.nest_concat.proofs.Shapes.{null-shape, boolean-shape, primitive-shape, fixed_size_binary-shape}
@@ -61,10 +61,10 @@ blocks-within w n s t h e z = product-fits w.offset w.count n s (subst (λ y. w.
 
 -- booleans
 boolean-core : (t : TypeTree) (ws : List WindowParts) → AreWithin t ws → physical_type t ≡ physical.Boolean
-    → Fits (boolean t (flat_map booleans_in ws) (joined_validity ws)) × IsJoined t ws (boolean t (flat_map booleans_in ws) (joined_validity ws))
+    → Fits (boolean t (flat_map booleans_in ws) (concatenated_validity ws)) × IsJoined t ws (boolean t (flat_map booleans_in ws) (concatenated_validity ws))
 boolean-core t ws h p =
     let bs = flat_map booleans_in ws in
-    let v = joined_validity ws in
+    let v = concatenated_validity ws in
     let shape : (w : WindowParts) → TopFits w.array → logical_type (layout_type w.array) ≡ logical_type t → w.array ≡ boolean (layout_type w.array) (bits_of w.array) (validity_of w.array)
     = λ w f e. boolean-shape w.array f (kind-alike (layout_type w.array) t _ e p) in
     let inside : All (λ w. w.offset + w.count ≤ length (bits_of w.array)) ws = λ i d l.
@@ -83,17 +83,17 @@ boolean-core t ws h p =
     )
 
 pub boolean-joined : (t u : TypeTree) (ws : List WindowParts) (bs : List Bool) (v : Validity) → AreWithin t ws → physical_type t ≡ physical.Boolean → u ≡ t
-    → bs ≡ flat_map booleans_in ws → v ≡ joined_validity ws → Fits (boolean u bs v) × IsJoined t ws (boolean u bs v)
+    → bs ≡ flat_map booleans_in ws → v ≡ concatenated_validity ws → Fits (boolean u bs v) × IsJoined t ws (boolean u bs v)
 boolean-joined t u ws bs v h p e f g =
-    let y : boolean t (flat_map booleans_in ws) (joined_validity ws) ≡ boolean u bs v = cc in
+    let y : boolean t (flat_map booleans_in ws) (concatenated_validity ws) ≡ boolean u bs v = cc in
     subst (λ z. Fits z × IsJoined t ws z) y (boolean-core t ws h p)
 
 -- native values
 primitive-core : (q : PrimitiveType) (t : TypeTree) (ws : List WindowParts) → AreWithin t ws → physical_type t ≡ physical.Primitive q
-    → Fits (primitive q t (flat_map natives_in ws) (joined_validity ws)) × IsJoined t ws (primitive q t (flat_map natives_in ws) (joined_validity ws))
+    → Fits (primitive q t (flat_map natives_in ws) (concatenated_validity ws)) × IsJoined t ws (primitive q t (flat_map natives_in ws) (concatenated_validity ws))
 primitive-core q t ws h p =
     let vs = flat_map natives_in ws in
-    let v = joined_validity ws in
+    let v = concatenated_validity ws in
     let shape : (w : WindowParts) → TopFits w.array → logical_type (layout_type w.array) ≡ logical_type t → w.array ≡ primitive q (layout_type w.array) (natives_of w.array) (validity_of w.array)
     = λ w f e. primitive-shape q w.array f (kind-alike (layout_type w.array) t _ e p) in
     let inside : All (λ w. w.offset + w.count ≤ length (natives_of w.array)) ws = λ i d l.
@@ -112,9 +112,9 @@ primitive-core q t ws h p =
     )
 
 pub primitive-joined : (q : PrimitiveType) (t u : TypeTree) (ws : List WindowParts) (vs : List (List ℤ)) (v : Validity) → AreWithin t ws → physical_type t ≡ physical.Primitive q → u ≡ t
-    → vs ≡ flat_map natives_in ws → v ≡ joined_validity ws → Fits (primitive q u vs v) × IsJoined t ws (primitive q u vs v)
+    → vs ≡ flat_map natives_in ws → v ≡ concatenated_validity ws → Fits (primitive q u vs v) × IsJoined t ws (primitive q u vs v)
 primitive-joined q t u ws vs v h p e f g =
-    let y : primitive q t (flat_map natives_in ws) (joined_validity ws) ≡ primitive q u vs v = cc in
+    let y : primitive q t (flat_map natives_in ws) (concatenated_validity ws) ≡ primitive q u vs v = cc in
     subst (λ z. Fits z × IsJoined t ws z) y (primitive-core q t ws h p)
 
 -- fixed-size blocks
@@ -152,11 +152,11 @@ blocks-count {A} s xs ws h =
 
 -- fixed-size binary
 fixed-core : (t : TypeTree) (ws : List WindowParts) → AreWithin t ws → physical_type t ≡ physical.FixedSizeBinary → 0 < size_of t
-    → Fits (fixed_size_binary t (flat_map (blocks_in (size_of t)) ws) (joined_validity ws)) × IsJoined t ws (fixed_size_binary t (flat_map (blocks_in (size_of t)) ws) (joined_validity ws))
+    → Fits (fixed_size_binary t (flat_map (blocks_in (size_of t)) ws) (concatenated_validity ws)) × IsJoined t ws (fixed_size_binary t (flat_map (blocks_in (size_of t)) ws) (concatenated_validity ws))
 fixed-core t ws h p z =
     let s = size_of t in
     let bs = flat_map (blocks_in s) ws in
-    let v = joined_validity ws in
+    let v = concatenated_validity ws in
     let shape : (w : WindowParts) → TopFits w.array → logical_type (layout_type w.array) ≡ logical_type t → w.array ≡ fixed_size_binary (layout_type w.array) (bytes_of w.array) (validity_of w.array)
     = λ w f e. fixed_size_binary-shape w.array f (kind-alike (layout_type w.array) t _ e p) in
     let inside : All (λ w. w.offset * s + w.count * s ≤ length (bytes_of w.array)) ws = λ i d l.
@@ -180,8 +180,8 @@ fixed-core t ws h p z =
     )
 
 pub fixed-joined : (t u : TypeTree) (ws : List WindowParts) (s : ℕ) (bs : List ℕ) (v : Validity) → AreWithin t ws → physical_type t ≡ physical.FixedSizeBinary → 0 < size_of t → u ≡ t → s ≡ size_of t
-    → bs ≡ flat_map (blocks_in s) ws → v ≡ joined_validity ws → Fits (fixed_size_binary u bs v) × IsJoined t ws (fixed_size_binary u bs v)
+    → bs ≡ flat_map (blocks_in s) ws → v ≡ concatenated_validity ws → Fits (fixed_size_binary u bs v) × IsJoined t ws (fixed_size_binary u bs v)
 fixed-joined t u ws s bs v h p z e i f g =
     let f' = f ∙ ap (λ n. flat_map (blocks_in n) ws) i in
-    let y : fixed_size_binary t (flat_map (blocks_in (size_of t)) ws) (joined_validity ws) ≡ fixed_size_binary u bs v = cc in
+    let y : fixed_size_binary t (flat_map (blocks_in (size_of t)) ws) (concatenated_validity ws) ≡ fixed_size_binary u bs v = cc in
     subst (λ x. Fits x × IsJoined t ws x) y (fixed-core t ws h p z)

@@ -12,7 +12,7 @@ use Rattle.nest_model.specs.Array.{AreOffsets}
 use Rattle.nest_model.specs.Part.{begin, extent, count_rows}
 use Rattle.nest_model.specs.Accessors.{offsets_of, validity_of}
 use Rattle.nest_array.specs.WindowParts.{WindowParts}
-use Rattle.nest_concat.specs.Windows.{count_items, extents, extents_in, have_bits}
+use Rattle.nest_concat.specs.Windows.{window_item_count, extents, extents_in, have_bits}
 use Rattle.nest_concat.proofs.Pieces.{begin-rises, ends, extents-length, extents-sum}
 
 -- one more
@@ -64,10 +64,10 @@ ends-row a os o i n h l e =
     ap (ends_from a) (extents-more os o i) ∙ from-append a (extents os o i) one ∙ ap (λ z. ends_from a (extents os o i) ++ z ∷ []) b
 
 -- the rows of a window have all its items
-pub rows-sum : (w : WindowParts) (os : List ℕ) (o n : ℕ) → AreOffsets os → o + n ≤ count_rows os → os ≡ offsets_of w.array → o ≡ w.offset → n ≡ w.count → count_items w ≡ sum (extents_in w)
+pub rows-sum : (w : WindowParts) (os : List ℕ) (o n : ℕ) → AreOffsets os → o + n ≤ count_rows os → os ≡ offsets_of w.array → o ≡ w.offset → n ≡ w.count → window_item_count w ≡ sum (extents_in w)
 rows-sum w os o n h l e f k =
     let all = extents-all os o n h l in
-    let items : begin os (o + n) - begin os o ≡ count_items w = ap (λ s. begin s (o + n) - begin s o) e ∙ ap (λ z. begin (offsets_of w.array) (z + n) - begin (offsets_of w.array) z) f ∙ ap (λ z. begin (offsets_of w.array) (w.offset + z) - begin (offsets_of w.array) w.offset) k in
+    let items : begin os (o + n) - begin os o ≡ window_item_count w = ap (λ s. begin s (o + n) - begin s o) e ∙ ap (λ z. begin (offsets_of w.array) (z + n) - begin (offsets_of w.array) z) f ∙ ap (λ z. begin (offsets_of w.array) (w.offset + z) - begin (offsets_of w.array) w.offset) k in
     let rows : sum (extents os o n) ≡ sum (extents_in w) = ap (λ s. sum (extents s o n)) e ∙ ap (λ z. sum (extents (offsets_of w.array) z n)) f ∙ ap (λ z. sum (extents (offsets_of w.array) w.offset z)) k in
     omega (arith, all, items, rows)
 

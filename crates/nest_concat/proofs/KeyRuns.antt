@@ -25,8 +25,8 @@ use Rattle.nest_array.specs.WindowParts.{WindowParts}
 use Rattle.nest_concat.specs.Joined.{AreWithin, RefusesKeys}
 use Rattle.nest_concat.specs.Laid.{laid_keys}
 use Rattle.nest_concat.specs.Limits.{PassesLength}
-use Rattle.nest_concat.specs.Lookups.{AreJoinedKeys, IsPast, KeyFits, KeyPasses, KeysFit, KeysPass, SomePast, count_values, joined_keys, keys_in, moved_key, moved_keys, moved_run, values_in}
-use Rattle.nest_concat.specs.Windows.{count_of, count_slots, joined_validity}
+use Rattle.nest_concat.specs.Lookups.{AreJoinedKeys, IsKeyPast, KeyFits, KeyPasses, KeysFit, KeysPass, SomePast, count_values, joined_keys, keys_in, moved_key, moved_keys, moved_run, values_in}
+use Rattle.nest_concat.specs.Windows.{count_of, count_slots, concatenated_validity}
 use Rattle.nest_concat.proofs.Children.{each-more}
 use Rattle.nest_concat.proofs.Grown.{sum-within}
 use Rattle.nest_concat.proofs.Keyed.{keys-long, moved-count}
@@ -70,7 +70,7 @@ keys-more f s ks o n first old new x e g h =
     ∙ ap (λ z. numbers_in f first ++ (moved_run s ks o n ++ z ∷ [])) h
     ∙ ap (λ zs. numbers_in f first ++ zs) (sym (run-more s ks o n))
 
-pub some-past : (n s : ℕ) (ks : Layout) (o m j : ℕ) → j < m → IsPast n s ks (o + j) → SomePast n s ks o m
+pub some-past : (n s : ℕ) (ks : Layout) (o m j : ℕ) → j < m → IsKeyPast n s ks (o + j) → SomePast n s ks o m
 some-past n s ks o m j h p = (j, (h, p))
 
 -- the same for the window
@@ -125,13 +125,13 @@ values-count : (moved : Bool) (ws : List WindowParts) (vs : List (List ℤ)) →
 values-count moved ws vs h = sym (length-map vs number_of) ∙ ap length h ∙ joined-count moved ws
 
 keys-fit : (moved : Bool) (q : PrimitiveType) (t u : TypeTree) (ws : List WindowParts) (vs : List (List ℤ)) (va : Validity) → AreWithin u ws → physical_type t ≡ physical.Primitive q → map number_of vs ≡ joined_keys moved ws
-    → va ≡ joined_validity ws → Fits (primitive q t vs va)
+    → va ≡ concatenated_validity ws → Fits (primitive q t vs va)
 keys-fit moved q t u ws vs va h p e v =
     let n = values-count moved ws vs e in
-    (subst (λ z. ValidityFits z (length vs)) (sym v) (subst (ValidityFits (joined_validity ws)) (sym n) (joined-fits u ws h)), (p, tt))
+    (subst (λ z. ValidityFits z (length vs)) (sym v) (subst (ValidityFits (concatenated_validity ws)) (sym n) (joined-fits u ws h)), (p, tt))
 
 pub keys-made : (r : Result Layout Error) (moved : Bool) (q : PrimitiveType) (t : TypeTree) (ks : Layout) (ws : List WindowParts) (vs : List (List ℤ)) (va : Validity)
-    → MatchResult r (λ a. Fits (primitive q t vs va) × (a ≡ primitive q t vs va)) (λ e. FirstError e (primitive q t vs va)) → key_kind q ≡ key_type_of ks → map number_of vs ≡ joined_keys moved ws → va ≡ joined_validity ws
+    → MatchResult r (λ a. Fits (primitive q t vs va) × (a ≡ primitive q t vs va)) (λ e. FirstError e (primitive q t vs va)) → key_kind q ≡ key_type_of ks → map number_of vs ≡ joined_keys moved ws → va ≡ concatenated_validity ws
     → IfOk r (λ k. AreJoinedKeys moved ks ws k)
 keys-made (Ok a) moved q t ks ws vs va m k e v =
     let made : AreJoinedKeys moved ks ws (primitive q t vs va) = record { same_width = k; count = values-count moved ws vs e; validity = v; raw = e } in
@@ -148,7 +148,7 @@ primitive-keys q a f e = ((subst TopFits e f).1.1.0, sym (ap key_type_of e))
 
 pub keys-unmade : (r : Result Layout Error) (moved : Bool) (q : PrimitiveType) (t u : TypeTree) (ws : List WindowParts) (vs : List (List ℤ)) (va : Validity) (P : Error → Type 0)
     → MatchResult r (λ a. Fits (primitive q t vs va) × (a ≡ primitive q t vs va)) (λ e. FirstError e (primitive q t vs va)) → AreWithin u ws → physical_type t ≡ physical.Primitive q → map number_of vs ≡ joined_keys moved ws
-    → va ≡ joined_validity ws → IfErr r P
+    → va ≡ concatenated_validity ws → IfErr r P
 keys-unmade r moved q t u ws vs va P m h p e v = keys-none r (primitive q t vs va) P m (keys-fit moved q t u ws vs va h p e v)
 
 -- a key of a window that does not fit its type
@@ -205,8 +205,8 @@ singles f h (x ∷ xs) = ap (λ y. y ∷ map f xs) (single (f x) (h x)) ∙ ap (
 
 pub keys-laid : (r : Result Layout Error) (moved : Bool) (q : PrimitiveType) (t : TypeTree) (ks : Layout) (ws : List WindowParts) (vs : List (List ℤ)) (va : Validity)
     → MatchResult r (λ a. Fits (primitive q t vs va) × (a ≡ primitive q t vs va)) (λ e. FirstError e (primitive q t vs va)) → ks ≡ primitive q (layout_type ks) (natives_of ks) (validity_of ks) → t ≡ layout_type ks
-    → vs ≡ map (λ z. z ∷ []) (joined_keys moved ws) → va ≡ joined_validity ws → IfOk r (λ k. k ≡ laid_keys moved ks ws)
+    → vs ≡ map (λ z. z ∷ []) (joined_keys moved ws) → va ≡ concatenated_validity ws → IfOk r (λ k. k ≡ laid_keys moved ks ws)
 keys-laid (Ok a) moved q t ks ws vs va m k e f v =
-    let x : primitive q t vs va ≡ primitive q (layout_type ks) (map (λ z. z ∷ []) (joined_keys moved ws)) (joined_validity ws) = cc in
+    let x : primitive q t vs va ≡ primitive q (layout_type ks) (map (λ z. z ∷ []) (joined_keys moved ws)) (concatenated_validity ws) = cc in
     m.1 ∙ subst (λ z. primitive q t vs va ≡ laid_keys moved z ws) (sym k) x
 keys-laid (Err x) moved q t ks ws vs va m k e f v = tt

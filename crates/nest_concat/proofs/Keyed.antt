@@ -31,7 +31,7 @@ use Rattle.nest_array.specs.Kinds.{IsKeyed}
 use Rattle.nest_array.specs.WindowParts.{WindowParts, window_slots}
 use Rattle.nest_concat.specs.Joined.{AreArrays, AreKeyed, AreOfKind, AreWithin, IsJoined, IsWithin, RefusesJoin, RefusesKeys, first_array}
 use Rattle.nest_concat.specs.Lookups.{AreJoinedKeys, HaveValues, KeysPass, count_values, keys_in, moved_key, moved_keys, moved_run, most_keys, values_in}
-use Rattle.nest_concat.specs.Windows.{count_of, count_slots, joined_validity}
+use Rattle.nest_concat.specs.Windows.{count_of, count_slots, concatenated_validity}
 use Rattle.nest_concat.proofs.Logical.{kind-alike, value-alike}
 use Rattle.nest_concat.proofs.Made.{passes-length}
 use Rattle.nest_concat.proofs.Nested.{children-within, first-of-map, first-within}
@@ -158,7 +158,7 @@ pub record HasValues (ws : List WindowParts) (s : ℕ → ℕ) (d : Layout) : Ty
 
 -- keys by their indices
 pub record HasKeys (ws : List WindowParts) (s : ℕ → ℕ) (new : Layout) : Type 0 where
-  pub validity : validity_of new ≡ joined_validity ws
+  pub validity : validity_of new ≡ concatenated_validity ws
   pub count : length (raw_keys new) ≡ count_slots ws
   pub raw : (k j : ℕ) → k < length ws → j < count_of (window ws k) → key_at new (place_of ws k j) ≡ moved_key (s k) (keys_of (window ws k).array) ((window ws k).offset + j)
 

@@ -20,7 +20,7 @@ use Rattle.nest_concat.specs.Joined.{AreArrays, AreWithin, EachJoined, HasFields
 use Rattle.nest_concat.specs.Laid.{have_values, joined_rows, laid, laid_each, laid_keys}
 use Rattle.nest_concat.specs.LaidLaws.{values-decides}
 use Rattle.nest_concat.specs.Lookups.{AreJoinedKeys, joined_keys, keys_in, values_in}
-use Rattle.nest_concat.specs.Windows.{blocks_of, count_of, count_slots, extents_in, field_of, items_in, joined_validity}
+use Rattle.nest_concat.specs.Windows.{blocks_of, count_of, count_slots, extents_in, field_window, items_in, concatenated_validity}
 use Rattle.nest_concat.proofs.Flats.{boolean-joined, fixed-joined, null-joined, primitive-joined}
 use Rattle.nest_concat.proofs.Keyed.{keyed-kind, kept-joined, keys-long, moved-count, moved-joined, values-children, width_of}
 use Rattle.nest_concat.proofs.Nested.{all-map, first-of-map, list-children, list-joined, map-children, map-joined, sized-children, sized-joined}
@@ -103,7 +103,7 @@ keys-laid : (moved : Bool) (t : TypeTree) (ks : Layout) (ws : List WindowParts) 
 keys-laid moved t (primitive k u vs va) ws w h =
     let zs = joined_keys moved ws in
     let n = length-map zs (λ z. z ∷ []) ∙ keys-count moved ws in
-    (h.0, (subst (ValidityFits (joined_validity ws)) (sym n) (joined-fits t ws w), (h.1.1.0, tt)))
+    (h.0, (subst (ValidityFits (concatenated_validity ws)) (sym n) (joined-fits t ws w), (h.1.1.0, tt)))
 keys-laid moved t ks ws w h = absurd h
 
 -- for each layout
@@ -186,13 +186,13 @@ map-laid t os c va ws r d =
 
 -- layouts with fields, from the result for each child
 abbrev EachMayJoin : Layouts → ℕ → List WindowParts → Type 0
-EachMayJoin cs f ws = (g : ℕ) → g < count_layouts cs → MayJoin (child_at cs g) (map (field_of (f + g)) ws)
+EachMayJoin cs f ws = (g : ℕ) → g < count_layouts cs → MayJoin (child_at cs g) (map (field_window (f + g)) ws)
 
-first-may : (c : Layout) (cs : Layouts) (f : ℕ) (ws : List WindowParts) → EachMayJoin (more_layouts c cs) f ws → MayJoin c (map (field_of f) ws)
-first-may c cs f ws h = let z : f + 0 ≡ f = omega arith in subst (λ n. MayJoin c (map (field_of n) ws)) z (h 0 (omega arith))
+first-may : (c : Layout) (cs : Layouts) (f : ℕ) (ws : List WindowParts) → EachMayJoin (more_layouts c cs) f ws → MayJoin c (map (field_window f) ws)
+first-may c cs f ws h = let z : f + 0 ≡ f = omega arith in subst (λ n. MayJoin c (map (field_window n) ws)) z (h 0 (omega arith))
 
 rest-may : (c : Layout) (cs : Layouts) (f : ℕ) (ws : List WindowParts) → EachMayJoin (more_layouts c cs) f ws → EachMayJoin cs (suc f) ws
-rest-may c cs f ws h = λ g l. let z : f + suc g ≡ suc f + g = omega arith in subst (λ n. MayJoin (child_at cs g) (map (field_of n) ws)) z (h (suc g) (omega arith))
+rest-may c cs f ws h = λ g l. let z : f + suc g ≡ suc f + g = omega arith in subst (λ n. MayJoin (child_at cs g) (map (field_window n) ws)) z (h (suc g) (omega arith))
 
 abbrev AreLaid : Layouts → ℕ → List WindowParts → Type 0
 AreLaid cs f ws = AreChildren (laid_each cs f ws) × EachJoined cs f ws (laid_each cs f ws)
@@ -202,9 +202,9 @@ fields-may a ws k r = λ g l.
     let t = layout_type a in
     let n = field-count t (children_of a) ws r.within k r.some (ap children_of r.first) in
     let z : g ≡ 0 + g = omega arith in
-    subst (λ f. MayJoin (child_at (children_of a) g) (map (field_of f) ws)) z
-    (child-may (field_of g) (λ b. child_at (children_of b) g) a ws (λ w. refl) (λ b h. one-array (children_of b) g (fields-arrays b h)) r
-    (field-children t g ws (map (field_of g) ws) r.within k r.some (omega (arith, n, l)) refl))
+    subst (λ f. MayJoin (child_at (children_of a) g) (map (field_window f) ws)) z
+    (child-may (field_window g) (λ b. child_at (children_of b) g) a ws (λ w. refl) (λ b h. one-array (children_of b) g (fields-arrays b h)) r
+    (field-children t g ws (map (field_window g) ws) r.within k r.some (omega (arith, n, l)) refl))
 
 struct-laid : (t : TypeTree) (cs : Layouts) (va : Validity) (ws : List WindowParts) → MayJoin (struct t cs va) ws → AreLaid cs 0 ws → IsLaid t ws (laid (struct t cs va) ws)
 struct-laid t cs va ws r d =
@@ -266,6 +266,6 @@ mutual
   are-laid : (cs : Layouts) (f : ℕ) (ws : List WindowParts) → EachMayJoin cs f ws → AreLaid cs f ws
   are-laid no_layouts f ws h = (tt, tt)
   are-laid (more_layouts c cs) f ws h =
-      let x = is-laid c (map (field_of f) ws) (first-may c cs f ws h) in
+      let x = is-laid c (map (field_window f) ws) (first-may c cs f ws h) in
       let y = are-laid cs (suc f) ws (rest-may c cs f ws h) in
       ((x.0, y.0), (x.1, y.1))

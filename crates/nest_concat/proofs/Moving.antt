@@ -18,7 +18,7 @@ use Rattle.nest_concat.specs.Parts.{field_at}
 use Rattle.nest_concat.specs.Joined.{AreWithin, IsWithin}
 use Rattle.nest_concat.specs.Limits.{PassesPicks}
 use Rattle.nest_concat.specs.Moved.{AreAdvanced, AreFew, ArePlaced, PassesOne, moved_offset, moved_offsets, offset_by, offsets_behind}
-use Rattle.nest_concat.specs.Windows.{count_of, count_slots, field_of}
+use Rattle.nest_concat.specs.Windows.{count_of, count_slots, field_window}
 use Rattle.nest_concat.proofs.Grown.{sum-more, sum-within}
 use Rattle.nest_concat.proofs.Picked.{pick-inside, picks-one, some-offsets, union-is}
 use Rattle.nest_concat.proofs.Unions.{facts-by}
@@ -48,7 +48,7 @@ map-range f g o (suc n) h =
 
 -- offsets from ends and counts are those after earlier windows
 pub same-offsets : (t : TypeTree) (w : WindowParts) (before : List WindowParts) (n : ℕ) (old ends counts : List ℕ) → TopFits w.array → w.offset + w.count ≤ len w.array → logical_type (layout_type w.array) ≡ logical_type t → physical_type t ≡ physical.Union
-    → n ≡ count_fields (fields_of t) → ((f : ℕ) → f < n → get_or old f 0 ≡ count_slots (map (field_of f) before)) → AreAdvanced n w old ends counts
+    → n ≡ count_fields (fields_of t) → ((f : ℕ) → f < n → get_or old f 0 ≡ count_slots (map (field_window f) before)) → AreAdvanced n w old ends counts
     → map (offset_by ends counts w) (range_with_len w.offset w.count) ≡ map (moved_offset before w) (range_with_len w.offset w.count)
 same-offsets t w before n old ends counts h i e p m c d = map-range (offset_by ends counts w) (moved_offset before w) w.offset w.count same
   where
@@ -62,10 +62,10 @@ same-offsets t w before n old ends counts h i e p m c d = map-range (offset_by e
         let k : f < n = omega (arith, m, o.1.field_there, (facts-by t a h e p).as_many) in
         let x = d f k in
         let b = pick-inside f a w.offset w.count j q h u l o.1.means refl in
-        let z : get_or counts f 0 - (get_or ends f 0 - q) ≡ count_slots (map (field_of f) before) + (q - (field_of f w).offset) = omega (arith, x.0, x.1, c f k, b.0, b.1) in
+        let z : get_or counts f 0 - (get_or ends f 0 - q) ≡ count_slots (map (field_window f) before) + (q - (field_window f w).offset) = omega (arith, x.0, x.1, c f k, b.0, b.1) in
         ap (λ v. pos (get_or counts (unwrap_or v 0) 0 - (get_or ends (unwrap_or v 0) 0 - q))) o.1.means
         ∙ ap pos z
-        ∙ sym (ap (λ v. pos (count_slots (map (field_of (unwrap_or v 0)) before) + (q - (field_of (unwrap_or v 0) w).offset))) o.1.means)
+        ∙ sym (ap (λ v. pos (count_slots (map (field_window (unwrap_or v 0)) before) + (q - (field_window (unwrap_or v 0) w).offset))) o.1.means)
 
 -- the offset of the slot fits 32 bits
 pub record IsPlaced (counts ends : List ℕ) (f q : ℕ) : Type 0 where
@@ -88,22 +88,22 @@ offset-is w a ends counts i f q e y z =
     ap (λ o. pos (get_or counts (unwrap_or o 0) 0 - (get_or ends (unwrap_or o 0) 0 - union_index (union_offsets_of w.array) (start_of w.array) i))) m ∙ ap (λ x. pos (get_or counts f 0 - (get_or ends f 0 - x))) v
 
 -- the counts of one more window
-map-sum : (f : ℕ) (ws : List WindowParts) → count_slots (map (field_of f) ws) ≡ sum_by (λ w. (field_of f w).count) ws
+map-sum : (f : ℕ) (ws : List WindowParts) → count_slots (map (field_window f) ws) ≡ sum_by (λ w. (field_window f w).count) ws
 map-sum f [] = refl
-map-sum f (w ∷ ws) = omega (arith, map-sum f ws, sum_by-cons count_of (field_of f w) (map (field_of f) ws), sum_by-cons (λ (v : WindowParts). (field_of f v).count) w ws)
+map-sum f (w ∷ ws) = omega (arith, map-sum f ws, sum_by-cons count_of (field_window f w) (map (field_window f) ws), sum_by-cons (λ (v : WindowParts). (field_window f v).count) w ws)
 
 pub counts-more : (f : ℕ) (ws : List WindowParts) (k : ℕ) (w : WindowParts) → k < length ws → w ≡ get_or ws k w
-    → count_slots (map (field_of f) (take (k + 1) ws)) ≡ count_slots (map (field_of f) (take k ws)) + (field_of f w).count
-counts-more f ws k w l e = omega (arith, map-sum f (take (k + 1) ws), map-sum f (take k ws), sum-more (λ v. (field_of f v).count) ws k w l e)
+    → count_slots (map (field_window f) (take (k + 1) ws)) ≡ count_slots (map (field_window f) (take k ws)) + (field_window f w).count
+counts-more f ws k w l e = omega (arith, map-sum f (take (k + 1) ws), map-sum f (take k ws), sum-more (λ v. (field_window f v).count) ws k w l e)
 
 -- too many slots in one window are too many in all
 pub one-passes : (a : Layout) (ws : List WindowParts) (k : ℕ) (w : WindowParts) (n : ℕ) (counts : List ℕ) → (union_offsets_of a ≡ None → ⊥) → k < length ws → w ≡ get_or ws k w
-    → ((f : ℕ) → f < n → get_or counts f 0 ≡ count_slots (map (field_of f) (take k ws))) → n ≡ count_layouts (children_of a) → PassesOne n w counts
+    → ((f : ℕ) → f < n → get_or counts f 0 ≡ count_slots (map (field_window f) (take k ws))) → n ≡ count_layouts (children_of a) → PassesOne n w counts
     → PassesPicks (union_offsets_of a) (count_layouts (children_of a)) ws
 one-passes a ws k w n counts d l e c m p =
     let s = some-offsets (union_offsets_of a) d in
     let f = p.0 in
-    let b : most_picks < count_slots (map (field_of f) ws) = omega (arith, p.2, c f p.1, map-sum f (take k ws), map-sum f ws, sum-within (λ v. (field_of f v).count) ws k w l e) in
+    let b : most_picks < count_slots (map (field_window f) ws) = omega (arith, p.2, c f p.1, map-sum f (take k ws), map-sum f ws, sum-within (λ v. (field_window f v).count) ws k w l e) in
     subst (λ o. PassesPicks o (count_layouts (children_of a)) ws) (sym s.1) (f, omega (arith, p.1, m), b)
 
 -- before the first window
@@ -112,7 +112,7 @@ zero-at zero f = refl
 zero-at (suc n) zero = refl
 zero-at (suc n) (suc f) = zero-at n f
 
-pub none-counted : (counts : List ℕ) (n : ℕ) → counts ≡ replicate 128 0 → (f : ℕ) → f < n → get_or counts f 0 ≡ count_slots (map (field_of f) [])
+pub none-counted : (counts : List ℕ) (n : ℕ) → counts ≡ replicate 128 0 → (f : ℕ) → f < n → get_or counts f 0 ≡ count_slots (map (field_window f) [])
 none-counted counts n e f l = ap (λ z. get_or z f 0) e ∙ zero-at 128 f
 
 pub few-none : (counts : List ℕ) → counts ≡ replicate 128 0 → AreFew counts
@@ -123,11 +123,11 @@ pub item-within : (t : TypeTree) (ws : List WindowParts) (k : ℕ) (w : WindowPa
 item-within t ws k w h l e = subst (IsWithin t) (sym e) (h k w l)
 
 -- the counts of all windows are within the limit
-pub picks-room : (o : Option (List ℤ)) (m n : ℕ) (ws : List WindowParts) (i : ℕ) (counts : List ℕ) → length ws ≤ i → n ≡ m → ((f : ℕ) → f < n → get_or counts f 0 ≡ count_slots (map (field_of f) (take i ws))) → AreFew counts → PassesPicks o m ws → ⊥
+pub picks-room : (o : Option (List ℤ)) (m n : ℕ) (ws : List WindowParts) (i : ℕ) (counts : List ℕ) → length ws ≤ i → n ≡ m → ((f : ℕ) → f < n → get_or counts f 0 ≡ count_slots (map (field_window f) (take i ws))) → AreFew counts → PassesPicks o m ws → ⊥
 picks-room None m n ws i counts h e c k p = p
 picks-room (Some os) m n ws i counts h e c k p =
     let f = p.0 in
-    let q = c f (omega (arith, p.1, e)) ∙ ap (λ vs. count_slots (map (field_of f) vs)) (take_all i ws h) in
+    let q = c f (omega (arith, p.1, e)) ∙ ap (λ vs. count_slots (map (field_window f) vs)) (take_all i ws h) in
     let r = p.2 in
     let s = k f in
     omega (arith, q, r, s)

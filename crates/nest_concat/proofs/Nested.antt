@@ -25,7 +25,7 @@ use Rattle.nest_model.specs.Slot.{Slot, seal}
 use Rattle.nest_array.specs.WindowParts.{WindowParts, window_slots}
 use Rattle.nest_concat.specs.Joined.{AreArrays, AreWithin, IsJoined, IsWithin, RefusesJoin, first_array}
 use Rattle.nest_concat.specs.Limits.{PassesLimits}
-use Rattle.nest_concat.specs.Windows.{blocks_of, count_of, count_slots, items_in, joined_validity}
+use Rattle.nest_concat.specs.Windows.{blocks_of, count_of, count_slots, items_in, concatenated_validity}
 use Rattle.nest_concat.proofs.Flats.{block-at, blocks-count}
 use Rattle.nest_concat.proofs.Logical.{item-alike, kind-alike, pairs-alike, size-alike}
 use Rattle.nest_concat.proofs.Pieces.{first-one, later-ones, begin-last, begin-rises}
@@ -118,10 +118,10 @@ items-slots ct ws d g = g.slots ∙ flat_map-map window_slots items_in ws
 
 list-core : (large : Bool) (t ct : TypeTree) (ws : List WindowParts) (d : Layout) → AreWithin t ws → physical_type t ≡ list_of_width large → item_type t ≡ Some ct
     → AreOffsets (joined_ends ws) → IsJoined ct (map items_in ws) d
-    → Fits (list large t (joined_ends ws) d (joined_validity ws)) × IsJoined t ws (list large t (joined_ends ws) d (joined_validity ws))
+    → Fits (list large t (joined_ends ws) d (concatenated_validity ws)) × IsJoined t ws (list large t (joined_ends ws) d (concatenated_validity ws))
 list-core large t ct ws d h p c o g =
     let es = joined_ends ws in
-    let v = joined_validity ws in
+    let v = concatenated_validity ws in
     let s = list-spans large t ws h p in
     let n = spans-rows ws in
     let q = items-slots ct ws d g in
@@ -146,13 +146,13 @@ list-core large t ct ws d h p c o g =
     )
 
 pub list-joined : (large : Bool) (t u : TypeTree) (ws cws : List WindowParts) (es : List ℕ) (d : Layout) (v : Validity) → AreWithin t ws → physical_type t ≡ list_of_width large → 0 < length ws
-    → cws ≡ map items_in ws → u ≡ t → es ≡ joined_ends ws → AreOffsets es → v ≡ joined_validity ws → IsJoined (layout_type (first_array cws)) cws d
+    → cws ≡ map items_in ws → u ≡ t → es ≡ joined_ends ws → AreOffsets es → v ≡ concatenated_validity ws → IsJoined (layout_type (first_array cws)) cws d
     → Fits (list large u es d v) × IsJoined t ws (list large u es d v)
 list-joined large t u ws cws es d v h p s c e f o g j =
     let w = first-within t ws h s in
     let i = list-item large t (first_array ws) p w.0 w.1 ∙ ap (λ z. Some (layout_type z)) (sym (first-of-map items_in child_of ws (λ x. refl) s)) in
     let x = list-core large t (layout_type (first_array (map items_in ws))) ws d h p i (subst AreOffsets f o) (subst (λ z. IsJoined (layout_type (first_array z)) z d) c j) in
-    let y : list large t (joined_ends ws) d (joined_validity ws) ≡ list large u es d v = cc in
+    let y : list large t (joined_ends ws) d (concatenated_validity ws) ≡ list large u es d v = cc in
     subst (λ z. Fits z × IsJoined t ws z) y x
 
 -- the errors of the items are errors of the lists
@@ -206,10 +206,10 @@ map-children t ws cws h p s e r =
 
 map-core : (t ct : TypeTree) (ws : List WindowParts) (d : Layout) → AreWithin t ws → physical_type t ≡ physical.Map → IsTrue (has_pairs t) → item_type t ≡ Some ct
     → AreOffsets (joined_ends ws) → IsJoined ct (map items_in ws) d
-    → Fits (map_of t (joined_ends ws) d (joined_validity ws)) × IsJoined t ws (map_of t (joined_ends ws) d (joined_validity ws))
+    → Fits (map_of t (joined_ends ws) d (concatenated_validity ws)) × IsJoined t ws (map_of t (joined_ends ws) d (concatenated_validity ws))
 map-core t ct ws d h p y c o g =
     let es = joined_ends ws in
-    let v = joined_validity ws in
+    let v = concatenated_validity ws in
     let s = map-spans t ws h p in
     let n = spans-rows ws in
     let q = items-slots ct ws d g in
@@ -234,14 +234,14 @@ map-core t ct ws d h p y c o g =
     )
 
 pub map-joined : (t u : TypeTree) (ws cws : List WindowParts) (es : List ℕ) (d : Layout) (v : Validity) → AreWithin t ws → physical_type t ≡ physical.Map → 0 < length ws
-    → cws ≡ map items_in ws → u ≡ t → es ≡ joined_ends ws → AreOffsets es → v ≡ joined_validity ws → IsJoined (layout_type (first_array cws)) cws d
+    → cws ≡ map items_in ws → u ≡ t → es ≡ joined_ends ws → AreOffsets es → v ≡ concatenated_validity ws → IsJoined (layout_type (first_array cws)) cws d
     → Fits (map_of u es d v) × IsJoined t ws (map_of u es d v)
 map-joined t u ws cws es d v h p s c e f o g j =
     let w = first-within t ws h s in
     let m = map-entry t (first_array ws) p w.0 w.1 in
     let i = m.0 ∙ ap (λ z. Some (layout_type z)) (sym (first-of-map items_in child_of ws (λ x. refl) s)) in
     let x = map-core t (layout_type (first_array (map items_in ws))) ws d h p m.1 i (subst AreOffsets f o) (subst (λ z. IsJoined (layout_type (first_array z)) z d) c j) in
-    let y : map_of t (joined_ends ws) d (joined_validity ws) ≡ map_of u es d v = cc in
+    let y : map_of t (joined_ends ws) d (concatenated_validity ws) ≡ map_of u es d v = cc in
     subst (λ z. Fits z × IsJoined t ws z) y x
 
 pub map-refuses : (e : Error) (a : Layout) (t : TypeTree) (os : List ℕ) (c : Layout) (va : Validity) (ws cws : List WindowParts) → a ≡ map_of t os c va → IsFirst a ws → cws ≡ map items_in ws
@@ -286,10 +286,10 @@ sized-children t s ws cws h p z n e r =
 
 sized-core : (t ct : TypeTree) (ws : List WindowParts) (d : Layout) → AreWithin t ws → physical_type t ≡ physical.FixedSizeList → 0 < size_of t → item_type t ≡ Some ct
     → IsJoined ct (map (blocks_of (size_of t)) ws) d
-    → Fits (fixed_size_list t d (joined_validity ws)) × IsJoined t ws (fixed_size_list t d (joined_validity ws))
+    → Fits (fixed_size_list t d (concatenated_validity ws)) × IsJoined t ws (fixed_size_list t d (concatenated_validity ws))
 sized-core t ct ws d h p z c g =
     let s = size_of t in
-    let v = joined_validity ws in
+    let v = concatenated_validity ws in
     let b = sized-inside t s ws h p refl in
     let q : slots_of d ≡ flat_map (λ w. sublist (child_slots w) (w.offset * s) (w.count * s)) ws = g.slots ∙ flat_map-map window_slots (blocks_of s) ws in
     let l : len d ≡ count_slots ws * s = sym (slots-length d) ∙ ap length q ∙ blocks-count s child_slots ws b in
@@ -312,7 +312,7 @@ sized-core t ct ws d h p z c g =
     )
 
 pub sized-joined : (t u : TypeTree) (s : ℕ) (ws cws : List WindowParts) (d : Layout) (v : Validity) → AreWithin t ws → physical_type t ≡ physical.FixedSizeList → s ≡ size_of t → 0 < length ws
-    → cws ≡ map (blocks_of s) ws → u ≡ t → v ≡ joined_validity ws → IsJoined (layout_type (first_array cws)) cws d
+    → cws ≡ map (blocks_of s) ws → u ≡ t → v ≡ concatenated_validity ws → IsJoined (layout_type (first_array cws)) cws d
     → Fits (fixed_size_list u d v) × IsJoined t ws (fixed_size_list u d v)
 sized-joined t u s ws cws d v h p z n c e g j =
     let w = first-within t ws h n in
@@ -320,7 +320,7 @@ sized-joined t u s ws cws d v h p z n c e g j =
     let c' = c ∙ ap (λ k. map (blocks_of k) ws) z in
     let i = m.0 ∙ ap (λ k. Some (layout_type k)) (sym (first-of-map (blocks_of (size_of t)) child_of ws (λ x. refl) n)) in
     let x = sized-core t (layout_type (first_array (map (blocks_of (size_of t)) ws))) ws d h p m.1 i (subst (λ k. IsJoined (layout_type (first_array k)) k d) c' j) in
-    let y : fixed_size_list t d (joined_validity ws) ≡ fixed_size_list u d v = cc in
+    let y : fixed_size_list t d (concatenated_validity ws) ≡ fixed_size_list u d v = cc in
     subst (λ k. Fits k × IsJoined t ws k) y x
 
 pub sized-refuses : (e : Error) (a : Layout) (t : TypeTree) (s : ℕ) (c : Layout) (va : Validity) (ws cws : List WindowParts) → a ≡ fixed_size_list t c va → s ≡ size_of t → IsFirst a ws → cws ≡ map (blocks_of s) ws

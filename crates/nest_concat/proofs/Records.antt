@@ -24,7 +24,7 @@ use Rattle.nest_array.specs.WindowParts.{WindowParts, window_parts, window_slots
 use Rattle.nest_concat.specs.Joined.{AreArrays, AreWithin, EachJoined, HasFields, IsJoined, IsWithin, RefusesEach, RefusesJoin, first_array}
 use Rattle.nest_concat.specs.Limits.{PassesLimits, SomePasses}
 use Rattle.nest_concat.specs.Parts.{part_of}
-use Rattle.nest_concat.specs.Windows.{count_of, count_slots, field_of, joined_validity}
+use Rattle.nest_concat.specs.Windows.{count_of, count_slots, field_window, concatenated_validity}
 use Rattle.nest_concat.proofs.Logical.{fields-alike, kind-alike}
 use Rattle.nest_concat.proofs.Nested.{children-within, first-of-map, first-within, place-below}
 use Rattle.nest_concat.proofs.Shapes.{struct-shape}
@@ -64,14 +64,14 @@ joined-count (more_layouts c cs) f ws no_layouts h = absurd h
 joined-count (more_layouts c cs) f ws (more_layouts d ds) h = ap suc (joined-count cs (suc f) ws ds h.1)
 
 pub joined-at : (cs : Layouts) (f : ℕ) (ws : List WindowParts) (ds : Layouts) (g : ℕ) → EachJoined cs f ws ds → g < count_layouts ds
-    → IsJoined (layout_type (child_at cs g)) (map (field_of (f + g)) ws) (child_at ds g)
+    → IsJoined (layout_type (child_at cs g)) (map (field_window (f + g)) ws) (child_at ds g)
 joined-at no_layouts f ws no_layouts g h l = absurd (omega arith)
 joined-at no_layouts f ws (more_layouts d ds) g h l = absurd h
 joined-at (more_layouts c cs) f ws no_layouts g h l = absurd h
-joined-at (more_layouts c cs) f ws (more_layouts d ds) zero h l = let z : f ≡ f + 0 = omega arith in subst (λ n. IsJoined (layout_type c) (map (field_of n) ws) d) z h.0
+joined-at (more_layouts c cs) f ws (more_layouts d ds) zero h l = let z : f ≡ f + 0 = omega arith in subst (λ n. IsJoined (layout_type c) (map (field_window n) ws) d) z h.0
 joined-at (more_layouts c cs) f ws (more_layouts d ds) (suc g) h l =
     let z : suc f + g ≡ f + suc g = omega arith in
-    subst (λ n. IsJoined (layout_type (child_at cs g)) (map (field_of n) ws) (child_at ds g)) z (joined-at cs (suc f) ws ds g h.1 (omega arith))
+    subst (λ n. IsJoined (layout_type (child_at cs g)) (map (field_window n) ws) (child_at ds g)) z (joined-at cs (suc f) ws ds g h.1 (omega arith))
 
 pub joined-types : (fs : FieldTrees) (cs : Layouts) (f : ℕ) (ws : List WindowParts) (ds : Layouts) → EachType fs cs → EachJoined cs f ws ds → EachType fs ds
 joined-types no_fields no_layouts f ws no_layouts t h = tt
@@ -126,7 +126,7 @@ pub field-part : (t : TypeTree) (f : ℕ) (w : WindowParts) → physical_type t 
 field-part t f w p x = ap (λ a. part_of f a w.offset w.count) (record-is t w p x)
 
 pub record-field : (w : WindowParts) (a c : Layout) (f : ℕ) → a ≡ w.array → TopFits a → w.offset + w.count ≤ len w.array → physical_type (layout_type w.array) ≡ physical.Struct
-    → c ≡ child_at (children_of a) f → window_parts c w.offset w.count ≡ field_of f w
+    → c ≡ child_at (children_of a) f → window_parts c w.offset w.count ≡ field_window f w
 record-field w a c f e h i p k =
     let x : IsWithin (layout_type w.array) w = record { is_array = subst TopFits e h; within = i; same_type = refl } in
     let z = field-part (layout_type w.array) f w p x in
@@ -150,33 +150,33 @@ field-there w a f e h i p l =
     let k = ap len (record-is (layout_type w.array) w p x) in
     subst (λ z. (f < count_layouts (children_of z)) × (w.offset + w.count ≤ len (child_at (children_of z) f))) (sym e) (s, omega (arith, n, k))
 
-pub record-children : (t : TypeTree) (f : ℕ) (ws cws : List WindowParts) → AreWithin t ws → physical_type t ≡ physical.Struct → 0 < length ws → f < count_fields (fields_of t) → cws ≡ map (field_of f) ws → AreArrays cws
+pub record-children : (t : TypeTree) (f : ℕ) (ws cws : List WindowParts) → AreWithin t ws → physical_type t ≡ physical.Struct → 0 < length ws → f < count_fields (fields_of t) → cws ≡ map (field_window f) ws → AreArrays cws
     → (0 < length cws) × AreWithin (layout_type (first_array cws)) cws
 record-children t f ws cws h p s l e r =
     let x = first-within t ws h s in
     let type : (a : Layout) → TopFits a → logical_type (layout_type a) ≡ logical_type t → layout_type (child_in f a) ≡ type_at (fields_of t) f = λ a y z.
     let q = array-facts t a p y z in
     each-type-at (fields_of t) (children_of a) f q.each_type (omega (arith, q.as_many)) in
-    children-within (field_of f) (child_in f) t ws cws (λ w. refl) h s e r
+    children-within (field_window f) (child_in f) t ws cws (λ w. refl) h s e r
     (λ a y z. ap logical_type (type a y z ∙ sym (type (first_array ws) x.0 x.1)))
     (λ i d q. let w = get_or ws i d in let b = field-part t f w p (h i d q) in omega (arith, field-inside t f ws h p l i d q, ap (λ z. z.0) b, ap (λ z. z.1) b))
 
-field-slots : (t : TypeTree) (f : ℕ) (ct : TypeTree) (ws : List WindowParts) (d : Layout) → AreWithin t ws → physical_type t ≡ physical.Struct → IsJoined ct (map (field_of f) ws) d → slots_of d ≡ flat_map (own_slots f) ws
+field-slots : (t : TypeTree) (f : ℕ) (ct : TypeTree) (ws : List WindowParts) (d : Layout) → AreWithin t ws → physical_type t ≡ physical.Struct → IsJoined ct (map (field_window f) ws) d → slots_of d ≡ flat_map (own_slots f) ws
 field-slots t f ct ws d h p g =
     g.slots
-    ∙ flat_map-map window_slots (field_of f) ws
-    ∙ flat-ext (λ w. window_slots (field_of f w)) (own_slots f) ws (λ i e l. let w = get_or ws i e in ap (λ q. sublist (slots_of (child_in f w.array)) q.0 q.1) (field-part t f w p (h i e l)))
+    ∙ flat_map-map window_slots (field_window f) ws
+    ∙ flat-ext (λ w. window_slots (field_window f w)) (own_slots f) ws (λ i e l. let w = get_or ws i e in ap (λ q. sublist (slots_of (child_in f w.array)) q.0 q.1) (field-part t f w p (h i e l)))
 
 field-within : (t : TypeTree) (f : ℕ) (ws : List WindowParts) → AreWithin t ws → physical_type t ≡ physical.Struct → f < count_fields (fields_of t) → All (λ w. w.offset + w.count ≤ length (slots_of (child_in f w.array))) ws
 field-within t f ws h p l = λ i d q. let w = get_or ws i d in omega (arith, field-inside t f ws h p l i d q, slots-length (child_in f w.array))
 
 field-len : (t : TypeTree) (f : ℕ) (ct : TypeTree) (ws : List WindowParts) (d : Layout) → AreWithin t ws → physical_type t ≡ physical.Struct → f < count_fields (fields_of t)
-    → IsJoined ct (map (field_of f) ws) d → len d ≡ count_slots ws
+    → IsJoined ct (map (field_window f) ws) d → len d ≡ count_slots ws
 field-len t f ct ws d h p l g =
     sym (slots-length d) ∙ ap length (field-slots t f ct ws d h p g) ∙ values-count (λ (w : WindowParts). slots_of (child_in f w.array)) ws (field-within t f ws h p l)
 
 field-slot : (t : TypeTree) (f : ℕ) (ct : TypeTree) (ws : List WindowParts) (d : Layout) (k j : ℕ) → AreWithin t ws → physical_type t ≡ physical.Struct → f < count_fields (fields_of t)
-    → IsJoined ct (map (field_of f) ws) d → k < length ws → j < count_of (window ws k) → slot d (place_of ws k j) ≡ slot (child_in f (window ws k).array) ((window ws k).offset + j)
+    → IsJoined ct (map (field_window f) ws) d → k < length ws → j < count_of (window ws k) → slot d (place_of ws k j) ≡ slot (child_in f (window ws k).array) ((window ws k).offset + j)
 field-slot t f ct ws d k j h p l g m n =
     let w = window ws k in
     let c : WindowParts → List Slot = λ x. slots_of (child_in f x.array) in
@@ -187,16 +187,16 @@ field-slot t f ct ws d k j h p l g m n =
     ∙ slot-place (child_in f w.array) (w.offset + j) slots.null (omega (arith, field-inside t f ws h p l k nowhere m))
 
 record-core : (t : TypeTree) (ws : List WindowParts) (ds : Layouts) → AreWithin t ws → physical_type t ≡ physical.Struct → 0 < length ws → EachJoined (children_of (first_array ws)) 0 ws ds
-    → Fits (struct t ds (joined_validity ws)) × IsJoined t ws (struct t ds (joined_validity ws))
+    → Fits (struct t ds (concatenated_validity ws)) × IsJoined t ws (struct t ds (concatenated_validity ws))
 record-core t ws ds h p s g =
-    let v = joined_validity ws in
+    let v = concatenated_validity ws in
     let x = first-within t ws h s in
     let cs = children_of (first_array ws) in
     let q = array-facts t (first_array ws) p x.0 x.1 in
     let c = joined-count cs 0 ws ds g in
-    let at : (f : ℕ) → f < count_layouts ds → IsJoined (layout_type (child_at cs f)) (map (field_of f) ws) (child_at ds f) = λ f l.
+    let at : (f : ℕ) → f < count_layouts ds → IsJoined (layout_type (child_at cs f)) (map (field_window f) ws) (child_at ds f) = λ f l.
     let z : 0 + f ≡ f = omega arith in
-    subst (λ n. IsJoined (layout_type (child_at cs f)) (map (field_of n) ws) (child_at ds f)) z (joined-at cs 0 ws ds f g l) in
+    subst (λ n. IsJoined (layout_type (child_at cs f)) (map (field_window n) ws) (child_at ds f)) z (joined-at cs 0 ws ds f g l) in
     let lens = each-len-by ds (count_slots ws) (λ f l. field-len t f (layout_type (child_at cs f)) ws (child_at ds f) h p (omega (arith, c, q.as_many)) (at f l)) in
     let n = first-len-is ds (count_slots ws) lens (omega (arith, c, q.as_many, q.some_field)) in (
       (p, (q.some_field, (c ∙ q.as_many, (joined-types (fields_of t) cs 0 ws ds q.each_type g, (subst (EachLen ds) (sym n) lens, (subst (ValidityFits v) (sym n) (joined-fits t ws h), tt)))))),
@@ -214,29 +214,29 @@ record-core t ws ds h p s g =
     )
 
 pub record-joined : (t u : TypeTree) (ws : List WindowParts) (cs ds : Layouts) (v : Validity) → AreWithin t ws → physical_type t ≡ physical.Struct → 0 < length ws → cs ≡ children_of (first_array ws)
-    → EachJoined cs 0 ws ds → u ≡ t → v ≡ joined_validity ws → Fits (struct u ds v) × IsJoined t ws (struct u ds v)
+    → EachJoined cs 0 ws ds → u ≡ t → v ≡ concatenated_validity ws → Fits (struct u ds v) × IsJoined t ws (struct u ds v)
 record-joined t u ws cs ds v h p s c g e f =
     let x = record-core t ws ds h p s (subst (λ z. EachJoined z 0 ws ds) c g) in
-    let y : struct t ds (joined_validity ws) ≡ struct u ds v = cc in
+    let y : struct t ds (concatenated_validity ws) ≡ struct u ds v = cc in
     subst (λ z. Fits z × IsJoined t ws z) y x
 
 -- the error of one child
-passes-at : (cs : Layouts) (f g : ℕ) (ws : List WindowParts) → g < count_layouts cs → PassesLimits (child_at cs g) (map (field_of (f + g)) ws) → SomePasses cs f ws
+passes-at : (cs : Layouts) (f g : ℕ) (ws : List WindowParts) → g < count_layouts cs → PassesLimits (child_at cs g) (map (field_window (f + g)) ws) → SomePasses cs f ws
 passes-at no_layouts f g ws l h = absurd (omega arith)
-passes-at (more_layouts c cs) f zero ws l h = let z : f + 0 ≡ f = omega arith in inl (subst (λ n. PassesLimits c (map (field_of n) ws)) z h)
+passes-at (more_layouts c cs) f zero ws l h = let z : f + 0 ≡ f = omega arith in inl (subst (λ n. PassesLimits c (map (field_window n) ws)) z h)
 passes-at (more_layouts c cs) f (suc g) ws l h =
     let z : f + suc g ≡ suc f + g = omega arith in
-    inr (passes-at cs (suc f) g ws (omega arith) (subst (λ n. PassesLimits (child_at cs g) (map (field_of n) ws)) z h))
+    inr (passes-at cs (suc f) g ws (omega arith) (subst (λ n. PassesLimits (child_at cs g) (map (field_window n) ws)) z h))
 
-refuses-child : (e : Error) (cs : Layouts) (g : ℕ) (ws : List WindowParts) → g < count_layouts cs → RefusesJoin e (child_at cs g) (map (field_of g) ws) → RefusesEach e cs ws
+refuses-child : (e : Error) (cs : Layouts) (g : ℕ) (ws : List WindowParts) → g < count_layouts cs → RefusesJoin e (child_at cs g) (map (field_window g) ws) → RefusesEach e cs ws
 refuses-child e cs g ws l (inl m) = inl m
-refuses-child e cs g ws l (inr p) = let z : g ≡ 0 + g = omega arith in inr ((p.0, passes-at cs 0 g ws l (subst (λ n. PassesLimits (child_at cs g) (map (field_of n) ws)) z p.1)))
+refuses-child e cs g ws l (inr p) = let z : g ≡ 0 + g = omega arith in inr ((p.0, passes-at cs 0 g ws l (subst (λ n. PassesLimits (child_at cs g) (map (field_window n) ws)) z p.1)))
 
 -- field f of the first array
-pub field-first : (f : ℕ) (cs : Layouts) (ws cws : List WindowParts) → cs ≡ children_of (first_array ws) → 0 < length ws → cws ≡ map (field_of f) ws → first_array cws ≡ child_at cs f
-field-first f cs ws cws c s e = ap first_array e ∙ first-of-map (field_of f) (child_in f) ws (λ w. refl) s ∙ ap (λ z. child_at z f) (sym c)
+pub field-first : (f : ℕ) (cs : Layouts) (ws cws : List WindowParts) → cs ≡ children_of (first_array ws) → 0 < length ws → cws ≡ map (field_window f) ws → first_array cws ≡ child_at cs f
+field-first f cs ws cws c s e = ap first_array e ∙ first-of-map (field_window f) (child_in f) ws (λ w. refl) s ∙ ap (λ z. child_at z f) (sym c)
 
-pub field-refuses : (e : Error) (f : ℕ) (cs : Layouts) (ws cws : List WindowParts) → cs ≡ children_of (first_array ws) → 0 < length ws → f < count_layouts cs → cws ≡ map (field_of f) ws
+pub field-refuses : (e : Error) (f : ℕ) (cs : Layouts) (ws cws : List WindowParts) → cs ≡ children_of (first_array ws) → 0 < length ws → f < count_layouts cs → cws ≡ map (field_window f) ws
     → RefusesJoin e (first_array cws) cws → RefusesEach e cs ws
 field-refuses e f cs ws cws c s l q r =
     let z = field-first f cs ws cws c s q in
@@ -257,8 +257,8 @@ pub record-count : (t : TypeTree) (cs : Layouts) (ws : List WindowParts) → Are
 record-count t cs ws h p s e = let x = first-within t ws h s in ap count_layouts e ∙ (array-facts t (first_array ws) p x.0 x.1).as_many
 
 -- the concatenation of one child
-pub field-joined : (f : ℕ) (cs : Layouts) (ws cws : List WindowParts) (d : Layout) → cs ≡ children_of (first_array ws) → 0 < length ws → cws ≡ map (field_of f) ws
-    → IsJoined (layout_type (first_array cws)) cws d → IsJoined (layout_type (child_at cs f)) (map (field_of f) ws) d
+pub field-joined : (f : ℕ) (cs : Layouts) (ws cws : List WindowParts) (d : Layout) → cs ≡ children_of (first_array ws) → 0 < length ws → cws ≡ map (field_window f) ws
+    → IsJoined (layout_type (first_array cws)) cws d → IsJoined (layout_type (child_at cs f)) (map (field_window f) ws) d
 field-joined f cs ws cws d c s e j =
     let z = field-first f cs ws cws c s e in
     subst (λ y. IsJoined (layout_type (child_at cs f)) y d) e (subst (λ y. IsJoined (layout_type y) cws d) z j)

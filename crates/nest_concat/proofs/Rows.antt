@@ -17,7 +17,7 @@ use Rattle.nest_model.specs.Part.{Validity, begin, extent, count_rows}
 use Rattle.nest_model.specs.Slot as slots
 use Rattle.nest_array.specs.WindowParts.{WindowParts}
 use Rattle.nest_concat.specs.Joined.{AreWithin, IsJoined, IsWithin}
-use Rattle.nest_concat.specs.Windows.{bytes_in, count_items, count_of, count_slots, extents_in, joined_validity}
+use Rattle.nest_concat.specs.Windows.{bytes_in, window_item_count, count_of, count_slots, extents_in, concatenated_validity}
 use Rattle.nest_concat.proofs.Logical.{kind-alike}
 use Rattle.nest_concat.proofs.Pieces.{AreLong, AreSpans, ends, ends-last, ends-rows, extents-length, flat-length, row-cut, span-items, span-sum, sum-all}
 use Rattle.nest_concat.proofs.Shapes.{binary-shape, text-shape}
@@ -31,20 +31,20 @@ abbrev pub joined_ends : List WindowParts → List ℕ
 joined_ends ws = ends (flat_map extents_in ws)
 
 abbrev pub span_in : {A : Type 0} → (WindowParts → List A) → WindowParts → List A
-span_in xs w = sublist (xs w) (begin (offsets_of w.array) w.offset) (count_items w)
+span_in xs w = sublist (xs w) (begin (offsets_of w.array) w.offset) (window_item_count w)
 
 pub spans-rows : (ws : List WindowParts) → count_rows (joined_ends ws) ≡ count_slots ws
 spans-rows ws =
     let long : AreLong extents_in count_of ws = λ i d l. let w = get_or ws i d in extents-length (offsets_of w.array) w.offset w.count in
     ends-rows (flat_map extents_in ws) ∙ flat-length extents_in count_of ws long
 
-pub spans-last : {A : Type 0} (xs : WindowParts → List A) (ws : List WindowParts) → SpansOf xs ws → last_of (joined_ends ws) ≡ sum_by count_items ws
+pub spans-last : {A : Type 0} (xs : WindowParts → List A) (ws : List WindowParts) → SpansOf xs ws → last_of (joined_ends ws) ≡ sum_by window_item_count ws
 spans-last xs ws h =
     ends-last (flat_map extents_in ws)
-    ∙ sum-all extents_in count_items ws (λ i d l. let w = get_or ws i d in span-sum (offsets_of w.array) (xs w) w.offset w.count (h i d l))
+    ∙ sum-all extents_in window_item_count ws (λ i d l. let w = get_or ws i d in span-sum (offsets_of w.array) (xs w) w.offset w.count (h i d l))
 
-pub spans-length : {A : Type 0} (xs : WindowParts → List A) (ws : List WindowParts) → SpansOf xs ws → length (flat_map (span_in xs) ws) ≡ sum_by count_items ws
-spans-length xs ws h = flat-length (span_in xs) count_items ws (λ i d l. let w = get_or ws i d in span-items (offsets_of w.array) (xs w) w.offset w.count (h i d l))
+pub spans-length : {A : Type 0} (xs : WindowParts → List A) (ws : List WindowParts) → SpansOf xs ws → length (flat_map (span_in xs) ws) ≡ sum_by window_item_count ws
+spans-length xs ws h = flat-length (span_in xs) window_item_count ws (λ i d l. let w = get_or ws i d in span-items (offsets_of w.array) (xs w) w.offset w.count (h i d l))
 
 pub span-at : {A : Type 0} (xs : WindowParts → List A) (ws : List WindowParts) (k j : ℕ) → SpansOf xs ws → k < length ws → j < count_of (window ws k)
     → sublist (flat_map (span_in xs) ws) (begin (joined_ends ws) (place_of ws k j)) (extent (joined_ends ws) (place_of ws k j))
@@ -64,11 +64,11 @@ binary-spans large t ws h p = λ i d l.
     record { rising = f.rising; inside = omega (arith, (h i d l).within, ap len e); covered = f.within }
 
 binary-core : (large : Bool) (t : TypeTree) (ws : List WindowParts) → AreWithin t ws → physical_type t ≡ binary_of_width large
-    → Fits (binary large t (joined_ends ws) (flat_map bytes_in ws) (joined_validity ws)) × IsJoined t ws (binary large t (joined_ends ws) (flat_map bytes_in ws) (joined_validity ws))
+    → Fits (binary large t (joined_ends ws) (flat_map bytes_in ws) (concatenated_validity ws)) × IsJoined t ws (binary large t (joined_ends ws) (flat_map bytes_in ws) (concatenated_validity ws))
 binary-core large t ws h p =
     let es = joined_ends ws in
     let bs = flat_map bytes_in ws in
-    let v = joined_validity ws in
+    let v = concatenated_validity ws in
     let bytes : WindowParts → List ℕ = λ w. bytes_of w.array in
     let s = binary-spans large t ws h p in
     let n = spans-rows ws in (
@@ -83,9 +83,9 @@ binary-core large t ws h p =
     )
 
 pub binary-joined : (large : Bool) (t u : TypeTree) (ws : List WindowParts) (es bs : List ℕ) (v : Validity) → AreWithin t ws → physical_type t ≡ binary_of_width large → u ≡ t
-    → es ≡ joined_ends ws → bs ≡ flat_map bytes_in ws → v ≡ joined_validity ws → Fits (binary large u es bs v) × IsJoined t ws (binary large u es bs v)
+    → es ≡ joined_ends ws → bs ≡ flat_map bytes_in ws → v ≡ concatenated_validity ws → Fits (binary large u es bs v) × IsJoined t ws (binary large u es bs v)
 binary-joined large t u ws es bs v h p e f g q =
-    let y : binary large t (joined_ends ws) (flat_map bytes_in ws) (joined_validity ws) ≡ binary large u es bs v = cc in
+    let y : binary large t (joined_ends ws) (flat_map bytes_in ws) (concatenated_validity ws) ≡ binary large u es bs v = cc in
     subst (λ z. Fits z × IsJoined t ws z) y (binary-core large t ws h p)
 
 -- UTF-8
@@ -101,11 +101,11 @@ text-spans large t ws h p = λ i d l.
     record { rising = f.rising; inside = omega (arith, (h i d l).within, ap len e); covered = f.within }
 
 text-core : (large : Bool) (t : TypeTree) (ws : List WindowParts) → AreWithin t ws → physical_type t ≡ utf8_of_width large
-    → Fits (utf8 large t (joined_ends ws) (flat_map bytes_in ws) (joined_validity ws)) × IsJoined t ws (utf8 large t (joined_ends ws) (flat_map bytes_in ws) (joined_validity ws))
+    → Fits (utf8 large t (joined_ends ws) (flat_map bytes_in ws) (concatenated_validity ws)) × IsJoined t ws (utf8 large t (joined_ends ws) (flat_map bytes_in ws) (concatenated_validity ws))
 text-core large t ws h p =
     let es = joined_ends ws in
     let bs = flat_map bytes_in ws in
-    let v = joined_validity ws in
+    let v = concatenated_validity ws in
     let bytes : WindowParts → List ℕ = λ w. bytes_of w.array in
     let s = text-spans large t ws h p in
     let n = spans-rows ws in (
@@ -132,7 +132,7 @@ text-core large t ws h p =
     )
 
 pub text-joined : (large : Bool) (t u : TypeTree) (ws : List WindowParts) (es bs : List ℕ) (v : Validity) → AreWithin t ws → physical_type t ≡ utf8_of_width large → u ≡ t
-    → es ≡ joined_ends ws → bs ≡ flat_map bytes_in ws → v ≡ joined_validity ws → Fits (utf8 large u es bs v) × IsJoined t ws (utf8 large u es bs v)
+    → es ≡ joined_ends ws → bs ≡ flat_map bytes_in ws → v ≡ concatenated_validity ws → Fits (utf8 large u es bs v) × IsJoined t ws (utf8 large u es bs v)
 text-joined large t u ws es bs v h p e f g q =
-    let y : utf8 large t (joined_ends ws) (flat_map bytes_in ws) (joined_validity ws) ≡ utf8 large u es bs v = cc in
+    let y : utf8 large t (joined_ends ws) (flat_map bytes_in ws) (concatenated_validity ws) ≡ utf8 large u es bs v = cc in
     subst (λ z. Fits z × IsJoined t ws z) y (text-core large t ws h p)

@@ -25,9 +25,9 @@ use Rattle.nest_array.proofs.Picks.{IsUnionOf, picks-field}
 use Rattle.nest_array.specs.WindowParts.{WindowParts, window_slots}
 use Rattle.nest_concat.specs.Joined.{AreArrays, AreWithin, EachJoined, HasFields, IsJoined, RefusesEach, RefusesJoin, first_array}
 use Rattle.nest_concat.specs.Limits.{PassesLimits, PassesPicks}
-use Rattle.nest_concat.specs.Moved.{joined_offsets, moved_offset, moved_offsets, offsets_behind, types_in}
+use Rattle.nest_concat.specs.Moved.{joined_offsets, moved_offset, moved_offsets, offsets_behind, type_ids_in}
 use Rattle.nest_concat.specs.Parts.{field_at}
-use Rattle.nest_concat.specs.Windows.{count_of, count_slots, field_of}
+use Rattle.nest_concat.specs.Windows.{count_of, count_slots, field_window}
 use Rattle.nest_concat.proofs.Logical.{dense-alike, fields-alike, ids-alike}
 use Rattle.nest_concat.proofs.Nested.{all-map, children-within, first-within, place-below}
 use Rattle.nest_concat.proofs.Picked.{facts-of, part-inside, pick-inside, picks-one, same-mode, sparse-count, sparse-part, union-is}
@@ -58,27 +58,27 @@ pub facts-by : (t : TypeTree) (a : Layout) → TopFits a → logical_type (layou
 facts-by t a h e p = union-under (layout_type a) t (types_of a) (children_of a) (union_offsets_of a) (start_of a) e p (facts-of a h (union-is t a h e p))
 
 -- each part is in its field
-parts-inside : (t : TypeTree) (f : ℕ) (ws : List WindowParts) → AreWithin t ws → physical_type t ≡ physical.Union → f < count_fields (fields_of t) → All (λ w. (field_of f w).offset + (field_of f w).count ≤ len (field_of f w).array) ws
+parts-inside : (t : TypeTree) (f : ℕ) (ws : List WindowParts) → AreWithin t ws → physical_type t ≡ physical.Union → f < count_fields (fields_of t) → All (λ w. (field_window f w).offset + (field_window f w).count ≤ len (field_window f w).array) ws
 parts-inside t f ws h p l = λ i d q.
     let w = get_or ws i d in
     let x = h i d q in
     let u = union-is t w.array x.is_array x.same_type p in
     part-inside f w.array w.offset w.count x.is_array u (omega (arith, l, (facts-by t w.array x.is_array x.same_type p).as_many)) x.within
 
-union-children : (t : TypeTree) (f : ℕ) (ws cws : List WindowParts) → AreWithin t ws → physical_type t ≡ physical.Union → 0 < length ws → f < count_fields (fields_of t) → cws ≡ map (field_of f) ws → AreArrays cws
+union-children : (t : TypeTree) (f : ℕ) (ws cws : List WindowParts) → AreWithin t ws → physical_type t ≡ physical.Union → 0 < length ws → f < count_fields (fields_of t) → cws ≡ map (field_window f) ws → AreArrays cws
     → (0 < length cws) × AreWithin (layout_type (first_array cws)) cws
 union-children t f ws cws h p s l e r =
     let x = first-within t ws h s in
     let type : (a : Layout) → TopFits a → logical_type (layout_type a) ≡ logical_type t → layout_type (child_in f a) ≡ type_at (fields_of t) f = λ a y z.
     let q = facts-by t a y z p in
     each-type-at (fields_of t) (children_of a) f q.each_type (omega (arith, q.as_many, l)) in
-    children-within (field_of f) (child_in f) t ws cws (λ w. refl) h s e r (λ a y z. ap logical_type (type a y z ∙ sym (type (first_array ws) x.0 x.1))) (parts-inside t f ws h p l)
+    children-within (field_window f) (child_in f) t ws cws (λ w. refl) h s e r (λ a y z. ap logical_type (type a y z ∙ sym (type (first_array ws) x.0 x.1))) (parts-inside t f ws h p l)
 
 union-count : (t : TypeTree) (cs : Layouts) (ws : List WindowParts) → AreWithin t ws → physical_type t ≡ physical.Union → 0 < length ws → cs ≡ children_of (first_array ws) → count_layouts cs ≡ count_fields (fields_of t)
 union-count t cs ws h p s e = let x = first-within t ws h s in ap count_layouts e ∙ (facts-by t (first_array ws) x.0 x.1 p).as_many
 
 -- structs and unions
-pub field-children : (t : TypeTree) (f : ℕ) (ws cws : List WindowParts) → AreWithin t ws → HasFields t → 0 < length ws → f < count_fields (fields_of t) → cws ≡ map (field_of f) ws → AreArrays cws
+pub field-children : (t : TypeTree) (f : ℕ) (ws cws : List WindowParts) → AreWithin t ws → HasFields t → 0 < length ws → f < count_fields (fields_of t) → cws ≡ map (field_window f) ws → AreArrays cws
     → (0 < length cws) × AreWithin (layout_type (first_array cws)) cws
 field-children t f ws cws h (inl p) s l e r = record-children t f ws cws h p s l e r
 field-children t f ws cws h (inr p) s l e r = union-children t f ws cws h p s l e r
@@ -112,19 +112,19 @@ joined-slot t ws b k j h g l m =
 
 -- the position in the concatenated field of index q of a field, if window k picks it
 abbrev pub moved_place : ℕ → List WindowParts → ℕ → ℕ → ℕ
-moved_place f ws k q = place_of (map (field_of f) ws) k (q - (field_of f (window ws k)).offset)
+moved_place f ws k q = place_of (map (field_window f) ws) k (q - (field_window f (window ws k)).offset)
 
-inside-map : (f : ℕ) (ws : List WindowParts) → All (λ w. (field_of f w).offset + (field_of f w).count ≤ len (field_of f w).array) ws → AreInside (map (field_of f) ws)
-inside-map f ws h = all-map (field_of f) (λ w. w.offset + w.count ≤ len w.array) ws h
+inside-map : (f : ℕ) (ws : List WindowParts) → All (λ w. (field_window f w).offset + (field_window f w).count ≤ len (field_window f w).array) ws → AreInside (map (field_window f) ws)
+inside-map f ws h = all-map (field_window f) (λ w. w.offset + w.count ≤ len w.array) ws h
 
-moved-slot : (f : ℕ) (t : TypeTree) (ws : List WindowParts) (b : Layout) (k q : ℕ) → AreInside (map (field_of f) ws) → IsJoined t (map (field_of f) ws) b → k < length ws
-    → ((field_of f (window ws k)).offset ≤ q) × (q < (field_of f (window ws k)).offset + (field_of f (window ws k)).count)
-    → (moved_place f ws k q < len b) × (slot b (moved_place f ws k q) ≡ slot (field_of f (window ws k)).array q)
+moved-slot : (f : ℕ) (t : TypeTree) (ws : List WindowParts) (b : Layout) (k q : ℕ) → AreInside (map (field_window f) ws) → IsJoined t (map (field_window f) ws) b → k < length ws
+    → ((field_window f (window ws k)).offset ≤ q) × (q < (field_window f (window ws k)).offset + (field_window f (window ws k)).count)
+    → (moved_place f ws k q < len b) × (slot b (moved_place f ws k q) ≡ slot (field_window f (window ws k)).array q)
 moved-slot f t ws b k q h g l i =
-    let cws = map (field_of f) ws in
-    let w = field_of f (window ws k) in
-    let e : window cws k ≡ w = get_or-map (field_of f) ws k nowhere nowhere l in
-    let m : k < length cws = omega (arith, length-map ws (field_of f)) in
+    let cws = map (field_window f) ws in
+    let w = field_window f (window ws k) in
+    let e : window cws k ≡ w = get_or-map (field_window f) ws k nowhere nowhere l in
+    let m : k < length cws = omega (arith, length-map ws (field_window f)) in
     let d = q - w.offset in
     let n : d < count_of (window cws k) = omega (arith, ap count_of e, i.0, i.1) in
     let r = joined-slot t cws b k d h g m n in
@@ -165,8 +165,8 @@ offsets-at ws k j f l m e =
     let w = window ws k in
     let q = union_index (union_offsets_of w.array) (start_of w.array) (w.offset + j) in
     behind-at [] ws k j l m
-    ∙ ap (λ o. pos (count_slots (map (field_of (unwrap_or o 0)) (take k ws)) + (q - (field_of (unwrap_or o 0) w).offset))) e
-    ∙ ap (λ vs. pos (sum_by count_of vs + (q - (field_of f w).offset))) (sym (take-map (field_of f) k ws))
+    ∙ ap (λ o. pos (count_slots (map (field_window (unwrap_or o 0)) (take k ws)) + (q - (field_window (unwrap_or o 0) w).offset))) e
+    ∙ ap (λ vs. pos (sum_by count_of vs + (q - (field_window f w).offset))) (sym (take-map (field_window f) k ws))
 
 -- slots of a sparse union keep their indices
 same-counts : (g : WindowParts → WindowParts) (ws : List WindowParts) (k : ℕ) → All (λ w. (g w).count ≡ w.count) ws → sum_by count_of (take k (map g ws)) ≡ sum_by count_of (take k ws)
@@ -191,7 +191,7 @@ all-sparse t ws h p s e = λ i d l.
     let y = first-within t ws h s in
     same-mode (first_array ws) w.array y.0 x.is_array (union-is t (first_array ws) y.0 y.1 p) (union-is t w.array x.is_array x.same_type p) (y.1 ∙ sym x.same_type) e
 
-sparse-counts : (t : TypeTree) (f : ℕ) (ws : List WindowParts) → AreWithin t ws → physical_type t ≡ physical.Union → AreSparse ws → All (λ w. (field_of f w).count ≡ w.count) ws
+sparse-counts : (t : TypeTree) (f : ℕ) (ws : List WindowParts) → AreWithin t ws → physical_type t ≡ physical.Union → AreSparse ws → All (λ w. (field_window f w).count ≡ w.count) ws
 sparse-counts t f ws h p s = λ i d l.
     let w = get_or ws i d in
     let x = h i d l in
@@ -205,7 +205,7 @@ sparse-land t f ws k j h p s l m =
     let u = union-is t w.array x.is_array x.same_type p in
     let e = sparse-part f w.array w.offset w.count u (s k nowhere l) (omega arith) in
     let y = ap (λ o. union_index o (start_of w.array) (w.offset + j)) (s k nowhere l) in
-    omega (arith, y, ap (λ z. z.0) e, same-counts (field_of f) ws k (sparse-counts t f ws h p s))
+    omega (arith, y, ap (λ z. z.0) e, same-counts (field_window f) ws k (sparse-counts t f ws h p s))
 
 -- facts about children
 covers-by : (ds : Layouts) (n : ℕ) → ((g : ℕ) → g < count_layouts ds → n ≤ len (child_at ds g)) → EachCovers ds n
@@ -251,7 +251,7 @@ lands t ws ds k j h p s g l m =
     let v = facts-by t a x.is_array x.same_type p in
     let there : f < count_layouts cs = omega (arith, o.1.field_there, v.as_many, r.as_many) in
     let z : 0 + f ≡ f = omega arith in
-    let d = subst (λ b. IsJoined (layout_type (child_at cs f)) (map (field_of b) ws) (child_at ds f)) z (joined-at cs 0 ws ds f g (omega (arith, there, c))) in
+    let d = subst (λ b. IsJoined (layout_type (child_at cs f)) (map (field_window b) ws) (child_at ds f)) z (joined-at cs 0 ws ds f g (omega (arith, there, c))) in
     let inside = inside-map f ws (parts-inside t f ws h p (omega (arith, there, r.as_many))) in
     let moved = moved-slot f (layout_type (child_at cs f)) ws (child_at ds f) k q inside d l (pick-inside f a w.offset w.count j q x.is_array u m o.1.means refl) in
     let ty : layout_type (child_at ds f) ≡ layout_type (child_at (children_of a) f)
@@ -275,17 +275,17 @@ types-inside t ws h p = λ i d l.
     omega (arith, x.within, ap len (union-is t w.array x.is_array x.same_type p))
 
 type-there : (t : TypeTree) (ws : List WindowParts) (k j : ℕ) → AreWithin t ws → physical_type t ≡ physical.Union → k < length ws → j < count_of (window ws k)
-    → get_or (flat_map types_in ws) (place_of ws k j) (pos 0) ≡ get_or (types_of (window ws k).array) ((window ws k).offset + j) (pos 0)
+    → get_or (flat_map type_ids_in ws) (place_of ws k j) (pos 0) ≡ get_or (types_of (window ws k).array) ((window ws k).offset + j) (pos 0)
 type-there t ws k j h p l m = values-at (λ (w : WindowParts). types_of w.array) ws k j (pos 0) (types-inside t ws h p) l m
 
-type-count : (t : TypeTree) (ws : List WindowParts) → AreWithin t ws → physical_type t ≡ physical.Union → length (flat_map types_in ws) ≡ count_slots ws
+type-count : (t : TypeTree) (ws : List WindowParts) → AreWithin t ws → physical_type t ≡ physical.Union → length (flat_map type_ids_in ws) ≡ count_slots ws
 type-count t ws h p = values-count (λ (w : WindowParts). types_of w.array) ws (types-inside t ws h p)
 
 -- offsets that are the positions of each slot's pick
 record ArePlaces (t : TypeTree) (ws : List WindowParts) (ds : Layouts) (os : Option (List ℤ)) : Type 0 where
   pub count : OffsetsCount os (count_slots ws)
   pub mode : OffsetsByMode os (is_dense t)
-  pub there : SlotsThere (ids_of t) (flat_map types_in ws) ds os 0
+  pub there : SlotsThere (ids_of t) (flat_map type_ids_in ws) ds os 0
   pub each : (k j f : ℕ) → k < length ws → j < count_of (window ws k) → field_at (window ws k).array ((window ws k).offset + j) ≡ Some f
       → union_index os 0 (place_of ws k j) ≡ moved_place f ws k (union_index (union_offsets_of (window ws k).array) (start_of (window ws k).array) ((window ws k).offset + j))
 
@@ -300,12 +300,12 @@ sparse-indices t ws ds h p s g e =
     record {
       count = tt;
       mode = subst (λ o. OffsetsByMode o (is_dense t)) e r.mode;
-      there = covers-by ds (0 + length (flat_map types_in ws)) (λ f l.
+      there = covers-by ds (0 + length (flat_map type_ids_in ws)) (λ f l.
           let k : f < count_layouts cs = omega (arith, l, c) in
           let z : 0 + f ≡ f = omega arith in
-          let d = subst (λ b. IsJoined (layout_type (child_at cs f)) (map (field_of b) ws) (child_at ds f)) z (joined-at cs 0 ws ds f g l) in
-          let n = joined-len (layout_type (child_at cs f)) (map (field_of f) ws) (child_at ds f) (inside-map f ws (parts-inside t f ws h p (omega (arith, k, r.as_many)))) d in
-          omega (arith, n, same-count (field_of f) ws (sparse-counts t f ws h p a), type-count t ws h p));
+          let d = subst (λ b. IsJoined (layout_type (child_at cs f)) (map (field_window b) ws) (child_at ds f)) z (joined-at cs 0 ws ds f g l) in
+          let n = joined-len (layout_type (child_at cs f)) (map (field_window f) ws) (child_at ds f) (inside-map f ws (parts-inside t f ws h p (omega (arith, k, r.as_many)))) d in
+          omega (arith, n, same-count (field_window f) ws (sparse-counts t f ws h p a), type-count t ws h p));
       each = λ k j f l m i. let z : 0 + place_of ws k j ≡ place_of ws k j = omega arith in z ∙ sym (sparse-land t f ws k j h p a l m);
     }
 
@@ -314,7 +314,7 @@ dense-indices : (t : TypeTree) (ws : List WindowParts) (ds : Layouts) (os : List
 dense-indices t ws ds os h p s g e =
     let y = first-within t ws h s in
     let r = facts-by t (first_array ws) y.0 y.1 p in
-    let xs = flat_map types_in ws in
+    let xs = flat_map type_ids_in ws in
     record {
       count = behind-length [] ws;
       mode = subst (λ o. OffsetsByMode o (is_dense t)) e r.mode;
@@ -330,9 +330,9 @@ dense-indices t ws ds os h p s g e =
     }
 
 indices-core : (t : TypeTree) (ws : List WindowParts) (ds : Layouts) (os : Option (List ℤ)) → AreWithin t ws → physical_type t ≡ physical.Union → 0 < length ws → EachJoined (children_of (first_array ws)) 0 ws ds
-    → ArePlaces t ws ds os → Fits (union t (flat_map types_in ws) ds os 0) × IsJoined t ws (union t (flat_map types_in ws) ds os 0)
+    → ArePlaces t ws ds os → Fits (union t (flat_map type_ids_in ws) ds os 0) × IsJoined t ws (union t (flat_map type_ids_in ws) ds os 0)
 indices-core t ws ds os h p s g o =
-    let xs = flat_map types_in ws in
+    let xs = flat_map type_ids_in ws in
     let y = first-within t ws h s in
     let cs = children_of (first_array ws) in
     let r = facts-by t (first_array ws) y.0 y.1 p in
@@ -363,15 +363,15 @@ indices-core t ws ds os h p s g o =
     )
 
 union-core : (t : TypeTree) (ws : List WindowParts) (ds : Layouts) (o : Option (List ℤ)) → AreWithin t ws → physical_type t ≡ physical.Union → 0 < length ws → EachJoined (children_of (first_array ws)) 0 ws ds
-    → union_offsets_of (first_array ws) ≡ o → Fits (union t (flat_map types_in ws) ds (joined_offsets o ws) 0) × IsJoined t ws (union t (flat_map types_in ws) ds (joined_offsets o ws) 0)
+    → union_offsets_of (first_array ws) ≡ o → Fits (union t (flat_map type_ids_in ws) ds (joined_offsets o ws) 0) × IsJoined t ws (union t (flat_map type_ids_in ws) ds (joined_offsets o ws) 0)
 union-core t ws ds None h p s g e = indices-core t ws ds None h p s g (sparse-indices t ws ds h p s g e)
 union-core t ws ds (Some os) h p s g e = indices-core t ws ds (Some (moved_offsets ws)) h p s g (dense-indices t ws ds os h p s g e)
 
 pub union-joined : (t u : TypeTree) (a : Layout) (ws : List WindowParts) (xs : List ℤ) (cs ds : Layouts) (os : Option (List ℤ)) → AreWithin t ws → physical_type t ≡ physical.Union → 0 < length ws → a ≡ first_array ws
-    → cs ≡ children_of a → EachJoined cs 0 ws ds → u ≡ t → xs ≡ flat_map types_in ws → os ≡ joined_offsets (union_offsets_of a) ws → Fits (union u xs ds os 0) × IsJoined t ws (union u xs ds os 0)
+    → cs ≡ children_of a → EachJoined cs 0 ws ds → u ≡ t → xs ≡ flat_map type_ids_in ws → os ≡ joined_offsets (union_offsets_of a) ws → Fits (union u xs ds os 0) × IsJoined t ws (union u xs ds os 0)
 union-joined t u a ws xs cs ds os h p s k c g e f q =
     let x = union-core t ws ds (union_offsets_of a) h p s (subst (λ z. EachJoined z 0 ws ds) (c ∙ ap children_of k) g) (ap union_offsets_of (sym k)) in
-    let y : union t (flat_map types_in ws) ds (joined_offsets (union_offsets_of a) ws) 0 ≡ union u xs ds os 0 = cc in
+    let y : union t (flat_map type_ids_in ws) ds (joined_offsets (union_offsets_of a) ws) 0 ≡ union u xs ds os 0 = cc in
     subst (λ z. Fits z × IsJoined t ws z) y x
 
 -- the errors

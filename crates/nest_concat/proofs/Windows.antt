@@ -18,7 +18,7 @@ use Rattle.nest_model.specs.Slot as slots
 use Rattle.nest_model.specs.Slot.{Slot}
 use Rattle.nest_array.specs.WindowParts.{WindowParts, window_parts, window_slots}
 use Rattle.nest_concat.specs.Joined.{AreWithin, IsWithin}
-use Rattle.nest_concat.specs.Windows.{bits_in, count_of, count_slots, have_bits, joined_validity, window_bits}
+use Rattle.nest_concat.specs.Windows.{bits_in, count_of, count_slots, have_bits, concatenated_validity, window_bits}
 use Rattle.nest_concat.proofs.Pieces.{AreLong, first-one, later-ones, flat-at, flat-length}
 
 -- window k, and the index of its slot j among the slots of all windows
@@ -151,14 +151,14 @@ valid-by true t ws k j e h l m =
 valid-by false t ws k j e h l m = sym (no-bits ws k ((window ws k).offset + j) e l)
 
 pub validity-at : (t : TypeTree) (ws : List WindowParts) (k j : ℕ) → AreWithin t ws → k < length ws → j < count_of (window ws k)
-    → valid_at (joined_validity ws) (place_of ws k j) ≡ valid_at (validity_of (window ws k).array) ((window ws k).offset + j)
+    → valid_at (concatenated_validity ws) (place_of ws k j) ≡ valid_at (validity_of (window ws k).array) ((window ws k).offset + j)
 validity-at t ws k j h l m = valid-by (have_bits ws) t ws k j refl h l m
 
 selected-fits : (b : Bool) (t : TypeTree) (ws : List WindowParts) → AreWithin t ws → ValidityFits (selected_validity b ws) (count_slots ws)
 selected-fits true t ws h = flat-length bits_in count_of ws (bits-long t ws h)
 selected-fits false t ws h = tt
 
-pub joined-fits : (t : TypeTree) (ws : List WindowParts) → AreWithin t ws → ValidityFits (joined_validity ws) (count_slots ws)
+pub joined-fits : (t : TypeTree) (ws : List WindowParts) → AreWithin t ws → ValidityFits (concatenated_validity ws) (count_slots ws)
 joined-fits t ws h = selected-fits (have_bits ws) t ws h
 
 -- values under validities

@@ -17,7 +17,7 @@ use Rattle.nest_array.specs.Kinds.{IsKeyed}
 use Rattle.nest_array.specs.WindowParts.{WindowParts, window_parts, window_slots}
 use Rattle.nest_concat.specs.Limits.{PassesLength, PassesLimits, SomePasses}
 use Rattle.nest_concat.specs.Lookups.{KeysPass, values_in}
-use Rattle.nest_concat.specs.Windows.{field_of}
+use Rattle.nest_concat.specs.Windows.{field_window}
 
 -- b has the slots of the windows, one window after another, and this data type
 pub record IsJoined (t : TypeTree) (ws : List WindowParts) (b : Layout) : Type 0 where
@@ -53,7 +53,7 @@ abbrev pub EachJoined : Layouts → ℕ → List WindowParts → Layouts → Typ
 EachJoined no_layouts f ws no_layouts = Unit {0}
 EachJoined no_layouts f ws (more_layouts d ds) = ⊥
 EachJoined (more_layouts c cs) f ws no_layouts = ⊥
-EachJoined (more_layouts c cs) f ws (more_layouts d ds) = IsJoined (layout_type c) (map (field_of f) ws) d × EachJoined cs (suc f) ws ds
+EachJoined (more_layouts c cs) f ws (more_layouts d ds) = IsJoined (layout_type c) (map (field_window f) ws) d × EachJoined cs (suc f) ws ds
 
 -- the same errors, for the children of the first array
 abbrev pub RefusesEach : Error → Layouts → List WindowParts → Type 0

@@ -17,7 +17,7 @@ use Rattle.nest_array.specs.WindowParts.{WindowParts}
 use Rattle.nest_concat.specs.Laid.{have_values, key_passes, keys_pass, passes, passes_length, passes_offsets, passes_picks, some_passes}
 use Rattle.nest_concat.specs.Limits.{PassesLength, PassesLimits, PassesOffsets, PassesPicks, SomePasses}
 use Rattle.nest_concat.specs.Lookups.{HaveValues, KeyPasses, KeysPass, count_values, most_keys, values_in}
-use Rattle.nest_concat.specs.Windows.{blocks_of, count_items, count_slots, field_of, items_in}
+use Rattle.nest_concat.specs.Windows.{blocks_of, window_item_count, count_slots, field_window, items_in}
 
 -- a test of n numbers from o on decides whether P holds for one of them
 module _ (p : ℕ → Bool) (P : ℕ → Type 0) (each : (k : ℕ) → Decides (p k) (P k)) where
@@ -43,10 +43,10 @@ pub length-decides : (ws : List WindowParts) → Decides (passes_length ws) (Pas
 length-decides ws = (leb-true (2 ^ 64) (count_slots ws), le-leb (2 ^ 64) (count_slots ws))
 
 pub offsets-decides : (large : Bool) (ws : List WindowParts) → Decides (passes_offsets large ws) (PassesOffsets large ws)
-offsets-decides large ws = Decides-ltb (largest_offset large) (sum_by count_items ws)
+offsets-decides large ws = Decides-ltb (largest_offset large) (sum_by window_item_count ws)
 
 abbrev picked : List WindowParts → ℕ → ℕ
-picked ws f = count_slots (map (field_of f) ws)
+picked ws f = count_slots (map (field_window f) ws)
 
 one-field : (n : ℕ) (ws : List WindowParts) → (j : ℕ) × ((j < n) × (most_picks < picked ws (0 + j))) → (f : ℕ) × (f < n) × (most_picks < picked ws f)
 one-field n ws h =
@@ -115,7 +115,7 @@ mutual
   pub some-decides : (cs : Layouts) (f : ℕ) (ws : List WindowParts) → Decides (some_passes cs f ws) (SomePasses cs f ws)
   some-decides no_layouts f ws = (λ e. false≢true e, λ h. absurd h)
   some-decides (more_layouts c cs) f ws =
-      let cws = map (field_of f) ws in
+      let cws = map (field_window f) ws in
       Decides-or (passes c cws) (some_passes cs (suc f) ws) (passes-decides c cws) (some-decides cs (suc f) ws)
 
 pub limits-pass : (a : Layout) (ws : List WindowParts) → PassesLimits a ws → passes a ws ≡ true

@@ -6,7 +6,7 @@ use Rattle.nest_memory.specs.Rising.{largest_offset}
 use Rattle.nest_model.specs.Checks.{most_picks}
 use Rattle.nest_model.specs.Layout.{Layout, Layouts, binary, utf8, fixed_size_list, list, map as map_of, struct, union, dictionary, no_layouts, more_layouts, count_layouts}
 use Rattle.nest_array.specs.WindowParts.{WindowParts}
-use Rattle.nest_concat.specs.Windows.{count_slots, count_items, items_in, blocks_of, field_of}
+use Rattle.nest_concat.specs.Windows.{count_slots, window_item_count, items_in, blocks_of, field_window}
 use Rattle.nest_concat.specs.Lookups.{HaveValues, KeysPass, most_keys, values_in}
 
 -- there are 2^64 slots or more
@@ -15,12 +15,12 @@ PassesLength ws = 2 ^ 64 ≤ count_slots ws
 
 -- Variable-size layouts: the rows have more items than the largest offset
 abbrev pub PassesOffsets : Bool → List WindowParts → Type 0
-PassesOffsets large ws = largest_offset large < sum_by count_items ws
+PassesOffsets large ws = largest_offset large < sum_by window_item_count ws
 
 -- Union Layout, dense: the parts of a field have more slots than 32-bit offsets can hold
 abbrev pub PassesPicks : Option (List ℤ) → ℕ → List WindowParts → Type 0
 PassesPicks None n ws = ⊥
-PassesPicks (Some os) n ws = (f : ℕ) × (f < n) × (most_picks < count_slots (map (field_of f) ws))
+PassesPicks (Some os) n ws = (f : ℕ) × (f < n) × (most_picks < count_slots (map (field_window f) ws))
 
 -- Some array of the tree has more slots or items than a length or an offset can hold.
 -- The kinds are those of the first array.
@@ -40,4 +40,4 @@ abbrev mutual
   -- of the children from field f on
   pub SomePasses : Layouts → ℕ → List WindowParts → Type 0
   SomePasses no_layouts f ws = ⊥
-  SomePasses (more_layouts c cs) f ws = PassesLimits c (map (field_of f) ws) ⊎ SomePasses cs (suc f) ws
+  SomePasses (more_layouts c cs) f ws = PassesLimits c (map (field_window f) ws) ⊎ SomePasses cs (suc f) ws

@@ -10,7 +10,7 @@ use Rattle.nest_model.specs.Part.{valid_at, to_index}
 use Rattle.nest_model.specs.SameArray.{IsSameArray}
 use Rattle.nest_array.specs.Keys.{keyed_by}
 use Rattle.nest_array.specs.WindowParts.{WindowParts, window_parts}
-use Rattle.nest_concat.specs.Windows.{count_slots, joined_validity}
+use Rattle.nest_concat.specs.Windows.{count_slots, concatenated_validity}
 
 -- Dictionary-encoded Layout: the number of values of the array of a window, and the window over all of them
 abbrev pub count_values : WindowParts → ℕ
@@ -37,11 +37,11 @@ KeysPass n s [] = ⊥
 KeysPass n s (w ∷ ws) = KeyPasses n s w ⊎ KeysPass n (s + count_values w) ws
 
 -- the key of slot i, or of one of m slots, is valid and n or more after s > 0 other values
-abbrev pub IsPast : ℕ → ℕ → Layout → ℕ → Type 0
-IsPast n s ks i = (0 < s) × ((valid_at (validity_of ks) i ≡ true) × (n ≤ s + to_index (key_at ks i)))
+abbrev pub IsKeyPast : ℕ → ℕ → Layout → ℕ → Type 0
+IsKeyPast n s ks i = (0 < s) × ((valid_at (validity_of ks) i ≡ true) × (n ≤ s + to_index (key_at ks i)))
 
 abbrev pub SomePast : ℕ → ℕ → Layout → ℕ → ℕ → Type 0
-SomePast n s ks o m = (j : ℕ) × ((j < m) × IsPast n s ks (o + j))
+SomePast n s ks o m = (j : ℕ) × ((j < m) × IsKeyPast n s ks (o + j))
 
 -- the key of slot i, or of each of m slots, is null or less than n after s other values
 abbrev pub KeyFits : ℕ → ℕ → Layout → ℕ → Type 0
@@ -74,5 +74,5 @@ joined_keys moved ws = if moved then moved_keys 0 ws else flat_map (keys_in 0) w
 pub record AreJoinedKeys (moved : Bool) (ks : Layout) (ws : List WindowParts) (new : Layout) : Type 0 where
   pub same_width : key_type_of new ≡ key_type_of ks
   pub count : len new ≡ count_slots ws
-  pub validity : validity_of new ≡ joined_validity ws
+  pub validity : validity_of new ≡ concatenated_validity ws
   pub raw : raw_keys new ≡ joined_keys moved ws

@@ -8,11 +8,11 @@ use Rattle.nest_model.specs.Layout.{count_layouts}
 use Rattle.nest_model.specs.Meaning.{union_index}
 use Rattle.nest_array.specs.WindowParts.{WindowParts}
 use Rattle.nest_concat.specs.Parts.{field_at}
-use Rattle.nest_concat.specs.Windows.{count_slots, field_of}
+use Rattle.nest_concat.specs.Windows.{count_slots, field_window}
 
 -- Union Layout: the type ids of a window
-abbrev pub types_in : WindowParts → List ℤ
-types_in w = sublist (types_of w.array) w.offset w.count
+abbrev pub type_ids_in : WindowParts → List ℤ
+type_ids_in w = sublist (types_of w.array) w.offset w.count
 
 -- the field that slot i picks, and the index there
 abbrev pub picked_field : WindowParts → ℕ → ℕ
@@ -25,7 +25,7 @@ picked_place w i = union_index (union_offsets_of w.array) (start_of w.array) i
 abbrev pub moved_offset : List WindowParts → WindowParts → ℕ → ℤ
 moved_offset before w i =
     let f = picked_field w i in
-    pos (count_slots (map (field_of f) before) + (picked_place w i - (field_of f w).offset))
+    pos (count_slots (map (field_window f) before) + (picked_place w i - (field_window f w).offset))
 
 -- the offsets of windows after earlier windows
 abbrev pub offsets_behind : List WindowParts → List WindowParts → List ℤ
@@ -47,17 +47,17 @@ AreFew counts = (f : ℕ) → get_or counts f 0 ≤ most_picks
 -- the ends of the window's parts of n fields, and the number of slots of each field up to those ends
 abbrev pub AreAdvanced : ℕ → WindowParts → List ℕ → List ℕ → List ℕ → Type 0
 AreAdvanced n w old ends counts =
-    (f : ℕ) → f < n → (get_or ends f 0 ≡ (field_of f w).offset + (field_of f w).count) × (get_or counts f 0 ≡ get_or old f 0 + (field_of f w).count)
+    (f : ℕ) → f < n → (get_or ends f 0 ≡ (field_window f w).offset + (field_window f w).count) × (get_or counts f 0 ≡ get_or old f 0 + (field_window f w).count)
 
 -- one field has too many slots
 abbrev pub PassesOne : ℕ → WindowParts → List ℕ → Type 0
-PassesOne n w counts = (f : ℕ) × (f < n) × (most_picks < get_or counts f 0 + (field_of f w).count)
+PassesOne n w counts = (f : ℕ) × (f < n) × (most_picks < get_or counts f 0 + (field_window f w).count)
 
 -- the window's parts have these ends, and each is within the count of its field
 abbrev pub ArePlaced : WindowParts → List ℕ → List ℕ → Type 0
 ArePlaced w ends counts =
     (f : ℕ) → f < count_layouts (children_of w.array)
-    → (get_or ends f 0 ≡ (field_of f w).offset + (field_of f w).count) × ((field_of f w).count ≤ get_or counts f 0) × (get_or counts f 0 ≤ most_picks)
+    → (get_or ends f 0 ≡ (field_window f w).offset + (field_window f w).count) × ((field_window f w).count ≤ get_or counts f 0) × (get_or counts f 0 ≤ most_picks)
 
 -- the offset of slot i from these ends and counts
 abbrev pub offset_by : List ℕ → List ℕ → WindowParts → ℕ → ℤ

@@ -38,8 +38,8 @@ have_bits [] = false
 have_bits (w ∷ ws) = is_some (validity_of w.array) || have_bits ws
 
 -- the bits of windows, one window after another; no bitmap where no array has one
-abbrev pub joined_validity : List WindowParts → Validity
-joined_validity ws = if have_bits ws then Some (flat_map bits_in ws) else None
+abbrev pub concatenated_validity : List WindowParts → Validity
+concatenated_validity ws = if have_bits ws then Some (flat_map bits_in ws) else None
 
 -- Variable-size layouts: the number of items of each of n rows, and of each row of a window
 abbrev pub extents : List ℕ → ℕ → ℕ → List ℕ
@@ -52,20 +52,20 @@ extents_in w = extents (offsets_of w.array) w.offset w.count
 abbrev pub first_item : WindowParts → ℕ
 first_item w = begin (offsets_of w.array) w.offset
 
-abbrev pub count_items : WindowParts → ℕ
-count_items w = begin (offsets_of w.array) (w.offset + w.count) - first_item w
+abbrev pub window_item_count : WindowParts → ℕ
+window_item_count w = begin (offsets_of w.array) (w.offset + w.count) - first_item w
 
 -- the bytes of a window, and the window over its items
 abbrev pub bytes_in : WindowParts → List ℕ
-bytes_in w = sublist (bytes_of w.array) (first_item w) (count_items w)
+bytes_in w = sublist (bytes_of w.array) (first_item w) (window_item_count w)
 
 abbrev pub items_in : WindowParts → WindowParts
-items_in w = window_parts (child_of w.array) (first_item w) (count_items w)
+items_in w = window_parts (child_of w.array) (first_item w) (window_item_count w)
 
 -- Fixed-Size List Layout: the window over the items of rows of n items each
 abbrev pub blocks_of : ℕ → WindowParts → WindowParts
 blocks_of n w = window_parts (child_of w.array) (w.offset * n) (w.count * n)
 
 -- Struct Layout and Union Layout: the window over the part of child f that the slots are in
-abbrev pub field_of : ℕ → WindowParts → WindowParts
-field_of f w = window_parts (child_at (children_of w.array) f) (part_of f w.array w.offset w.count).0 (part_of f w.array w.offset w.count).1
+abbrev pub field_window : ℕ → WindowParts → WindowParts
+field_window f w = window_parts (child_at (children_of w.array) f) (part_of f w.array w.offset w.count).0 (part_of f w.array w.offset w.count).1

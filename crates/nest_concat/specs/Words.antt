@@ -16,7 +16,7 @@ pub use Rattle.nest_concat.specs.Interleaved.{AreIndicesOf, IsInterleaved, Refus
 pub use Rattle.nest_concat.specs.Joined.{AreArrays, AreOfKind, AreOfOneType, AreWithin, EachJoined, HasFields, IsConcatenated, IsJoined, IsWithin, RefusesConcatenate, RefusesEach, RefusesJoin, first_array, whole, AreKeyed, RefusesKeys}
 pub use Rattle.nest_concat.specs.Laid.{joined_layout, joined_rows, joins_past, laid, laid_each, laid_keys}
 pub use Rattle.nest_concat.specs.Limits.{PassesLength, PassesLimits, PassesOffsets, PassesPicks, SomePasses}
-pub use Rattle.nest_concat.specs.Lookups.{AreJoinedKeys, HaveValues, IsPast, KeyPasses, KeysPass, KeysFit, KeyFits, SomePast, count_values, joined_keys, keys_in, moved_key, moved_keys, moved_run, values_in}
-pub use Rattle.nest_concat.specs.Windows.{bits_in, blocks_in, blocks_of, bytes_in, count_items, count_of, count_slots, extents, extents_in, field_of, first_item, have_bits, items_in, joined_validity, natives_in, booleans_in, window_bits}
-pub use Rattle.nest_concat.specs.Moved.{AreAdvanced, AreFew, ArePlaced, PassesOne, joined_offsets, moved_offsets, offset_by, types_in}
+pub use Rattle.nest_concat.specs.Lookups.{AreJoinedKeys, HaveValues, IsKeyPast, KeyPasses, KeysPass, KeysFit, KeyFits, SomePast, count_values, joined_keys, keys_in, moved_key, moved_keys, moved_run, values_in}
+pub use Rattle.nest_concat.specs.Windows.{bits_in, blocks_in, blocks_of, bytes_in, window_item_count, count_of, count_slots, extents, extents_in, field_window, first_item, have_bits, items_in, concatenated_validity, natives_in, booleans_in, window_bits}
+pub use Rattle.nest_concat.specs.Moved.{AreAdvanced, AreFew, ArePlaced, PassesOne, joined_offsets, moved_offsets, offset_by, type_ids_in}
 pub use Rattle.nest_concat.specs.Parts.{behind, lowest, part_of, picks_in}

@@ -1,6 +1,6 @@
 //! Bits of windows: Boolean values and validity bitmaps.
 ghost use Rattle.std.specs.Prelude.{◌≡◌, ◌+◌, ◌<◌, ◌≤◌, ◌^◌, ◌++◌, IfOk, IsOkUnless, OnOk, alloc_error, length};
-ghost use Rattle.nest_concat.specs.Words.{AreArrays, Memory, bits_in, count_slots, sublist, have_bits, joined_validity};
+ghost use Rattle.nest_concat.specs.Words.{AreArrays, Memory, bits_in, count_slots, sublist, have_bits, concatenated_validity};
 
 use nest_array::Window;
 use nest_memory::bitmap::immutable::Bitmap;
@@ -61,7 +61,7 @@ pub(crate) fn validity(
     total: usize,
 ) -> Result<Option<Bitmap>, Error>
     requires { total ≡ count_slots windows.now }
-    ensures ok { IfOk result (λ v. v ≡ joined_validity windows.now) }
+    ensures ok { IfOk result (λ v. v ≡ concatenated_validity windows.now) }
     ensures err { IsOkUnless result (Memory alloc_error) }
 {
     if !have_validity(windows) {

@@ -4,7 +4,7 @@ ghost use Rattle.std.specs.List.{flat_map};
 ghost use Rattle.nest_memory.specs.TypeTree as types;
 ghost use Rattle.nest_model.specs.Examples.{bits_of_type, pairs_type, dictionaries, ints, lists, number, numbers, texts, booleans};
 ghost use Rattle.nest_model.specs.Layout as layouts;
-ghost use Rattle.nest_concat.specs.Words.{InvalidArgumentError, ItemType, Overflow, PassesLength, PassesLimits, PassesOffsets, PassesPicks, RefusesConcatenate, blocks_of, bytes_in, extents_in, field_of, items_in, joined_validity, moved_offsets, slots_of, whole, window_parts, KeysPass, joined_keys, joined_layout, joins_past, slot_windows};
+ghost use Rattle.nest_concat.specs.Words.{InvalidArgumentError, ItemType, Overflow, PassesLength, PassesLimits, PassesOffsets, PassesPicks, RefusesConcatenate, blocks_of, bytes_in, extents_in, field_window, items_in, concatenated_validity, moved_offsets, slots_of, whole, window_parts, KeysPass, joined_keys, joined_layout, joins_past, slot_windows};
 ghost use Rattle.nest_concat.specs.Interleaved.{IsIndexOf, slot_of};
 ghost use Rattle.nest_concat.specs.Examples.{dense, dense_in_turn, four, sparse_from, two_columns, b_and_null, ab_by};
 ghost use Rattle.nest_concat.specs.KeyedExamples.{one_key};
@@ -16,14 +16,14 @@ pub fn windows()
     ensures bytes { bytes_in (window_parts (texts (1 ∷ 3 ∷ 3 ∷ 6 ∷ []) (97 ∷ 98 ∷ 99 ∷ 100 ∷ 101 ∷ 102 ∷ [])) 0 1) ≡ 98 ∷ 99 ∷ [] }
     ensures items { items_in (window_parts (lists types.int32 (0 ∷ 1 ∷ 3 ∷ []) (ints (5 ∷ 6 ∷ 7 ∷ 8 ∷ []))) 1 1) ≡ window_parts (ints (5 ∷ 6 ∷ 7 ∷ 8 ∷ [])) 1 2 }
     ensures blocks { blocks_of 2 (window_parts (layouts.fixed_size_list (pairs_type 2) (ints (5 ∷ 6 ∷ 7 ∷ 8 ∷ [])) None) 1 1) ≡ window_parts (ints (5 ∷ 6 ∷ 7 ∷ 8 ∷ [])) 2 2 }
-    ensures field { field_of 1 (window_parts two_columns 1 1) ≡ window_parts (booleans (true ∷ false ∷ [])) 1 1 }
+    ensures field { field_window 1 (window_parts two_columns 1 1) ≡ window_parts (booleans (true ∷ false ∷ [])) 1 1 }
 {}
 
 /// Validity: no bitmap where no array has one; otherwise bits are set for arrays without one.
 pub fn validities()
-    ensures none { joined_validity (whole (booleans (true ∷ [])) ∷ whole (booleans (false ∷ [])) ∷ []) ≡ None }
-    ensures second { joined_validity (whole (booleans (true ∷ [])) ∷ window_parts (layouts.boolean types.boolean (true ∷ true ∷ []) (Some (true ∷ false ∷ []))) 1 1 ∷ []) ≡ Some (true ∷ false ∷ []) }
-    ensures first { joined_validity (whole (bits_of_type types.boolean (Some (false ∷ []))) ∷ whole (booleans (true ∷ [])) ∷ []) ≡ Some (false ∷ true ∷ []) }
+    ensures none { concatenated_validity (whole (booleans (true ∷ [])) ∷ whole (booleans (false ∷ [])) ∷ []) ≡ None }
+    ensures second { concatenated_validity (whole (booleans (true ∷ [])) ∷ window_parts (layouts.boolean types.boolean (true ∷ true ∷ []) (Some (true ∷ false ∷ []))) 1 1 ∷ []) ≡ Some (true ∷ false ∷ []) }
+    ensures first { concatenated_validity (whole (bits_of_type types.boolean (Some (false ∷ []))) ∷ whole (booleans (true ∷ [])) ∷ []) ≡ Some (false ∷ true ∷ []) }
 {}
 
 /// The last offset and the length may be the largest of their type, and not more.
@@ -40,11 +40,11 @@ pub fn offsets()
 /// The part of a field that the slots of a union are in: of a sparse union from the start of its window, of a dense
 /// union from the lowest picked slot to the highest. Offsets move with the parts. A field has at most 2^31 slots.
 pub fn parts()
-    ensures sparse { field_of 1 (window_parts (sparse_from 2 (pos 0 ∷ pos 1 ∷ [])) 1 1) ≡ window_parts four 3 1 }
-    ensures empty { field_of 1 (window_parts (sparse_from 2 (pos 0 ∷ pos 1 ∷ [])) 1 0) ≡ window_parts four 0 0 }
-    ensures dense { field_of 0 (whole (dense_in_turn (pos 3 ∷ pos 0 ∷ pos 1 ∷ []))) ≡ window_parts four 1 3 }
-    ensures one { field_of 0 (window_parts (dense_in_turn (pos 3 ∷ pos 0 ∷ pos 1 ∷ [])) 1 2) ≡ window_parts four 1 1 }
-    ensures no_pick { field_of 1 (window_parts (dense_in_turn (pos 3 ∷ pos 0 ∷ pos 1 ∷ [])) 2 1) ≡ window_parts four 0 0 }
+    ensures sparse { field_window 1 (window_parts (sparse_from 2 (pos 0 ∷ pos 1 ∷ [])) 1 1) ≡ window_parts four 3 1 }
+    ensures empty { field_window 1 (window_parts (sparse_from 2 (pos 0 ∷ pos 1 ∷ [])) 1 0) ≡ window_parts four 0 0 }
+    ensures dense { field_window 0 (whole (dense_in_turn (pos 3 ∷ pos 0 ∷ pos 1 ∷ []))) ≡ window_parts four 1 3 }
+    ensures one { field_window 0 (window_parts (dense_in_turn (pos 3 ∷ pos 0 ∷ pos 1 ∷ [])) 1 2) ≡ window_parts four 1 1 }
+    ensures no_pick { field_window 1 (window_parts (dense_in_turn (pos 3 ∷ pos 0 ∷ pos 1 ∷ [])) 2 1) ≡ window_parts four 0 0 }
     ensures moved { moved_offsets (whole (dense_in_turn (pos 3 ∷ pos 2 ∷ pos 1 ∷ [])) ∷ whole (dense (pos 1 ∷ pos 0 ∷ []) (pos 0 ∷ pos 2 ∷ [])) ∷ []) ≡ pos 2 ∷ pos 0 ∷ pos 0 ∷ pos 1 ∷ pos 3 ∷ [] }
     ensures last { PassesPicks (Some []) 1 (whole (dense (pos 0 ∷ pos 0 ∷ []) (pos 0 ∷ pos (2 ^ 31 - 1) ∷ [])) ∷ []) → ⊥ }
     ensures past { PassesPicks (Some []) 2 (whole (dense (pos 0 ∷ pos 0 ∷ []) (pos 0 ∷ pos (2 ^ 31 - 1) ∷ [])) ∷ whole (dense (pos 0 ∷ []) (pos 0 ∷ [])) ∷ []) }

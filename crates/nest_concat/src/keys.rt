@@ -7,7 +7,7 @@ ghost use Rattle.nest_model.specs.BuilderTree.{key_count};
 ghost use Rattle.nest_model.specs.Part.{to_index};
 ghost use Rattle.nest_array.specs.Keys.{keyed_by};
 ghost use Rattle.nest_array.specs.SeenKeys.{keys_layout};
-ghost use Rattle.nest_concat.specs.Words.{AreJoinedKeys, AreOfKind, AreWithin, IsPast, KeyPasses, Memory, Overflow, RefusesKeys, SomePast, count_slots, first_array, joined_keys, keys_in, layout_type, len, moved_key, moved_keys, moved_run, physical_type, KeysPass, KeysFit, KeyFits, laid_keys};
+ghost use Rattle.nest_concat.specs.Words.{AreJoinedKeys, AreOfKind, AreWithin, IsKeyPast, KeyPasses, Memory, Overflow, RefusesKeys, SomePast, count_slots, first_array, joined_keys, keys_in, layout_type, len, moved_key, moved_keys, moved_run, physical_type, KeysPass, KeysFit, KeyFits, laid_keys};
 
 use crate::{bits, dictionary};
 use nest_array::{AnyKeys, DictionaryKey, Window};
@@ -56,7 +56,7 @@ fn moved<K: DictionaryKey>(keys: &AnyKeys, i: usize, before: usize) -> Option<K>
     requires within { i < len (keys_layout keys.now) }
     requires width { key_type_of (keys_layout keys.now) ≡ Some K.KEY_TYPE }
     ensures key { MatchOption result
-        (IsPast (key_count K.KEY_TYPE) before (keys_layout keys.now) i)
+        (IsKeyPast (key_count K.KEY_TYPE) before (keys_layout keys.now) i)
         (λ k. as_integer (K.numbers k) ≡ moved_key before (keys_layout keys.now) i) }
     ensures room { IfSome result (λ k. KeyFits (key_count K.KEY_TYPE) before (keys_layout keys.now) i) }
 {

@@ -4,7 +4,7 @@ ghost use Rattle.std.specs.List.{flat_map, sum_by};
 ghost use Rattle.nest_memory.specs.declared.datatypes.physical_type.PhysicalType.{PhysicalType};
 ghost use Rattle.nest_memory.specs.declared.datatypes.physical_type.PhysicalType.TheVariants as physical;
 ghost use Rattle.nest_array.specs.Seen.{layout_of};
-ghost use Rattle.nest_concat.specs.Words.{AreArrays, AreOfKind, Memory, Overflow, PassesOffsets, TopFits, begin, bytes_in, bytes_of, child_of, count_items, count_rows, ends_from, extents, extents_in, first_item, items_in, last_of, layout_type, len, offsets_of, physical_type};
+ghost use Rattle.nest_concat.specs.Words.{AreArrays, AreOfKind, Memory, Overflow, PassesOffsets, TopFits, begin, bytes_in, bytes_of, child_of, window_item_count, count_rows, ends_from, extents, extents_in, first_item, items_in, last_of, layout_type, len, offsets_of, physical_type};
 
 use nest_array::{AnyArray, Window};
 use nest_memory::buffer::Buffer;
@@ -62,7 +62,7 @@ fn offset_at<O: Offset>(offsets: &OffsetsBuffer<O>, i: usize) -> usize
 fn range<O: Offset, K: Spanned<O>>(window: &Window<'_>) -> (usize, usize)
     requires kind { physical_type (layout_type window.now.array) ≡ K.kind }
     ensures first { result.0 ≡ first_item window.now }
-    ensures count { result.1 ≡ count_items window.now }
+    ensures count { result.1 ≡ window_item_count window.now }
     ensures within { result.0 + result.1 ≤ last_of (offsets_of window.now.array) }
     ensures fits { last_of (offsets_of window.now.array) < 2 ^ 63 }
 {
@@ -84,7 +84,7 @@ fn range<O: Offset, K: Spanned<O>>(window: &Window<'_>) -> (usize, usize)
 pub(crate) fn count<O: Offset, K: Spanned<O>>(windows: &[Window<'_>]) -> Result<usize, Error>
     requires kind { AreOfKind K.kind windows.now }
     ensures { MatchResult result
-        (λ n. (n ≡ sum_by count_items windows.now) × (n ≤ O.largest))
+        (λ n. (n ≡ sum_by window_item_count windows.now) × (n ≤ O.largest))
         (λ e. (e ≡ Overflow) × PassesOffsets O.IS_LARGE windows.now) }
 {
     let mut count: usize = 0;
@@ -141,9 +141,9 @@ fn push_window<O: Offset, K: Spanned<O>>(
     base: usize,
 ) -> Result<usize, Error>
     requires kind { physical_type (layout_type window.now.array) ≡ K.kind }
-    requires room { base + count_items window.now ≤ O.largest }
+    requires room { base + window_item_count window.now ≤ O.largest }
     ensures ok { OnOk result (map O.value ends.new.items ≡ map O.value ends.old.items ++ map (λ n. pos n) (ends_from base (extents_in window.now))) }
-    ensures end { IfOk result (λ n. n ≡ base + count_items window.now) }
+    ensures end { IfOk result (λ n. n ≡ base + window_item_count window.now) }
     ensures rows { IfOk result (λ n. n ≡ base + sum (extents_in window.now)) }
     ensures err { IsOkUnless result (Memory alloc_error) }
 {
@@ -162,7 +162,7 @@ pub(crate) fn offsets<O: Offset, K: Spanned<O>>(
     total: usize,
 ) -> Result<OffsetsBuffer<O>, Error>
     requires kind { AreOfKind K.kind windows.now }
-    requires room { sum_by count_items windows.now ≤ O.largest }
+    requires room { sum_by window_item_count windows.now ≤ O.largest }
     ensures ok { IfOk result (λ b. b ≡ 0 ∷ ends_from 0 (flat_map extents_in windows.now)) }
     ensures err { IsOkUnless result (Memory alloc_error) }
 {

@@ -6,7 +6,7 @@ ghost use Rattle.nest_model.specs.Accessors.{child_at};
 ghost use Rattle.nest_model.specs.Layout as layouts;
 ghost use Rattle.nest_model.specs.Layout.{count_layouts};
 ghost use Rattle.nest_array.specs.Seen.{layout_of, layouts_of};
-ghost use Rattle.nest_concat.specs.Words.{AreArrays, AreWithin, EachJoined, Fits, HasFields, IsJoined, IsWithin, Memory, RefusesEach, RefusesJoin, TopFits, children_of, count_slots, field_of, first_array, layout_type, physical_type, type_of, laid, PassesLimits, laid_each, SomePasses};
+ghost use Rattle.nest_concat.specs.Words.{AreArrays, AreWithin, EachJoined, Fits, HasFields, IsJoined, IsWithin, Memory, RefusesEach, RefusesJoin, TopFits, children_of, count_slots, field_window, first_array, layout_type, physical_type, type_of, laid, PassesLimits, laid_each, SomePasses};
 
 use crate::any::join;
 use crate::{bits, union};
@@ -28,7 +28,7 @@ pub(crate) fn child(children: &[AnyArray], f: usize) -> &AnyArray
 fn field_of_window<'a>(window: &Window<'a>, f: usize) -> Window<'a>
     requires kind { physical_type (layout_type window.now.array) ≡ physical.Struct }
     requires field { f < count_fields (fields_of (layout_type window.now.array)) }
-    ensures parts { result ≡ field_of f window.now }
+    ensures parts { result ≡ field_window f window.now }
     ensures fits { TopFits result.array }
 {
     window.known();
@@ -46,7 +46,7 @@ fn field_of_window<'a>(window: &Window<'a>, f: usize) -> Window<'a>
 fn part_of_window<'a>(window: &Window<'a>, f: usize) -> Window<'a>
     requires kind { HasFields (layout_type window.now.array) }
     requires field { f < count_fields (fields_of (layout_type window.now.array)) }
-    ensures parts { result ≡ field_of f window.now }
+    ensures parts { result ≡ field_window f window.now }
     ensures fits { TopFits result.array }
 {
     if window.array().as_struct().is_some() {
@@ -61,7 +61,7 @@ fn field<'a>(alloc: Global, windows: &[Window<'a>], f: usize) -> Result<Vec<Wind
     requires kind { HasFields (layout_type (first_array windows.now)) }
     requires within { AreWithin (layout_type (first_array windows.now)) windows.now }
     requires field { f < count_fields (fields_of (layout_type (first_array windows.now))) }
-    ensures ok { IfOk result (λ v. v.items ≡ map (field_of f) windows.now) }
+    ensures ok { IfOk result (λ v. v.items ≡ map (field_window f) windows.now) }
     ensures fit { IfOk result (λ v. AreArrays v.items) }
     ensures err { IsOkUnless result (Memory alloc_error) }
 {

@@ -7,7 +7,7 @@ ghost use Rattle.nest_model.specs.Accessors.{child_at, union_offsets_of};
 ghost use Rattle.nest_model.specs.Layout as layouts;
 ghost use Rattle.nest_model.specs.Layout.{count_layouts};
 ghost use Rattle.nest_array.specs.Seen.{layout_of, layouts_of};
-ghost use Rattle.nest_concat.specs.Words.{AreAdvanced, AreFew, AreOfKind, AreWithin, Fits, IsJoined, Memory, Overflow, PassesOne, PassesPicks, RefusesJoin, TopFits, ArePlaced, behind, children_of, count_slots, field_of, first_array, joined_offsets, layout_type, len, lowest, moved_offsets, offset_by, part_of, physical_type, picks_in, type_of, types_in, laid, PassesLimits};
+ghost use Rattle.nest_concat.specs.Words.{AreAdvanced, AreFew, AreOfKind, AreWithin, Fits, IsJoined, Memory, Overflow, PassesOne, PassesPicks, RefusesJoin, TopFits, ArePlaced, behind, children_of, count_slots, field_window, first_array, joined_offsets, layout_type, len, lowest, moved_offsets, offset_by, part_of, physical_type, picks_in, type_of, type_ids_in, laid, PassesLimits};
 
 use crate::natives;
 use crate::struct_::{child, join_fields};
@@ -83,7 +83,7 @@ fn part(array: &UnionArray, f: usize, o: usize, n: usize) -> (usize, usize)
 pub(crate) fn field_of_window<'a>(window: &Window<'a>, f: usize) -> Window<'a>
     requires kind { physical_type (layout_type window.now.array) ≡ physical.Union }
     requires field { f < count_fields (fields_of (layout_type window.now.array)) }
-    ensures parts { result ≡ field_of f window.now }
+    ensures parts { result ≡ field_window f window.now }
     ensures fits { TopFits result.array }
 {
     window.known();
@@ -98,7 +98,7 @@ pub(crate) fn field_of_window<'a>(window: &Window<'a>, f: usize) -> Window<'a>
 /// Returns the type ids of windows. `total` is the number of slots.
 fn types(alloc: Global, windows: &[Window<'_>], total: usize) -> Result<Buffer<i8>, Error>
     requires { AreOfKind physical.Union windows.now }
-    ensures ok { IfOk result (λ b. b ≡ flat_map types_in windows.now) }
+    ensures ok { IfOk result (λ b. b ≡ flat_map type_ids_in windows.now) }
     ensures err { IsOkUnless result (Memory alloc_error) }
 {
     let mut taken = Vec::with_capacity(alloc, total)?;
@@ -111,7 +111,7 @@ fn types(alloc: Global, windows: &[Window<'_>], total: usize) -> Result<Buffer<i
 /// Returns the type ids of a window.
 fn types_of_window<'a>(window: &Window<'a>) -> &'a [i8]
     requires { physical_type (layout_type window.now.array) ≡ physical.Union }
-    ensures { result.now ≡ types_in window.now }
+    ensures { result.now ≡ type_ids_in window.now }
 {
     window.known();
     let array = union_of(window);

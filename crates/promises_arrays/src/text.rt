@@ -8,7 +8,7 @@ ghost use Rattle.nest_memory.specs.TypeText.{text_of_type};
 ghost use Rattle.nest_memory.specs.TypeTree.{TypeTree, fields_of};
 ghost use Rattle.nest_model.specs.Layout.{layout_type};
 ghost use Rattle.nest_model.specs.Meaning.{len};
-ghost use Rattle.type_text.specs.TypeParser.{ParsesAs, IsWithin, parsed_type};
+ghost use Rattle.type_text.specs.TypeParser.{ParsesAs, IsErrorWithin, parsed_type};
 ghost use Rattle.type_text.specs.Representable.{IsRepresentable};
 
 use json_write::output::{to_json_string, write_json};
@@ -62,7 +62,7 @@ pub fn type_from_text(alloc: Global, text: &str) -> Result<DataType, ParseTypeEr
     ensures parsed { ParsesAs result (parsed_type text.now) }
     ensures same_text { IfOk result (λ t. text_of_type (type_of t) ≡ text.now) }
     ensures round_trips { (t : TypeTree) → IsRepresentable 64 t → text_of_type t ≡ text.now → ParsesAs result (Ok t) }
-    ensures within { IfErr result (IsWithin (length text.now)) }
+    ensures within { IfErr result (IsErrorWithin (length text.now)) }
 {
     parse_type(alloc, text)
 }

@@ -8,7 +8,7 @@ use Rattle.type_text.specs.declared.error.SyntaxError.TheVariants.{TooDeep, Unex
 use Rattle.type_text.specs.declared.error.ParseTypeError.{ParseTypeError}
 use Rattle.type_text.specs.declared.error.PartError.{PartError}
 use Rattle.type_text.specs.declared.error.PartError.TheVariants as part_errors
-use Rattle.type_text.specs.TypeParser.{ParsesAs, FailsWith, IsWithin, IsErrorOf, parsed_type, located}
+use Rattle.type_text.specs.TypeParser.{ParsesAs, FailsWith, IsErrorWithin, IsErrorOf, parsed_type, located}
 use Rattle.type_text.specs.Representable.{IsRepresentable}
 use Rattle.type_text.proofs.RoundTrip.{representable-round-trips}
 
@@ -17,10 +17,10 @@ refused len part_errors.Memory e read r h = subst (λ (x : ParseTypeError). Pars
 refused len (part_errors.Syntax (Unexpected left)) e read r h = subst (λ (x : ParseTypeError). ParsesAs (Err x) (located len read)) (sym r) (ap (located len) h)
 refused len (part_errors.Syntax (TooDeep left)) e read r h = subst (λ (x : ParseTypeError). ParsesAs (Err x) (located len read)) (sym r) (ap (located len) h)
 
-pub within-refused : (len : ℕ) (stop : PartError) (e : ParseTypeError) → IsErrorOf len stop e → IsWithin len e
-within-refused len part_errors.Memory e r = subst (IsWithin len) (sym r) tt
-within-refused len (part_errors.Syntax (Unexpected left)) e r = subst (IsWithin len) (sym r) (omega arith)
-within-refused len (part_errors.Syntax (TooDeep left)) e r = subst (IsWithin len) (sym r) (omega arith)
+pub within-refused : (len : ℕ) (stop : PartError) (e : ParseTypeError) → IsErrorOf len stop e → IsErrorWithin len e
+within-refused len part_errors.Memory e r = subst (IsErrorWithin len) (sym r) tt
+within-refused len (part_errors.Syntax (Unexpected left)) e r = subst (IsErrorWithin len) (sym r) (omega arith)
+within-refused len (part_errors.Syntax (TooDeep left)) e r = subst (IsErrorWithin len) (sym r) (omega arith)
 
 -- a type that its text represents in full
 pub representable-parsed : (r : Result DataType ParseTypeError) (bs : List ℕ) → ParsesAs r (parsed_type bs) → (t : TypeTree) → IsRepresentable 64 t → text_of_type t ≡ bs → ParsesAs r (Ok t)

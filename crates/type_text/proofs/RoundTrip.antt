@@ -30,7 +30,7 @@ use Rattle.type_text.specs.declared.keyword.NestedType.TheVariants as nests
 use Rattle.type_text.specs.declared.keyword.Keyword.{Keyword}
 use Rattle.type_text.specs.declared.keyword.Keyword.TheVariants as keywords
 use Rattle.type_text.specs.Keywords.{keyword_text}
-use Rattle.type_text.specs.TypeParser.{◌>>=◌, read_dictionary_end, read_list_size, read_map_fields, TypeReader, after_prefix, read_some_fields, is_decimal_numeral, key_at, key_of, read_flag, parsed_type, read_after_keyword, read_decimal, read_dictionary, read_extension, read_field, read_fixed_size_list, read_keyword, read_item_field, read_index_type, read_list, read_name, read_number, read_ordered, read_precision_and_scale, read_size, read_fixed_size_binary, read_entries_end, read_fields, read_type_id, read_map, read_entry_field, read_struct, read_union, read_name_or_default, quoted_name, read_time, read_timestamp, read_type, read_unit, read_complete_type, split_first}
+use Rattle.type_text.specs.TypeParser.{◌>>=◌, read_dictionary_end, read_list_size, read_map_fields, TypeReader, after_prefix, read_some_fields, is_decimal_numeral, index_type_at, key_of, read_flag, parsed_type, read_after_keyword, read_decimal, read_dictionary, read_extension, read_field, read_fixed_size_list, read_keyword, read_item_field, read_index_type, read_list, read_name, read_number, read_ordered, read_precision_and_scale, read_size, read_fixed_size_binary, read_entries_end, read_fields, read_type_id, read_map, read_entry_field, read_struct, read_union, read_name_or_default, quoted_name, read_time, read_timestamp, read_type, read_unit, read_complete_type, split_first}
 use Rattle.type_text.specs.Representable.{AreRepresentable, IsTerminatedBy, HasIds, LacksClosingBracket, IsRepresentableField, IsRepresentableMap, IsRepresentable, HasUnambiguousQuotes}
 use Rattle.type_text.proofs.Prefixes.{after-front}
 
@@ -188,7 +188,7 @@ marked name t false metadata rest e plain = ap (λ es. field_read (field name t 
 
 key-again : (key : IntegerType) (rest : List ℕ) → read_index_type (integer_text key ++ rest) ≡ key_read key rest
 unfolding read_index_type
-key-again key rest = ap (λ r. r >>= λ keyword. key_at (integer_text key ++ rest) keyword.1 (key_of keyword.0)) (keyword-again (keywords.Integer key) rest)
+key-again key rest = ap (λ r. r >>= λ keyword. index_type_at (integer_text key ++ rest) keyword.1 (key_of keyword.0)) (keyword-again (keywords.Integer key) rest)
 
 ordered-again : (o : Bool) (rest : List ℕ) → read_ordered (order_text o ++ rest) ≡ ordered_read o rest
 ordered-again true rest = refl

@@ -33,7 +33,7 @@ use Rattle.type_text.specs.declared.keyword.NestedType.{NestedType}
 use Rattle.type_text.specs.declared.keyword.NestedType.TheVariants as nests
 use Rattle.type_text.specs.declared.keyword.Keyword.{Keyword}
 use Rattle.type_text.specs.declared.keyword.Keyword.TheVariants as keywords
-use Rattle.type_text.specs.TypeParser.{◌>>=◌, FieldsAndIds, TypeReader, after_prefix, all_keywords, required, without_rest, expected, read_some_fields, first_keyword, is_decimal_numeral, flag_of, key_at, key_of, read_flag, name_parts, quoted_name, fields_or_none, fields_after, or_keyword, or_later, or_unit, ordered_of, parsed_type, plain_tree, read_after_keyword, read_decimal, read_dictionary, read_dictionary_end, read_list_size, read_map_fields, read_entries_end, read_extension, read_field, read_fields, read_fixed_size_list, read_parametric, read_keyword, read_type_id, read_item_field, read_index_type, read_list, read_map, read_name, read_nested, read_number, read_ordered, read_entry_field, read_precision_and_scale, read_size, read_fixed_size_binary, read_struct, read_time, read_timestamp, read_type, read_union, read_unit, read_name_or_default, read_complete_type, split_first, located, zone_of}
+use Rattle.type_text.specs.TypeParser.{◌>>=◌, FieldsAndIds, TypeReader, after_prefix, all_keywords, required, without_rest, expected, read_some_fields, first_keyword, is_decimal_numeral, flag_of, index_type_at, key_of, read_flag, name_parts, quoted_name, fields_or_none, fields_after, or_keyword, or_later, or_unit, ordered_of, parsed_type, plain_tree, read_after_keyword, read_decimal, read_dictionary, read_dictionary_end, read_list_size, read_map_fields, read_entries_end, read_extension, read_field, read_fields, read_fixed_size_list, read_parametric, read_keyword, read_type_id, read_item_field, read_index_type, read_list, read_map, read_name, read_nested, read_number, read_ordered, read_entry_field, read_precision_and_scale, read_size, read_fixed_size_binary, read_struct, read_time, read_timestamp, read_type, read_union, read_unit, read_name_or_default, read_complete_type, split_first, located, zone_of}
 use Rattle.type_text.proofs.Prefixes.{after-some}
 use Rattle.type_text.proofs.Numbers.{digits-run, is-some, own}
 use Rattle.type_text.proofs.FieldRows.{id_text, ids_after, later_rows, rows, struct-rows, union-rows}
@@ -205,7 +205,7 @@ marked-sorted bs = either (codes ", keys_sorted") bs (λ v. bs ≡ sorted_text (
 key-reads : (bs : List ℕ) → Reads integer_text bs (read_index_type bs)
 unfolding read_index_type
 key-reads bs = part keyword_text _ bs _ _ (keyword-reads bs) λ keyword e.
-    let P : Keyword → Type 0 = λ h. bs ≡ keyword_text h ++ keyword.1 → Reads integer_text bs (key_at bs keyword.1 (key_of h)) in
+    let P : Keyword → Type 0 = λ h. bs ≡ keyword_text h ++ keyword.1 → Reads integer_text bs (index_type_at bs keyword.1 (key_of h)) in
     (elim keyword.0 as P [
       | keywords.Plain plain ↦ λ f. tt
       | keywords.Integer key ↦ λ f. f

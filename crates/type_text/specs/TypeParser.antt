@@ -218,15 +218,15 @@ key_of (keywords.Plain plain) = None
 key_of (keywords.Parametric kind) = None
 key_of (keywords.Nested kind) = None
 
-abbrev pub key_at : List ℕ → List ℕ → Option IntegerType → Result (IntegerType × List ℕ) SyntaxError
-key_at bs rest (Some key) = Ok (key, rest)
-key_at bs rest None = Err (Unexpected (length bs))
+abbrev pub index_type_at : List ℕ → List ℕ → Option IntegerType → Result (IntegerType × List ℕ) SyntaxError
+index_type_at bs rest (Some key) = Ok (key, rest)
+index_type_at bs rest None = Err (Unexpected (length bs))
 
 -- the index type of a dictionary
 unfoldable pub read_index_type : List ℕ → Result (IntegerType × List ℕ) SyntaxError
 read_index_type bs = do
   keyword ← read_keyword bs
-  key_at bs keyword.1 (key_of keyword.0)
+  index_type_at bs keyword.1 (key_of keyword.0)
 
 abbrev pub ordered_of : List ℕ → Option (List ℕ) → Result (Bool × List ℕ) SyntaxError
 ordered_of bs (Some rest) = Ok (true, rest)
@@ -446,7 +446,7 @@ ParsesAs (Err (errors.Memory refused)) read = Unit {0}
 ParsesAs (Err e) read = read ≡ Err e
 
 -- the offset of an error is at most the length of the text
-abbrev pub IsWithin : ℕ → ParseTypeError → Type 0
-IsWithin len (errors.Syntax byte) = byte ≤ len
-IsWithin len (errors.TooDeep byte) = byte ≤ len
-IsWithin len (errors.Memory refused) = Unit {0}
+abbrev pub IsErrorWithin : ℕ → ParseTypeError → Type 0
+IsErrorWithin len (errors.Syntax byte) = byte ≤ len
+IsErrorWithin len (errors.TooDeep byte) = byte ≤ len
+IsErrorWithin len (errors.Memory refused) = Unit {0}

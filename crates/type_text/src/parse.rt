@@ -3,7 +3,7 @@ ghost use Rattle.std.specs.Prelude.{◌≡◌, length, IfErr, IfOk, Ok};
 ghost use Rattle.nest_memory.specs.TypeOf.{type_of};
 ghost use Rattle.nest_memory.specs.TypeText.{text_of_type};
 ghost use Rattle.nest_memory.specs.TypeTree.{TypeTree};
-ghost use Rattle.type_text.specs.TypeParser.{ParsesAs, ReadsAs, IsWithin, IsErrorOf, parsed_type, read_complete_type};
+ghost use Rattle.type_text.specs.TypeParser.{ParsesAs, ReadsAs, IsErrorWithin, IsErrorOf, parsed_type, read_complete_type};
 ghost use Rattle.type_text.specs.Representable.{IsRepresentable};
 
 use crate::error::{ParseTypeError, PartError, SyntaxError};
@@ -39,7 +39,7 @@ pub fn parse_type(alloc: Global, text: &str) -> Result<DataType, ParseTypeError>
     ensures exact { ParsesAs result (parsed_type text.now) }
     ensures sound { IfOk result (λ t. text_of_type (type_of t) ≡ text.now) }
     ensures complete { (t : TypeTree) → IsRepresentable 64 t → text_of_type t ≡ text.now → ParsesAs result (Ok t) }
-    ensures within { IfErr result (IsWithin (length text.now)) }
+    ensures within { IfErr result (IsErrorWithin (length text.now)) }
 {
     match complete_type(alloc, text) {
         Ok(data_type) => Ok(data_type),

@@ -2,7 +2,7 @@
 ghost use Rattle.std.specs.Prelude.{◌≤◌, ◌<◌, ◌^◌, ℕ, IfOk, get_or, length};
 ghost use Rattle.std.specs.List.{Contains};
 ghost use Rattle.std.specs.List.Sorted.{IsNonDecreasing, IsPermutation};
-ghost use Rattle.cli_read.specs.Indices.{ArePositions, AreIndicesInBatch, IsElementAt, AreSortedFrom, AreElementsOf};
+ghost use Rattle.cli_read.specs.Indices.{HaveRanks, AreIndicesInBatch, IsElementAt, AreSortedFrom, AreElementsOf};
 
 use std::alloc::{AllocError, Global};
 
@@ -55,7 +55,7 @@ pub(crate) fn positions(
     sorted_indices: &[usize],
     indices: &[usize],
 ) -> Result<Vec<usize>, AllocError>
-    ensures { IfOk result (λ v. IsNonDecreasing sorted_indices.now → AreElementsOf sorted_indices.now indices.now → ArePositions sorted_indices.now indices.now v.items) }
+    ensures { IfOk result (λ v. IsNonDecreasing sorted_indices.now → AreElementsOf sorted_indices.now indices.now → HaveRanks sorted_indices.now indices.now v.items) }
 {
     let mut positions = Vec::new(alloc);
     for index in indices {

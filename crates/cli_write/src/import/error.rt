@@ -64,9 +64,9 @@ impl From<CliError> for ImportError {
 }
 
 impl From<JsonReadError> for ImportError {
-    ghost use Rattle.cli_write.specs.ImportStates.{text_error};
+    ghost use Rattle.cli_write.specs.ImportStates.{json_import_error};
 
-    ghost from_gives = { λ error e. e ≡ text_error error };
+    ghost from_gives = { λ error e. e ≡ json_import_error error };
 
     fn from(error: JsonReadError) -> ImportError {
         match error {

@@ -1,7 +1,7 @@
 //! Decoding of buffers.
 ghost use Rattle.std.specs.Prelude.{◌≡◌, OnErr};
 ghost use Rattle.ipc_arrays.specs.CompressionResults.{ReturnsOrRunsOut, Returns};
-ghost use Rattle.ipc_arrays.specs.CompressedBuffers.{appended, spec_decoded, spec_stated_size, spec_next_size, spec_content_of_size, content_of, decompressed};
+ghost use Rattle.ipc_arrays.specs.CompressedBuffers.{with_content, spec_decoded, spec_stated_size, spec_next_size, spec_content_of_size, content_of, decompressed};
 
 use crate::compression::error::{lz4_error, zstd_error};
 use ipc_flatbuf::{CompressionCodec, CompressionError};
@@ -87,7 +87,7 @@ fn append_content(
     bytes: &[u8],
     out: &mut Vec<u8>,
 ) -> Result<(), CompressionError>
-    ensures value { ReturnsOrRunsOut (λ _. out.new.items) result (appended out.old.items (content_of codec size bytes.now)) }
+    ensures value { ReturnsOrRunsOut (λ _. out.new.items) result (with_content out.old.items (content_of codec size bytes.now)) }
     ensures err { OnErr result (out.new.items ≡ out.old.items) }
 {
     match size {
@@ -117,7 +117,7 @@ pub fn decompress_buffer(
     bytes: &[u8],
     out: &mut Vec<u8>,
 ) -> Result<(), CompressionError>
-    ensures value { ReturnsOrRunsOut (λ _. out.new.items) result (appended out.old.items (decompressed codec bytes.now)) }
+    ensures value { ReturnsOrRunsOut (λ _. out.new.items) result (with_content out.old.items (decompressed codec bytes.now)) }
     ensures err { OnErr result (out.new.items ≡ out.old.items) }
 {
     if bytes.is_empty() {

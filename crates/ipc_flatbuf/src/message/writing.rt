@@ -1,14 +1,14 @@
 //! Writers of encapsulated messages without their bodies.
 ghost use Rattle.std.specs.Prelude.{◌≡◌, ◌<◌, ◌^◌, ◌++◌, OnOk, IfErr};
 ghost use Rattle.ipc_flatbuf.specs.WriteErrors.{IsSizeError};
-ghost use Rattle.ipc_flatbuf.specs.MessageBytes.{spec_tag_of, root_bytes, framed_bytes, metadata_size, message_bytes};
+ghost use Rattle.ipc_flatbuf.specs.MessageBytes.{header_tag, root_bytes, framed_bytes, metadata_size, message_bytes};
 
 use crate::message::types::MessageKind;
 use crate::{IpcWriteError, write_i64, write_u32, write_zeros};
 use std::alloc::{AllocError, Global};
 
 fn tag_of(kind: MessageKind) -> u8
-    ensures { result ≡ spec_tag_of kind }
+    ensures { result ≡ header_tag kind }
 {
     match kind {
         MessageKind::Schema => 1,

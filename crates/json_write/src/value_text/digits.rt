@@ -1,7 +1,7 @@
 //! Decimal digits.
 ghost use Rattle.std.specs.Prelude.{◌≡◌, ◌<◌};
 ghost use Rattle.std.specs.Fmt.{WritesOnOk, sign_text};
-ghost use Rattle.json_write.specs.Digits.{at_least, digit, fraction_text, integer_text, last_digits, number_text};
+ghost use Rattle.json_write.specs.Digits.{at_least, digit, fraction_text, signed_integer_text, last_digits, number_text};
 
 use itoa::Buffer;
 use std::fmt;
@@ -53,7 +53,7 @@ pub(crate) fn write_number<W: fmt::Write>(f: &mut Formatter<W>, number: u64) -> 
 
 /// Writes an integer.
 pub(crate) fn write_integer<W: fmt::Write>(f: &mut Formatter<W>, value: i64) -> fmt::Result
-    ensures { WritesOnOk W.write_str_gives f.old result (integer_text value) f.new }
+    ensures { WritesOnOk W.write_str_gives f.old result (signed_integer_text value) f.new }
 {
     write_sign(f, value < 0)?;
     write_number(f, value.unsigned_abs())

@@ -2,7 +2,7 @@
 ghost use Rattle.std.specs.Prelude.{◌≡◌, ◌≢◌, ◌<◌, ◌+◌, ◌*◌, ◌^◌, FitsSigned, IfNone, IfSome, false, pos, unsigned_abs};
 ghost use Rattle.std.specs.Int.{int_rem_euclid, w64};
 ghost use Rattle.json_write.specs.Calendar.{IsDate};
-ghost use Rattle.json_write.specs.Digits.{integer_text};
+ghost use Rattle.json_write.specs.Digits.{signed_integer_text};
 ghost use Rattle.json_write.specs.Reading.{IsParsed, IsTimeOf};
 ghost use Rattle.json_write.specs.Times.{calendar_text, clock_text, date_text, is_time_of_day, millisecond_date_text, time_text, timestamp_text, unit_digits, year_text};
 
@@ -136,7 +136,7 @@ pub fn parse_time(text: &[u8], unit: TimeUnit) -> Option<i64>
 
 /// Returns a value outside of a day.
 fn parse_time_number(text: &[u8], unit: TimeUnit) -> Option<i64>
-    ensures { IsParsed integer_text (λ n. FitsSigned w64 n × (is_time_of_day (unit_digits unit) n ≡ false)) text.now result }
+    ensures { IsParsed signed_integer_text (λ n. FitsSigned w64 n × (is_time_of_day (unit_digits unit) n ≡ false)) text.now result }
 {
     let number = parse_integer(text)?;
     let value = to_i64(number)?;

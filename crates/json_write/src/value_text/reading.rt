@@ -1,7 +1,7 @@
 //! Numbers read from their digits.
 ghost use Rattle.std.specs.Prelude.{◌≡◌, ◌<◌, ◌≤◌, ◌^◌, FitsSigned, SomeIff, length, unsigned_abs};
 ghost use Rattle.std.specs.Int.{w64};
-ghost use Rattle.json_write.specs.Digits.{at_least, fraction_text, integer_text, last_digits, number_text};
+ghost use Rattle.json_write.specs.Digits.{at_least, fraction_text, signed_integer_text, last_digits, number_text};
 ghost use Rattle.json_write.specs.Reading.{IsParsed};
 ghost use Rattle.json_write.specs.Times.{unit_digits};
 
@@ -55,7 +55,7 @@ pub(crate) fn parse_six_digits(digits: &[u8]) -> Option<u128>
 
 /// Returns the integer with this text.
 pub(crate) fn parse_integer(text: &[u8]) -> Option<i128>
-    ensures { IsParsed integer_text (λ z. unsigned_abs z < 10 ^ 38) text.now result }
+    ensures { IsParsed signed_integer_text (λ z. unsigned_abs z < 10 ^ 38) text.now result }
 {
     let (first, rest) = text.split_first()?;
     if *first == b'-' {

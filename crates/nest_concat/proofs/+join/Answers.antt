@@ -3,7 +3,7 @@ use Rattle.std.specs.Prelude.{map}
 use Rattle.nest_memory.specs.Physical.{physical_type}
 use Rattle.nest_model.specs.Accessors.{child_at, children_of}
 use Rattle.nest_model.specs.Layout.{layout_type, weight, weight_all}
-use Rattle.nest_concat.specs.Windows.{field_of}
+use Rattle.nest_concat.specs.Windows.{field_window}
 use Rattle.nest_array.specs.Seen.{layout_of, layouts_of}
 use Rattle.nest_memory.specs.declared.datatypes.physical_type.PhysicalType.TheVariants as physical
 use Rattle.nest_model.specs.Accessors.{key_type_of}
@@ -316,9 +316,9 @@ struct_::join_fields-loop-f-preserved t c =
     record {
       same_length = omega (arith, c.push_reserved.ensures.len, ap length e, i.same_length, length-append c.loop-f.joined.items (y ∷ []));
       room = omega (arith, c.push_reserved.ensures.capacity, i.room);
-      done = rw e (one-more (λ k z. IsJoined (layout_type (child_at cs k)) (map (field_of k) ws) z) c.loop-f.joined.items c.loop-f.f y i.same_length i.done g);
-      laid_so = rw e (one-more (λ k z. z ≡ laid (child_at cs k) (map (field_of k) ws)) c.loop-f.joined.items c.loop-f.f y i.same_length i.laid_so (child-laid (field_of c.loop-f.f) _ _ ws c.deref.result.now p q c.in-Ok.ensures.laid));
-      room_so = each-more (λ k. PassesLimits (child_at cs k) (map (field_of k) ws) → ⊥) c.loop-f.f i.room_so (child-room (field_of c.loop-f.f) _ ws c.deref.result.now p q c.in-Ok.ensures.room);
+      done = rw e (one-more (λ k z. IsJoined (layout_type (child_at cs k)) (map (field_window k) ws) z) c.loop-f.joined.items c.loop-f.f y i.same_length i.done g);
+      laid_so = rw e (one-more (λ k z. z ≡ laid (child_at cs k) (map (field_window k) ws)) c.loop-f.joined.items c.loop-f.f y i.same_length i.laid_so (child-laid (field_window c.loop-f.f) _ _ ws c.deref.result.now p q c.in-Ok.ensures.laid));
+      room_so = each-more (λ k. PassesLimits (child_at cs k) (map (field_window k) ws) → ⊥) c.loop-f.f i.room_so (child-room (field_window c.loop-f.f) _ ws c.deref.result.now p q c.in-Ok.ensures.room);
     }
 
 pub union::join_unions-types-requires : goal.union::join_unions-types-requires

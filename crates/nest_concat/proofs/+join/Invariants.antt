@@ -7,7 +7,7 @@ use Rattle.nest_array.specs.Seen.{layout_of, layouts_of}
 use Rattle.nest_concat.specs.Joined.{IsJoined, first_array}
 use Rattle.nest_concat.specs.Laid.{laid}
 use Rattle.nest_concat.specs.Limits.{PassesLimits}
-use Rattle.nest_concat.specs.Windows.{field_of}
+use Rattle.nest_concat.specs.Windows.{field_window}
 use Rattle.nest_concat.proofs.+join.Given as goal
 
 abbrev pub decreases-any::join : goal.decreases-any::join
@@ -42,7 +42,7 @@ invariant-struct_::join_fields-loop-f l =
     record {
       same_length : length l.joined.items ≡ l.f;
       room : length l.children ≤ vec_capacity l.joined;
-      done : (k : ℕ) (d : AnyArray) → k < l.f → IsJoined (layout_type (child_at (layouts_of l.children) k)) (map (field_of k) l.windows) (layout_of (get_or l.joined.items k d));
-      laid_so : (k : ℕ) (d : AnyArray) → k < l.f → layout_of (get_or l.joined.items k d) ≡ laid (child_at (layouts_of l.children) k) (map (field_of k) l.windows);
-      room_so : (k : ℕ) → k < l.f → PassesLimits (child_at (layouts_of l.children) k) (map (field_of k) l.windows) → ⊥;
+      done : (k : ℕ) (d : AnyArray) → k < l.f → IsJoined (layout_type (child_at (layouts_of l.children) k)) (map (field_window k) l.windows) (layout_of (get_or l.joined.items k d));
+      laid_so : (k : ℕ) (d : AnyArray) → k < l.f → layout_of (get_or l.joined.items k d) ≡ laid (child_at (layouts_of l.children) k) (map (field_window k) l.windows);
+      room_so : (k : ℕ) → k < l.f → PassesLimits (child_at (layouts_of l.children) k) (map (field_window k) l.windows) → ⊥;
     }

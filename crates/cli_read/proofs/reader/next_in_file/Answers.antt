@@ -2,7 +2,7 @@ use Rattle.std.proofs.Common.{arith, drop, sym, subst}
 use Rattle.std.specs.Option.{option_map}
 use Rattle.ipc_io.specs.FileReaders.{bytes_of}
 use Rattle.cli_rows.specs.declared.error.CliError.{CliError}
-use Rattle.cli_read.specs.Remaining.{FailsNext, remaining_in_file}
+use Rattle.cli_read.specs.Remaining.{FailsToReadNext, remaining_in_file}
 use Rattle.cli_read.proofs.Readers.{file-end, file-fails, file-next}
 use Rattle.cli_read.proofs.reader.next_in_file.Goals as goal
 
@@ -23,5 +23,5 @@ pub returns-in-Err-clause-error : goal.returns-in-Err-clause-error
 returns-in-Err-clause-error g c =
     let known = bytes_of g.R.Seek.stream_position g.R.Seek.stream_bytes c.args.reader.now.inner in
     let r = c.args.reader.now in
-    subst (λ (error : CliError). FailsNext error (option_map (remaining_in_file r.state (drop c.args.next.now r.blocks)) known)) (sym c.from.ensures)
+    subst (λ (error : CliError). FailsToReadNext error (option_map (remaining_in_file r.state (drop c.args.next.now r.blocks)) known)) (sym c.from.ensures)
     (file-fails r.state r.blocks c.args.next.now known c.in-Err.e (omega (arith, c.if-k-len.false, c.len.ensures)) c.in-Err.ensures.batch)

@@ -4,7 +4,7 @@ use Rattle.ipc_schema.specs.SchemaBytes.{schema_message}
 use Rattle.ipc_schema.specs.Projections.{all}
 use Rattle.ipc_schema.specs.FooterLaws.{projected_footer_of_all}
 use Rattle.ipc_schema.specs.ProjectedFooters.{projected_footer_in}
-use Rattle.ipc.specs.Streams.{RecordBatchTree, record_batch_of, types_of}
+use Rattle.ipc.specs.Streams.{RecordBatchTree, record_batch_of, column_types}
 use Rattle.ipc.specs.EncodedStreams.{encoded_messages, BatchesRoundTrip}
 use Rattle.ipc.specs.EncodedFiles.{Blocks, file_dictionary_batches, blocks_from, written_blocks, written_footer, encoded_file, file_state_start, file_batches_error}
 use Rattle.ipc.specs.FileLaws.{written_inside, file_round_trips, file_same, shown_alike}
@@ -17,7 +17,7 @@ returns-clause-again c =
     let s : SchemaModel = schema_of c.args.schema.now in
     let bs : List RecordBatchTree = map record_batch_of c.args.batches.now in
     let ok : BatchesRoundTrip file_dictionary_batches [] bs = c.in_ok-blocks.ensures.again in
-    let form : file_batches_error (types_of s) (file_state_start s) bs ≡ None = c.in_ok-blocks.ensures.form in
+    let form : file_batches_error (column_types s) (file_state_start s) bs ≡ None = c.in_ok-blocks.ensures.form in
     let start : length c.extend_from_slice.new.self.items ≡ 8 = rw (c.in_ok-extend_from_slice.ensures.items, c.new-out.ensures.items) refl in
     let blocks = c.in_ok-blocks.ensures.blocks ∙ ap (λ (n : ℕ). blocks_from (n + length (schema_message s)) [] bs) start in
     let dictionaries : c.deref.result.now ≡ (written_blocks s bs).dictionaries = c.deref.ensures.value ∙ ap (λ (b : Blocks). b.dictionaries) blocks in

@@ -10,7 +10,7 @@ use Rattle.nest_any.specs.Words.{AreEachComplete, IsComplete, builder_len, build
 use Rattle.json_read.specs.DistinctNames.{HasDistinctFieldNames}
 use Rattle.json_read.specs.StructMembers.{NullsAdded, child_error, child_named, field_name_at_index}
 use Rattle.json_read.specs.FlatValues.{first_error}
-use Rattle.json_read.specs.JsonSlots.{value_error, field_slots, items_error, member_slots, members_error, length_error, slot_of, type_named}
+use Rattle.json_read.specs.JsonSlots.{value_error, field_slots, items_error, member_slots, members_error, list_length_error, slot_of, type_named}
 use Rattle.json_read.specs.SlotAdded.{IsPushError, SlotAdded, SlotsAdded}
 use Rattle.json_read.proofs.Feeding.{fed-none, named-at, named-none}
 use Rattle.json_read.proofs.Stepping.{refuses-first}
@@ -43,7 +43,7 @@ pub push_list-returns-in-Err-clause-error : goal.push_list-returns-in-Err-clause
 push_list-returns-in-Err-clause-error t c =
     let p = child-parts c.args.lists.now c.known.ensures.kind c.requires.complete c.requires.distinct in
     let typed = ap builder_type c.child.ensures.value ∙ sym p.0 in
-    refuses-first c.in-Err.error (items_error (items_type (builder_type c.args.lists.now)) (items_view c.args.items.now)) (length_error c.args.size (length c.args.items.now))
+    refuses-first c.in-Err.error (items_error (items_type (builder_type c.args.lists.now)) (items_view c.args.items.now)) (list_length_error c.args.size (length c.args.items.now))
     (subst (λ u. IsPushError c.in-Err.error (items_error u (items_view c.args.items.now))) typed c.in-Err.ensures.error)
 
 pub push_list-returns-then-size-items-clause-error : goal.push_list-returns-then-size-items-clause-error
@@ -68,9 +68,9 @@ push_list-returns-clause-valid t c =
     let p = child-parts c.args.lists.now c.known.ensures.kind c.requires.complete c.requires.distinct in
     let typed = ap builder_type c.child.ensures.value ∙ sym p.0 in
     let none = subst (λ u. items_error u (items_view c.args.items.now) ≡ None) typed c.in_default.ensures.valid in
-    let size : length_error c.args.size (length c.args.items.now) ≡ None = elim c.match-size.branch [
+    let size : list_length_error c.args.size (length c.args.items.now) ≡ None = elim c.match-size.branch [
       | push_list-in-Some+else-size-items w ↦ size-right c.args.size w.in-Some.size (length c.args.items.now) w.in-Some.is w.if-size-items.false
-      | push_list-in_default-size w ↦ ap (λ o. length_error o (length c.args.items.now)) w.in_default-size.is
+      | push_list-in_default-size w ↦ ap (λ o. list_length_error o (length c.args.items.now)) w.in_default-size.is
     ] in
     on-ok c.push_list_slot.result _ _ (λ with_row. first-later _ _ none ∙ size) c.push_list_slot.ensures.added
 
@@ -94,8 +94,8 @@ push_value-returns-in-List-clause-valid t c =
     let size = c.size-size.ensures.size ∙ ap fixed_size (c.data_type.ensures ∙ ap builder_type tree) in
     let all = ap (λ x. value_error (builder_type x) (value_view c.args.value.now)) tree ∙ ap (value_error (builder_type b)) seen ∙ error-list (builder_type b) items c.push_list.ensures.lists in
     subst (λ f. OnOk c.push_list.result (f ≡ None)) (sym all)
-    (subst (λ o. OnOk c.push_list.result (first_error (items_error (items_type (builder_type b)) (items_view items)) (length_error o (length items)) ≡ None)) size
-    (subst (λ vs. OnOk c.push_list.result (first_error (items_error (items_type (builder_type b)) (items_view vs)) (length_error c.size-size.result (length vs)) ≡ None)) c.deref.ensures.value c.push_list.ensures.valid))
+    (subst (λ o. OnOk c.push_list.result (first_error (items_error (items_type (builder_type b)) (items_view items)) (list_length_error o (length items)) ≡ None)) size
+    (subst (λ vs. OnOk c.push_list.result (first_error (items_error (items_type (builder_type b)) (items_view vs)) (list_length_error c.size-size.result (length vs)) ≡ None)) c.deref.ensures.value c.push_list.ensures.valid))
 
 pub push_value-returns-in-List-clause-error : goal.push_value-returns-in-List-clause-error
 push_value-returns-in-List-clause-error t c =
@@ -106,8 +106,8 @@ push_value-returns-in-List-clause-error t c =
     let size = c.size-size.ensures.size ∙ ap fixed_size (c.data_type.ensures ∙ ap builder_type tree) in
     let all = ap (λ x. value_error (builder_type x) (value_view c.args.value.now)) tree ∙ ap (value_error (builder_type b)) seen ∙ error-list (builder_type b) items c.push_list.ensures.lists in
     subst (λ f. IfErr c.push_list.result (λ e. IsPushError e f)) (sym all)
-    (subst (λ o. IfErr c.push_list.result (λ e. IsPushError e (first_error (items_error (items_type (builder_type b)) (items_view items)) (length_error o (length items))))) size
-    (subst (λ vs. IfErr c.push_list.result (λ e. IsPushError e (first_error (items_error (items_type (builder_type b)) (items_view vs)) (length_error c.size-size.result (length vs))))) c.deref.ensures.value c.push_list.ensures.error))
+    (subst (λ o. IfErr c.push_list.result (λ e. IsPushError e (first_error (items_error (items_type (builder_type b)) (items_view items)) (list_length_error o (length items))))) size
+    (subst (λ vs. IfErr c.push_list.result (λ e. IsPushError e (first_error (items_error (items_type (builder_type b)) (items_view vs)) (list_length_error c.size-size.result (length vs))))) c.deref.ensures.value c.push_list.ensures.error))
 
 -- ---- records
 

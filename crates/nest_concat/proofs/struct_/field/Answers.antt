@@ -2,7 +2,7 @@ use Rattle.std.proofs.Common.{◌++◌, ◌∷◌, [], ap, sym, ◌∙◌, subst
 use Rattle.nest_memory.specs.TypeTree.{count_fields}
 use Rattle.nest_model.specs.Layout.{layout_type}
 use Rattle.nest_concat.specs.Joined.{IsWithin, first_array}
-use Rattle.nest_concat.specs.Windows.{field_of}
+use Rattle.nest_concat.specs.Windows.{field_window}
 use Rattle.nest_concat.proofs.Children.{fit-more}
 use Rattle.nest_concat.proofs.Grown.{map-more}
 use Rattle.nest_concat.proofs.Logical.{fields-alike}
@@ -35,7 +35,7 @@ loop-window-preserved c =
       gathered =
           e
           ∙ ap (λ z. z ++ x ∷ []) i.gathered
-          ∙ ap (λ z. map (field_of c.args.f) (take k ws) ++ z ∷ []) c.part_of_window.ensures.parts
-          ∙ sym (map-more (field_of c.args.f) ws k c.window-item.result c.loop-window-test.true c.window-item.is);
+          ∙ ap (λ z. map (field_window c.args.f) (take k ws) ++ z ∷ []) c.part_of_window.ensures.parts
+          ∙ sym (map-more (field_window c.args.f) ws k c.window-item.result c.loop-window-test.true c.window-item.is);
       fit = rw e (fit-more old x i.fit c.part_of_window.ensures.fits);
     }

@@ -1,7 +1,7 @@
 use Rattle.std.proofs.Common.{◌≡◌, ◌≤◌, length, take, map}
 use Rattle.std.specs.Prelude.{vec_capacity}
 use Rattle.nest_concat.specs.Joined.{AreArrays}
-use Rattle.nest_concat.specs.Windows.{field_of}
+use Rattle.nest_concat.specs.Windows.{field_window}
 use Rattle.nest_concat.proofs.struct_.field.Given as goal
 
 abbrev pub invariant-loop-window : goal.invariant-loop-window
@@ -9,6 +9,6 @@ invariant-loop-window l =
     record {
       room : length l.windows ≤ vec_capacity l.fields;
       long : length l.fields.items ≡ l.window-index;
-      gathered : l.fields.items ≡ map (field_of l.f) (take l.window-index l.windows);
+      gathered : l.fields.items ≡ map (field_window l.f) (take l.window-index l.windows);
       fit : AreArrays l.fields.items;
     }

@@ -1,7 +1,7 @@
 use Rattle.std.proofs.Common.{◌≡◌, ◌++◌, ap, ◌∙◌, arith, rules, to_z, of_z, w64, codes}
 use Rattle.std.proofs.lemmas.Grind.{put_four}
 use Rattle.std.specs.Int.{w128}
-use Rattle.json_write.specs.Digits.{integer_text}
+use Rattle.json_write.specs.Digits.{signed_integer_text}
 use Rattle.json_write.specs.Decimals.{decimal_text}
 use Rattle.json_write.proofs.Signed.{signed}
 use Rattle.json_write.proofs.value_text.durations.write_days.Goals as goal
@@ -16,6 +16,6 @@ returns g c plain ok =
     let value = to_z w128 (of_z w128 c.from-2.result) in
     let units : value ≡ c.args.value = omega (arith, signed) in
     put_four g.W.Write.write_str_gives _ _ _ _ _ _ _ _ _ _ one two three four
-    (ap (λ x. integer_text x ++ (codes "DT" ++ (decimal_text c.digits.result value ++ codes "S"))) days
-    ∙ ap (λ y. integer_text c.args.days ++ (codes "DT" ++ (decimal_text c.digits.result y ++ codes "S"))) units
-    ∙ ap (λ k. integer_text c.args.days ++ (codes "DT" ++ (decimal_text k c.args.value ++ codes "S"))) c.digits.ensures.value)
+    (ap (λ x. signed_integer_text x ++ (codes "DT" ++ (decimal_text c.digits.result value ++ codes "S"))) days
+    ∙ ap (λ y. signed_integer_text c.args.days ++ (codes "DT" ++ (decimal_text c.digits.result y ++ codes "S"))) units
+    ∙ ap (λ k. signed_integer_text c.args.days ++ (codes "DT" ++ (decimal_text k c.args.value ++ codes "S"))) c.digits.ensures.value)

@@ -1,6 +1,6 @@
 use Rattle.std.proofs.Common.{◌≡◌, false, sym, ap, ◌∙◌, subst, arith, rules, to_z, of_z, w64, FitsSigned}
 use Rattle.std.specs.Int.{w128}
-use Rattle.json_write.specs.Digits.{integer_text}
+use Rattle.json_write.specs.Digits.{signed_integer_text}
 use Rattle.json_write.specs.Times.{is_time_of_day, unit_digits}
 use Rattle.json_write.proofs.Signed.{signed}
 use Rattle.json_write.proofs.TimeFacts.{integer_injective}
@@ -9,7 +9,7 @@ use Rattle.json_write.proofs.value_text.parse_times.parse_time_number.Goals as g
 
 pub returns-in_err-value : goal.returns-in_err-value
 returns-in_err-value c =
-    none_parsed integer_text (λ n. FitsSigned w64 n × (is_time_of_day (unit_digits c.args.unit) n ≡ false)) c.args.text.now _ (search rules)
+    none_parsed signed_integer_text (λ n. FitsSigned w64 n × (is_time_of_day (unit_digits c.args.unit) n ≡ false)) c.args.text.now _ (search rules)
     (λ n fits e.
     let number = c.in_ok-number.number in
     let read = c.in_ok-number.ensures in

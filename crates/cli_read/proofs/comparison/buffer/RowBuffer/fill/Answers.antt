@@ -3,7 +3,7 @@ use Rattle.std.specs.Option.{option_map}
 use Rattle.nest_array.specs.Seen.{layout_of}
 use Rattle.nest_array.specs.declared.any.AnyArray.{AnyArray}
 use Rattle.cli_rows.specs.declared.error.BatchError.{BatchError}
-use Rattle.cli_read.specs.RowBuffers.{ReturnsRows, IsBufferError, buffered_rows}
+use Rattle.cli_read.specs.RowBuffers.{ReturnsRows, IsRowBufferError, buffered_rows}
 use Rattle.cli_read.specs.Readers.{remaining_batches, reader_schema}
 use Rattle.cli_read.proofs.Buffers.{no-rows, some-rows}
 use Rattle.cli_read.proofs.BufferSteps.{came-as, ended, not-over, stopped, uncounted}
@@ -18,7 +18,7 @@ returns-in_default-clause-error g c = λ t done p.
     let s = reader_schema old.reader in
     let u = remaining_batches g.R.Read.remaining g.R.Seek.stream_position g.R.Seek.stream_bytes old.reader in
     let none = no-rows old.from (layout_of old.rows) c.len.result c.len.ensures c.if-self-len.false in
-    subst (λ (stop : BatchError). IsBufferError t s done stop) (sym c.error.ensures) (uncounted t s done old.read (buffered_rows old) u (not-over t s done old.is_over old.read (buffered_rows old) u c.if-self.false p) none)
+    subst (λ (stop : BatchError). IsRowBufferError t s done stop) (sym c.error.ensures) (uncounted t s done old.read (buffered_rows old) u (not-over t s done old.is_over old.read (buffered_rows old) u c.if-self.false p) none)
 
 pub returns-in-Err-clause-error : goal.returns-in-Err-clause-error
 returns-in-Err-clause-error g c = λ t done p.
@@ -26,7 +26,7 @@ returns-in-Err-clause-error g c = λ t done p.
     let s = reader_schema old.reader in
     let u = remaining_batches g.R.Read.remaining g.R.Seek.stream_position g.R.Seek.stream_bytes old.reader in
     let none = no-rows old.from (layout_of old.rows) c.len.result c.len.ensures c.if-self-len.false in
-    subst (λ (stop : BatchError). IsBufferError t s done stop) (sym c.error-in-Err.ensures)
+    subst (λ (stop : BatchError). IsRowBufferError t s done stop) (sym c.error-in-Err.ensures)
     (stopped t s done old.read (buffered_rows old) u c.in-Err.error (not-over t s done old.is_over old.read (buffered_rows old) u c.if-self.false p) none c.in-Err.ensures.error)
 
 pub returns-in-Ok-None-clause-on : goal.returns-in-Ok-None-clause-on
