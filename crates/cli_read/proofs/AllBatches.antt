@@ -7,7 +7,7 @@ use Rattle.ipc.specs.Streams.{RecordBatchTree}
 use Rattle.cli_read.specs.Decoded.{Decoded}
 use Rattle.cli_read.proofs.FirstLaws.{AreFirstHeld, in-file, in-stream}
 use Rattle.cli_rows.specs.Difference.{IsDifference}
-use Rattle.cli_rows.specs.Rows.{TypedRow, rows_of}
+use Rattle.cli_rows.specs.Rows.{RowSlot, rows_of}
 use Rattle.cli_rows.specs.Compared.{IsTableDifference, batch_array, table_rows}
 use Rattle.cli_rows.specs.Tables.{TableTree}
 use Rattle.cli_rows.specs.Output.{HasTable}
@@ -51,7 +51,7 @@ rest-of k row first whole h are is (inl same) = inr (by (ap (λ (x : TableTree).
         let b = length-append (table_rows (table_of_batches h.schema (take k h.batches))) (table_rows (table_of_batches h.schema (drop k h.batches))) in
         none (table_rows (table_of_batches h.schema (drop k h.batches))) (omega (arith, a, b, e))
       where
-        none : (l : List TypedRow) → length l ≡ 0 → l ≡ []
+        none : (l : List RowSlot) → length l ≡ 0 → l ≡ []
         none [] z = refl
         none (x ∷ l) z = absurd (omega (arith, z))
 

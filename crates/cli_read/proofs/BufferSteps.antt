@@ -13,7 +13,7 @@ use Rattle.nest_model.specs.Layout.{Layout}
 use Rattle.nest_array.specs.Seen.{layout_of}
 use Rattle.cli_read.specs.Decoded.{Decoded, table_with}
 use Rattle.cli_rows.specs.Difference.{AreEqualUpTo, IsDifference}
-use Rattle.cli_rows.specs.Rows.{TypedRow, rows_of}
+use Rattle.cli_rows.specs.Rows.{RowSlot, rows_of}
 use Rattle.cli_rows.specs.Compared.{IsRowsError, batch_array, batch_arrays, table_rows}
 use Rattle.cli_rows.specs.Tables.{TableTree}
 use Rattle.cli_rows.specs.Output.{HasTable}
@@ -120,13 +120,13 @@ pub begun : (t : Option Remaining) (s : SchemaModel) → StartsEmpty t → Buffe
 begun None s fresh = tt
 begun (Some t) s fresh = record { batches = []; at = behind-none t fresh; are_rows = refl }
 
-pub begun-as : (t u : Option Remaining) (s : SchemaModel) (over : Bool) (k : ℕ) (rows : List TypedRow) → over ≡ false → k ≡ 0 → rows ≡ [] → u ≡ t → StartsEmpty t → BufferState t s [] over k rows u
+pub begun-as : (t u : Option Remaining) (s : SchemaModel) (over : Bool) (k : ℕ) (rows : List RowSlot) → over ≡ false → k ≡ 0 → rows ≡ [] → u ≡ t → StartsEmpty t → BufferState t s [] over k rows u
 begun-as t u s over k rows is first none same fresh =
     subst (λ (b : Bool). BufferState t s [] b k rows u) (sym is)
     (subst (λ (n : ℕ). BufferState t s [] false n rows u) (sym first)
-    (subst (λ (l : List TypedRow). BufferState t s [] false 0 l u) (sym none) (subst (λ (v : Option Remaining). BufferState t s [] false 0 [] v) (sym same) (begun t s fresh))))
+    (subst (λ (l : List RowSlot). BufferState t s [] false 0 l u) (sym none) (subst (λ (v : Option Remaining). BufferState t s [] false 0 [] v) (sym same) (begun t s fresh))))
 
-pub ended : (t : Option Remaining) (s : SchemaModel) (done : List TypedRow) (k : ℕ) (rows : List TypedRow) (u v : Option Remaining) → BufferState t s done false k rows u → ReturnsRows s u v None → BufferState t s done true k rows v
+pub ended : (t : Option Remaining) (s : SchemaModel) (done : List RowSlot) (k : ℕ) (rows : List RowSlot) (u v : Option Remaining) → BufferState t s done false k rows u → ReturnsRows s u v None → BufferState t s done true k rows v
 ended None s done k rows u v p g = tt
 ended (Some t) s done k rows None v p g = absurd p.at
 ended (Some t) s done k rows (Some u) None p g = absurd g
@@ -136,7 +136,7 @@ ended (Some t) s done k rows (Some u) (Some v) p g = record {
   are_rows = p.are_rows;
 }
 
-pub came : (t : Option Remaining) (s : SchemaModel) (done : List TypedRow) (k : ℕ) (rows : List TypedRow) (u v : Option Remaining) (a : Layout) → BufferState t s done false k rows u → rows ≡ [] → ReturnsRows s u v (Some a) → BufferState t s done false (k + 1) (rows_of a) v
+pub came : (t : Option Remaining) (s : SchemaModel) (done : List RowSlot) (k : ℕ) (rows : List RowSlot) (u v : Option Remaining) (a : Layout) → BufferState t s done false k rows u → rows ≡ [] → ReturnsRows s u v (Some a) → BufferState t s done false (k + 1) (rows_of a) v
 came None s done k rows u v a p e g = tt
 came (Some t) s done k rows None v a p e g = absurd p.at
 came (Some t) s done k rows (Some u) None a p e g = absurd g
@@ -152,7 +152,7 @@ came (Some t) s done k rows (Some u) (Some v) a p e g = record {
 pub held-at : (s : SchemaModel) (bs : List RecordBatchTree) (read : Some_) (P : TableTree → Type 0) → read ≡ Ok bs → P (table_of_batches s bs) → HasTable (table_with s read) P
 held-at s bs read P e p = subst (λ (r : Some_). HasTable (table_with s r) P) (sym e) p
 
-pub stopped : (t : Option Remaining) (s : SchemaModel) (done : List TypedRow) (k : ℕ) (rows : List TypedRow) (u : Option Remaining) (error : CliError) → BufferState t s done false k rows u → rows ≡ [] → FailsRows s error u
+pub stopped : (t : Option Remaining) (s : SchemaModel) (done : List RowSlot) (k : ℕ) (rows : List RowSlot) (u : Option Remaining) (error : CliError) → BufferState t s done false k rows u → rows ≡ [] → FailsRows s error u
     → IsRowBufferError t s done (record { batch = Some k; error = error })
 stopped None s done k rows u error p e f = tt
 stopped (Some t) s done k rows None error p e f = absurd p.at
@@ -165,10 +165,10 @@ fails-so : (s : SchemaModel) (u : Option Remaining) → FailsRows s Input u
 fails-so s None = tt
 fails-so s (Some u) = tt
 
-pub uncounted : (t : Option Remaining) (s : SchemaModel) (done : List TypedRow) (k : ℕ) (rows : List TypedRow) (u : Option Remaining) → BufferState t s done false k rows u → rows ≡ [] → IsRowBufferError t s done (record { batch = Some k; error = Input })
+pub uncounted : (t : Option Remaining) (s : SchemaModel) (done : List RowSlot) (k : ℕ) (rows : List RowSlot) (u : Option Remaining) → BufferState t s done false k rows u → rows ≡ [] → IsRowBufferError t s done (record { batch = Some k; error = Input })
 uncounted t s done k rows u p e = stopped t s done k rows u Input p e (fails-so s u)
 
-pub passed-by : (t : Option Remaining) (s : SchemaModel) (done : List TypedRow) (over : Bool) (k : ℕ) (rows more : List TypedRow) (n : ℕ) (u : Option Remaining) → more ≡ take n rows → BufferState t s done over k rows u → BufferState t s (done ++ more) over k (drop n rows) u
+pub passed-by : (t : Option Remaining) (s : SchemaModel) (done : List RowSlot) (over : Bool) (k : ℕ) (rows more : List RowSlot) (n : ℕ) (u : Option Remaining) → more ≡ take n rows → BufferState t s done over k rows u → BufferState t s (done ++ more) over k (drop n rows) u
 passed-by None s done over k rows more n u e p = tt
 passed-by (Some t) s done over k rows more n u e p = record {
   batches = p.batches;
@@ -188,14 +188,14 @@ side-whole t false k bs u e at = absurd cc
 both-held : (P : TableTree → TableTree → Type 0) (s : SchemaModel) (x y : Some_) (bs cs : List RecordBatchTree) → x ≡ Ok bs → y ≡ Ok cs → P (table_of_batches s bs) (table_of_batches s cs) → HasTable (table_with s x) (λ h. HasTable (table_with s y) (P h))
 both-held P s x y bs cs e f p = held-at s bs x (λ h. HasTable (table_with s y) (P h)) e (held-at s cs y (P (table_of_batches s bs)) f p)
 
-abbrev pub Settled : Bool → List TypedRow → Type 0
+abbrev pub Settled : Bool → List RowSlot → Type 0
 Settled over rows = (0 < length rows) ⊎ (over ≡ true)
 
-over-where-none : (over : Bool) (rows : List TypedRow) → rows ≡ [] → Settled over rows → over ≡ true
+over-where-none : (over : Bool) (rows : List RowSlot) → rows ≡ [] → Settled over rows → over ≡ true
 over-where-none over rows e (inl some) = let none = ap length e in absurd (omega (arith, some, none))
 over-where-none over rows e (inr is) = is
 
-module _ (t u : Remaining) (s : SchemaModel) (done : List TypedRow) (over more : Bool) (i j : ℕ) (xs ys : List TypedRow) (v w : Option Remaining)
+module _ (t u : Remaining) (s : SchemaModel) (done : List RowSlot) (over more : Bool) (i j : ℕ) (xs ys : List RowSlot) (v w : Option Remaining)
     (p : IsBufferState t s done over i xs v) (q : IsBufferState u s done more j ys w) where
   both : (P : TableTree → TableTree → Type 0) → P (table_of_batches s p.batches) (table_of_batches s q.batches) → HasTable ((with_schema s t).first i) (λ h. HasTable ((with_schema s u).first j) (P h))
   both P = both-held P s (t.first i) (u.first j) p.batches q.batches (side-first t over i p.batches v p.at) (side-first u more j q.batches w q.at)
@@ -222,17 +222,17 @@ module _ (t u : Remaining) (s : SchemaModel) (done : List TypedRow) (over more :
         (refl, subst (λ rs. AreEqualUpTo (2 ^ 64) rs (table_rows (table_of_batches s q.batches))) (sym p.are_rows) (subst (λ rs. AreEqualUpTo (2 ^ 64) (done ++ xs) rs) (sym q.are_rows) (equal-behind (2 ^ 64) k done xs ys many hx hy e))),
   )
 
-enough-at : (t : Remaining) (s : SchemaModel) (done : List TypedRow) (over : Bool) (i : ℕ) (xs : List TypedRow) (v : Option Remaining) (p : IsBufferState t s done over i xs v) (k : ℕ) → IsReached k xs → Settled over xs → DecidesDifference (Some (differences.Row (length done + k))) (with_schema s t) i
+enough-at : (t : Remaining) (s : SchemaModel) (done : List RowSlot) (over : Bool) (i : ℕ) (xs : List RowSlot) (v : Option Remaining) (p : IsBufferState t s done over i xs v) (k : ℕ) → IsReached k xs → Settled over xs → DecidesDifference (Some (differences.Row (length done + k))) (with_schema s t) i
 enough-at t s done over i xs v p k (inl lt) settled =
     let a = ap length p.are_rows ∙ length-append done xs in
     inr (held-at s p.batches (t.first i) (λ h. length done + k < length (table_rows h)) (side-first t over i p.batches v p.at) (omega (arith, a, lt)))
 enough-at t s done over i xs v p k (inr none) settled = inl (ap (table_with s) (side-whole t over i p.batches v (over-where-none over xs none.1 settled) p.at))
 
-reached : (k : ℕ) (xs : List TypedRow) → IsReached k xs → k ≤ length xs
+reached : (k : ℕ) (xs : List RowSlot) → IsReached k xs → k ≤ length xs
 reached k xs (inl lt) = omega (arith, lt)
 reached k xs (inr none) = omega (arith, none.0)
 
-module _ (s : SchemaModel) (done : List TypedRow) (over more : Bool) (i j : ℕ) (xs ys : List TypedRow) where
+module _ (s : SchemaModel) (done : List RowSlot) (over more : Bool) (i j : ℕ) (xs ys : List RowSlot) where
   pub tell-none : (t u v w : Option Remaining) → BufferState t s done over i xs v → BufferState u s done more j ys w → xs ≡ [] → ys ≡ [] → Settled over xs → Settled more ys → ComparesInputs (option_map (with_schema s) t) (option_map (with_schema s) u) (Ok None)
   tell-none None u v w p q ex ey sx sy = tt
   tell-none (Some t) None v w p q ex ey sx sy = tt
@@ -257,28 +257,28 @@ module _ (s : SchemaModel) (done : List TypedRow) (over more : Bool) (i j : ℕ)
   tell-many (Some t) None v w k p q many e hx hy = tt
   tell-many (Some t) (Some u) v w k p q many e hx hy = uncounted-at t u s done over more i j xs ys v w p q k many hx hy e
 
-begins-at : (t u : Remaining) (s : SchemaModel) (done : List TypedRow) (more : Bool) (k j : ℕ) (ys : List TypedRow) (w : Option Remaining) → HasTable ((with_schema s t).first k) (λ h. (h.schema ≡ s) × (table_rows h ≡ done)) → IsBufferState u s done more j ys w
+begins-at : (t u : Remaining) (s : SchemaModel) (done : List RowSlot) (more : Bool) (k j : ℕ) (ys : List RowSlot) (w : Option Remaining) → HasTable ((with_schema s t).first k) (λ h. (h.schema ≡ s) × (table_rows h ≡ done)) → IsBufferState u s done more j ys w
     → RowsBegin ((with_schema s t).first k) ((with_schema s u).first j)
 begins-at t u s done more k j ys w h q = by ((with_schema s t).first k) h
   where
     by : (read : Result TableTree formats.IpcReadError) → HasTable read (λ h. (h.schema ≡ s) × (table_rows h ≡ done)) → RowsBegin read ((with_schema s u).first j)
-    by (Ok h) is = held-at s q.batches (u.first j) (λ g. (h.schema ≡ g.schema) × ((rest : List TypedRow) × (table_rows g ≡ table_rows h ++ rest))) (side-first u more j q.batches w q.at) (is.0, (ys, q.are_rows ∙ ap (λ rs. rs ++ ys) (sym is.1)))
+    by (Ok h) is = held-at s q.batches (u.first j) (λ g. (h.schema ≡ g.schema) × ((rest : List RowSlot) × (table_rows g ≡ table_rows h ++ rest))) (side-first u more j q.batches w q.at) (is.0, (ys, q.are_rows ∙ ap (λ rs. rs ++ ys) (sym is.1)))
     by (Err error) is = absurd is
 
-stops-at : (t u : Remaining) (s : SchemaModel) (done : List TypedRow) (more : Bool) (j : ℕ) (ys : List TypedRow) (w : Option Remaining) (batch : Option ℕ) (error : CliError) → FailsAfterRows t s done batch error → IsBufferState u s done more j ys w → FailsIn batch error (with_schema s t) (with_schema s u)
+stops-at : (t u : Remaining) (s : SchemaModel) (done : List RowSlot) (more : Bool) (j : ℕ) (ys : List RowSlot) (w : Option Remaining) (batch : Option ℕ) (error : CliError) → FailsAfterRows t s done batch error → IsBufferState u s done more j ys w → FailsIn batch error (with_schema s t) (with_schema s u)
 stops-at t u s done more j ys w None error h q = absurd h
 stops-at t u s done more j ys w (Some k) error h q = (h.0, inr (j, begins-at t u s done more k j ys w h.1 q))
 
-pub stop-first : (t u : Option Remaining) (s : SchemaModel) (done : List TypedRow) (more : Bool) (j : ℕ) (ys : List TypedRow) (w : Option Remaining) (stop : BatchError) → IsRowBufferError t s done stop → BufferState u s done more j ys w → ComparesInputs (option_map (with_schema s) t) (option_map (with_schema s) u) (Err (First stop))
+pub stop-first : (t u : Option Remaining) (s : SchemaModel) (done : List RowSlot) (more : Bool) (j : ℕ) (ys : List RowSlot) (w : Option Remaining) (stop : BatchError) → IsRowBufferError t s done stop → BufferState u s done more j ys w → ComparesInputs (option_map (with_schema s) t) (option_map (with_schema s) u) (Err (First stop))
 stop-first None u s done more j ys w stop h q = tt
 stop-first (Some t) None s done more j ys w stop h q = tt
 stop-first (Some t) (Some u) s done more j ys w stop h q = stops-at t u s done more j ys w stop.batch stop.error h q
 
-stops-second : (t u : Remaining) (s : SchemaModel) (done : List TypedRow) (over : Bool) (i : ℕ) (xs : List TypedRow) (v : Option Remaining) (batch : Option ℕ) (error : CliError) → FailsAfterRows u s done batch error → IsBufferState t s done over i xs v → FailsInSecond batch error (with_schema s t) (with_schema s u)
+stops-second : (t u : Remaining) (s : SchemaModel) (done : List RowSlot) (over : Bool) (i : ℕ) (xs : List RowSlot) (v : Option Remaining) (batch : Option ℕ) (error : CliError) → FailsAfterRows u s done batch error → IsBufferState t s done over i xs v → FailsInSecond batch error (with_schema s t) (with_schema s u)
 stops-second t u s done over i xs v None error h p = absurd h
 stops-second t u s done over i xs v (Some k) error h p = stops-at u t s done over i xs v (Some k) error h p
 
-pub stop-second : (t u : Option Remaining) (s : SchemaModel) (done : List TypedRow) (over : Bool) (i : ℕ) (xs : List TypedRow) (v : Option Remaining) (stop : BatchError) → BufferState t s done over i xs v → IsRowBufferError u s done stop → ComparesInputs (option_map (with_schema s) t) (option_map (with_schema s) u) (Err (Second stop))
+pub stop-second : (t u : Option Remaining) (s : SchemaModel) (done : List RowSlot) (over : Bool) (i : ℕ) (xs : List RowSlot) (v : Option Remaining) (stop : BatchError) → BufferState t s done over i xs v → IsRowBufferError u s done stop → ComparesInputs (option_map (with_schema s) t) (option_map (with_schema s) u) (Err (Second stop))
 stop-second None u s done over i xs v stop p h = tt
 stop-second (Some t) None s done over i xs v stop p h = tt
 stop-second (Some t) (Some u) s done over i xs v stop p h = stops-second t u s done over i xs v stop.batch stop.error h p
@@ -294,25 +294,25 @@ tell-schema (Some t) (Some u) s r ft fu other = (
   tt,
 )
 
-pub not-over : (t : Option Remaining) (s : SchemaModel) (done : List TypedRow) (over : Bool) (k : ℕ) (rows : List TypedRow) (u : Option Remaining) → over ≡ false → BufferState t s done over k rows u → BufferState t s done false k rows u
+pub not-over : (t : Option Remaining) (s : SchemaModel) (done : List RowSlot) (over : Bool) (k : ℕ) (rows : List RowSlot) (u : Option Remaining) → over ≡ false → BufferState t s done over k rows u → BufferState t s done false k rows u
 not-over t s done over k rows u e p = subst (λ (b : Bool). BufferState t s done b k rows u) e p
 
-pub under-it : (t : Option Remaining) (r s : SchemaModel) (done : List TypedRow) (over more : Bool) (k j : ℕ) (rows others : List TypedRow) (u v : Option Remaining) → r ≡ s
-    → ((t : Option Remaining) (done : List TypedRow) → BufferState t r done over k rows u → BufferState t r done more j others v) → BufferState t s done over k rows u → BufferState t s done more j others v
+pub under-it : (t : Option Remaining) (r s : SchemaModel) (done : List RowSlot) (over more : Bool) (k j : ℕ) (rows others : List RowSlot) (u v : Option Remaining) → r ≡ s
+    → ((t : Option Remaining) (done : List RowSlot) → BufferState t r done over k rows u → BufferState t r done more j others v) → BufferState t s done over k rows u → BufferState t s done more j others v
 under-it t r s done over more k j rows others u v e f p = subst (λ (z : SchemaModel). BufferState t z done over k rows u → BufferState t z done more j others v) e (f t done) p
 
-pub stops-it : (t : Option Remaining) (r s : SchemaModel) (done : List TypedRow) (over : Bool) (k : ℕ) (rows : List TypedRow) (u : Option Remaining) (stop : BatchError) → r ≡ s
-    → ((t : Option Remaining) (done : List TypedRow) → BufferState t r done over k rows u → IsRowBufferError t r done stop) → BufferState t s done over k rows u → IsRowBufferError t s done stop
+pub stops-it : (t : Option Remaining) (r s : SchemaModel) (done : List RowSlot) (over : Bool) (k : ℕ) (rows : List RowSlot) (u : Option Remaining) (stop : BatchError) → r ≡ s
+    → ((t : Option Remaining) (done : List RowSlot) → BufferState t r done over k rows u → IsRowBufferError t r done stop) → BufferState t s done over k rows u → IsRowBufferError t s done stop
 stops-it t r s done over k rows u stop e f p = subst (λ (z : SchemaModel). BufferState t z done over k rows u → IsRowBufferError t z done stop) e (f t done) p
 
-pub passed-so : {R : Type 0} (t : Option Remaining) (s : SchemaModel) (done more : List TypedRow) (n : ℕ) (u : RowBuffer R → Option Remaining) (p q : RowBuffer R) → u (advanced p n) ≡ u p → q ≡ advanced p n → more ≡ take n (buffered_rows p) → HasBuffered t s done (u p) p
+pub passed-so : {R : Type 0} (t : Option Remaining) (s : SchemaModel) (done more : List RowSlot) (n : ℕ) (u : RowBuffer R → Option Remaining) (p q : RowBuffer R) → u (advanced p n) ≡ u p → q ≡ advanced p n → more ≡ take n (buffered_rows p) → HasBuffered t s done (u p) p
     → HasBuffered t s (done ++ more) (u q) q
 passed-so t s done more n u p q same is e h =
     subst (λ (z : RowBuffer _). HasBuffered t s (done ++ more) (u z) z) (sym is)
     (subst (λ (v : Option Remaining). HasBuffered t s (done ++ more) v (advanced p n)) (sym same)
-    (subst (λ (rows : List TypedRow). BufferState t s (done ++ more) p.is_over p.read rows (u p)) (drop-drop n p.from (rows_of (layout_of p.rows))) (passed-by t s done p.is_over p.read (buffered_rows p) more n (u p) e h)))
+    (subst (λ (rows : List RowSlot). BufferState t s (done ++ more) p.is_over p.read rows (u p)) (drop-drop n p.from (rows_of (layout_of p.rows))) (passed-by t s done p.is_over p.read (buffered_rows p) more n (u p) e h)))
 
-pub tell : (s : SchemaModel) (done : List TypedRow) (over more : Bool) (i j : ℕ) (xs ys : List TypedRow) (t u v w : Option Remaining) (Next : Type 0) (k : Option ℕ) (rows : ℕ) (result : Result Step CompareError) → length done ≡ rows → ComparesBuffers xs ys (Look.Decided k) → IsDifferenceAt rows k result
+pub tell : (s : SchemaModel) (done : List RowSlot) (over more : Bool) (i j : ℕ) (xs ys : List RowSlot) (t u v w : Option Remaining) (Next : Type 0) (k : Option ℕ) (rows : ℕ) (result : Result Step CompareError) → length done ≡ rows → ComparesBuffers xs ys (Look.Decided k) → IsDifferenceAt rows k result
     → Settled over xs → Settled more ys → BufferState t s done over i xs v → BufferState u s done more j ys w → IsStep t u s result Next
 tell s done over more i j xs ys t u v w Next None rows result e looks place sx sy p q =
     subst (λ (r : Result Step CompareError). IsStep t u s r Next) (sym place) (tell-none s done over more i j xs ys t u v w p q looks.0 looks.1 sx sy)
@@ -322,7 +322,7 @@ tell s done over more i j xs ys t u v w Next (Some k) rows result e looks (inr p
     subst (λ (r : Result Step CompareError). IsStep t u s r Next) (sym place.1)
     (tell-many s done over more i j xs ys t u v w k p q (subst (λ n. 2 ^ 64 ≤ n + k) (sym e) place.0) looks.0.0 (reached k xs looks.1) (reached k ys looks.2))
 
-pub came-as : (t : Option Remaining) (s : SchemaModel) (done : List TypedRow) (over : Bool) (k j : ℕ) (rows : List TypedRow) (u v : Option Remaining) (a b : Layout) → over ≡ false → j ≡ k + 1 → b ≡ a → BufferState t s done over k rows u → rows ≡ [] → ReturnsRows s u v (Some a)
+pub came-as : (t : Option Remaining) (s : SchemaModel) (done : List RowSlot) (over : Bool) (k j : ℕ) (rows : List RowSlot) (u v : Option Remaining) (a b : Layout) → over ≡ false → j ≡ k + 1 → b ≡ a → BufferState t s done over k rows u → rows ≡ [] → ReturnsRows s u v (Some a)
     → BufferState t s done over j (rows_of b) v
 came-as t s done over k j rows u v a b is next same p none gave =
     subst (λ (x : Bool). BufferState t s done x j (rows_of b) v) (sym is)

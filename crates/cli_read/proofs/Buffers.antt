@@ -6,7 +6,7 @@ use Rattle.nest_model.specs.Meaning.{len}
 use Rattle.nest_array.specs.WindowParts.{WindowParts, window_parts}
 use Rattle.cli_rows.specs.RowLaws.{rows-length, window-rows}
 use Rattle.cli_rows.specs.Difference.{IsDifference}
-use Rattle.cli_rows.specs.Rows.{TypedRow, rows_in, rows_of}
+use Rattle.cli_rows.specs.Rows.{RowSlot, rows_in, rows_of}
 use Rattle.cli_read.specs.RowBuffers.{ComparesBuffers}
 use Rattle.cli_read.specs.declared.comparison.inputs.Comparison.TheVariants.{Decided}
 use Rattle.cli_read.proofs.Lists.{differ-whole}
@@ -30,7 +30,7 @@ some-rows from a n is h = let l = left-length a from in omega (arith, l, h, is)
 pub passed-room : (a : Layout) (from n : ℕ) → from ≤ len a → n ≤ length (drop from (rows_of a)) → from + n ≤ len a
 passed-room a from n h within = let l = left-length a from in omega (arith, l, h, within)
 
-pub look-differ : (xs ys vs ws : List TypedRow) (n k : ℕ) → n ≤ length xs → n ≤ length ys → vs ≡ take n xs → ws ≡ take n ys → k < n → IsDifference vs ws (Some k) → ComparesBuffers xs ys (Decided (Some k))
+pub look-differ : (xs ys vs ws : List RowSlot) (n k : ℕ) → n ≤ length xs → n ≤ length ys → vs ≡ take n xs → ws ≡ take n ys → k < n → IsDifference vs ws (Some k) → ComparesBuffers xs ys (Decided (Some k))
 look-differ xs ys vs ws n k hx hy ev ew lt d =
     let a = length-take n xs in
     let b = length-take n ys in

@@ -4,7 +4,7 @@ use Rattle.std.specs.Option.{option_map}
 use Rattle.std.specs.Io.KnownBytes.{Keeps}
 use Rattle.ipc_schema.specs.Schemas.{SchemaModel}
 use Rattle.cli_read.specs.Decoded.{Decoded}
-use Rattle.cli_rows.specs.Rows.{TypedRow}
+use Rattle.cli_rows.specs.Rows.{RowSlot}
 use Rattle.cli_rows.specs.declared.difference.Difference.{Difference}
 use Rattle.cli_rows.specs.declared.error.CliError.{CliError}
 use Rattle.cli_rows.specs.declared.error.CliError.TheVariants.{Input}
@@ -43,7 +43,7 @@ as-opened None s l result o a = tt
 as-opened (Some x) s None result o a = absurd o
 as-opened (Some x) s (Some l) result o a = subst (λ (z : Decoded). ComparesInputs (Some z) (Some z) result) (sym o) a
 
-pub none-left : (xs : List TypedRow) → length xs ≡ 0 → xs ≡ []
+pub none-left : (xs : List RowSlot) → length xs ≡ 0 → xs ≡ []
 none-left [] e = refl
 none-left (x ∷ xs) e = cc
 

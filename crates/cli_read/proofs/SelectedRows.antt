@@ -14,7 +14,7 @@ use Rattle.ipc.specs.Streams.{RecordBatchTree}
 use Rattle.cli_args.specs.Requests.{SelectionTree, RequestTree, columns, rows, all, slice, indices, where_true}
 use Rattle.cli_rows.specs.Selection.{selected_rows}
 use Rattle.cli_rows.specs.RowLaws.{rows-length, sublist-both}
-use Rattle.cli_rows.specs.Rows.{TypedRow, rows_of}
+use Rattle.cli_rows.specs.Rows.{RowSlot, rows_of}
 use Rattle.cli_rows.specs.Booleans.{is_true_in}
 use Rattle.cli_rows.specs.Text.{json_line, text_of_rows}
 use Rattle.cli_rows.specs.RequestText.{spec_request_text, unless_error}
@@ -27,13 +27,13 @@ use Rattle.cli_read.specs.RowBuffers.{table_of_batches}
 use Rattle.cli_rows.specs.RowOrder.{IsInRowOrder, remaining_selection}
 use Rattle.cli_rows.proofs.RemainingSelections.{remaining-error, remaining-none, remaining-twice}
 
-abbrev picked : SelectionTree → List TypedRow → List TypedRow
+abbrev picked : SelectionTree → List RowSlot → List RowSlot
 picked all rs = rs
 picked (slice o n) rs = sublist rs o n
 picked (where_true column) rs = filter (is_true_in column) rs
 picked (indices wanted) rs = []
 
-choice-is : (c : SelectionTree) (rs : List TypedRow) → IsInRowOrder c → selected_rows c rs ≡ Some (picked c rs)
+choice-is : (c : SelectionTree) (rs : List RowSlot) → IsInRowOrder c → selected_rows c rs ≡ Some (picked c rs)
 choice-is all rs h = refl
 choice-is (slice o n) rs h = refl
 choice-is (where_true column) rs h = refl
@@ -51,7 +51,7 @@ in-order-behind (slice o n) k h = tt
 in-order-behind (where_true column) k h = tt
 in-order-behind (indices wanted) k h = h
 
-picked-both : (c : SelectionTree) (xs ys : List TypedRow) → IsInRowOrder c → picked c (xs ++ ys) ≡ picked c xs ++ picked (remaining_selection c (length xs)) ys
+picked-both : (c : SelectionTree) (xs ys : List RowSlot) → IsInRowOrder c → picked c (xs ++ ys) ≡ picked c xs ++ picked (remaining_selection c (length xs)) ys
 picked-both all xs ys h = refl
 picked-both (slice o n) xs ys h = sublist-both xs ys o n
 picked-both (where_true column) xs ys h = filter-append (is_true_in column) xs ys
@@ -65,7 +65,7 @@ pub left-none : (q : RequestTree) → remaining_request q 0 ≡ q
 left-none columns = refl
 left-none (rows c) = left-is c 0 ∙ ap rows (remaining-none c)
 
-abbrev rows_under : List FieldTree → List RecordBatchTree → List TypedRow
+abbrev rows_under : List FieldTree → List RecordBatchTree → List RowSlot
 rows_under fs bs = flat_map rows_of (map (records (record_type fs)) (map (λ (b : RecordBatchTree). b.columns) bs))
 
 rows-append : (fs : List FieldTree) (as_ bs : List RecordBatchTree) → rows_under fs (as_ ++ bs) ≡ rows_under fs as_ ++ rows_under fs bs

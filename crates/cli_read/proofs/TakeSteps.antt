@@ -15,7 +15,7 @@ use Rattle.nest_array.specs.declared.any.AnyArray.{AnyArray}
 use Rattle.cli_read.specs.Decoded.{Decoded, table_with}
 use Rattle.cli_rows.specs.declared.error.BatchError.{BatchError}
 use Rattle.cli_rows.specs.Selection.{selected_rows}
-use Rattle.cli_rows.specs.Rows.{TypedRow, rows_of}
+use Rattle.cli_rows.specs.Rows.{RowSlot, rows_of}
 use Rattle.cli_read.specs.Remaining.{FailsToOpen, StartsEmpty, Remaining, with_schema}
 use Rattle.cli_read.specs.RowBuffers.{FailsRows, ReturnsRows, BufferState, FailsAfterRows}
 use Rattle.cli_read.proofs.BufferSteps.{begun, came, ended, held-at, passed-by, side-first, side-whole, stopped}
@@ -54,7 +54,7 @@ rise-behind wanted next up i j d le lt =
 pub all-behind : (n : ℕ) (wanted : List ℕ) → take (length wanted - n) (drop n wanted) ≡ drop n wanted
 all-behind n wanted = let long = length-drop n wanted in take_all (length wanted - n) (drop n wanted) (omega (arith, long))
 
-pub taken-more : (fs : List FieldTree) (wanted : List ℕ) (rows : List TypedRow) (next passed n : ℕ) (found : List ℕ) (more taken ws : List TypedRow) (later : ℕ) → AreTaken fs wanted rows next passed taken → next < length wanted → n ≡ length more
+pub taken-more : (fs : List FieldTree) (wanted : List ℕ) (rows : List RowSlot) (next passed n : ℕ) (found : List ℕ) (more taken ws : List RowSlot) (later : ℕ) → AreTaken fs wanted rows next passed taken → next < length wanted → n ≡ length more
     → (AreSortedFrom passed (drop next wanted) → AreIndicesInBatch (drop next wanted) passed n found) → selected_rows (indices found) more ≡ Some ws → AreRowsOf fs more → ((i : ℕ) → get_or (drop next wanted) i 0 < 2 ^ 64)
     → (passed + n < 2 ^ 64 → later ≡ passed + n) → AreTaken fs wanted (rows ++ more) (next + length found) later (taken ++ ws)
 taken-more fs wanted rows next passed n found more taken ws later p lt is w some each fits sum =
@@ -93,13 +93,13 @@ pub no-input : (s : SchemaModel) (u : Option Remaining) → FailsRows s causes.I
 no-input s None = tt
 no-input s (Some u) = tt
 
-came-more : (t : Option Remaining) (s : SchemaModel) (rows : List TypedRow) (k : ℕ) (u v : Option Remaining) (a : Layout) → BufferState t s rows false k [] u → ReturnsRows s u v (Some a) → BufferState t s (rows ++ rows_of a) false (k + 1) [] v
+came-more : (t : Option Remaining) (s : SchemaModel) (rows : List RowSlot) (k : ℕ) (u v : Option Remaining) (a : Layout) → BufferState t s rows false k [] u → ReturnsRows s u v (Some a) → BufferState t s (rows ++ rows_of a) false (k + 1) [] v
 came-more t s rows k u v a p g =
-    subst (λ (rs : List TypedRow). BufferState t s (rows ++ rows_of a) false (k + 1) rs v) (drop_all (length (rows_of a)) (rows_of a) (omega arith))
+    subst (λ (rs : List RowSlot). BufferState t s (rows ++ rows_of a) false (k + 1) rs v) (drop_all (length (rows_of a)) (rows_of a) (omega arith))
     (passed-by t s rows false (k + 1) (rows_of a) (rows_of a) (length (rows_of a)) v (sym (take_all (length (rows_of a)) (rows_of a) (omega arith))) (came t s rows k [] u v a p refl g))
 
 pub turn-on : (t : Option Remaining) (s : SchemaModel) (k : ℕ) (u v : Option Remaining) (a : Layout) (old new : TakeState) → ReturnsRows s u v (Some a) → AreRowsOf s.fields (rows_of a)
-    → ((fs : List FieldTree) (rows : List TypedRow) → AreRowsOf fs (rows_of a) → HasTakenFrom fs rows old → HasTakenFrom fs (rows ++ rows_of a) new) → IsTakeState t s false k u old → IsTakeState t s false (k + 1) v new
+    → ((fs : List FieldTree) (rows : List RowSlot) → AreRowsOf fs (rows_of a) → HasTakenFrom fs rows old → HasTakenFrom fs (rows ++ rows_of a) new) → IsTakeState t s false k u old → IsTakeState t s false (k + 1) v new
 turn-on t s k u v a old new g each took p = (p.0 ++ rows_of a, came-more t s p.0 k u v a p.1 g, took s.fields p.0 each p.2)
 
 pub turn-over : (t : Option Remaining) (s : SchemaModel) (k : ℕ) (u v : Option Remaining) (state : TakeState) → ReturnsRows s u v None → IsTakeState t s false k u state → IsTakeState t s true k v state
@@ -113,7 +113,7 @@ has-held : (read : Result TableTree formats.IpcReadError) (P Q : TableTree → T
 has-held (Ok h) P Q f p = f h p
 has-held (Err error) P Q f p = p
 
-pub takes : (wanted : List ℕ) (t : Option Remaining) (s : SchemaModel) (state : TakeState) (held : TableTree) → IsTakeEnd t s state → held.schema ≡ s → ((rows : List TypedRow) → HasTakenFrom s.fields rows state → selected_rows (indices wanted) rows ≡ Some (table_rows held))
+pub takes : (wanted : List ℕ) (t : Option Remaining) (s : SchemaModel) (state : TakeState) (held : TableTree) → IsTakeEnd t s state → held.schema ≡ s → ((rows : List RowSlot) → HasTakenFrom s.fields rows state → selected_rows (indices wanted) rows ≡ Some (table_rows held))
     → Takes wanted (option_map (with_schema s) t) held
 takes wanted None s state held has schema rows = tt
 takes wanted (Some t) s state held has schema rows =

@@ -2,7 +2,7 @@
 use Rattle.std.specs.Prelude.{◌≡◌, ℕ, Bool, List, [], Option, Result}
 use Rattle.std.specs.Option.{option_map}
 use Rattle.ipc_schema.specs.Schemas.{SchemaModel}
-use Rattle.cli_rows.specs.Rows.{TypedRow}
+use Rattle.cli_rows.specs.Rows.{RowSlot}
 use Rattle.cli_rows.specs.declared.difference.Difference.{Difference}
 use Rattle.cli_rows.specs.declared.error.BatchError.{BatchError}
 use Rattle.cli_read.specs.Comparisons.{ComparesInputs}
@@ -17,13 +17,13 @@ module _ {R : Type 0} (remaining : R → Option (List ℕ)) (place : R → Optio
   -- the buffer has the same rows, or those of the next record batch
   abbrev pub FillsBuffer : RowBuffer R → RowBuffer R → Bool → Type 0
   FillsBuffer old new moved =
-      (t : Option Remaining) (done : List TypedRow) → HasBuffered t (reader_schema old.reader) done (remaining_batches remaining place bytes old.reader) old
+      (t : Option Remaining) (done : List RowSlot) → HasBuffered t (reader_schema old.reader) done (remaining_batches remaining place bytes old.reader) old
       → HasBuffered t (reader_schema old.reader) done (remaining_batches remaining place bytes new.reader) new
 
   -- or this is the error of the next record batch
   abbrev pub FailsToFill : RowBuffer R → BatchError → Type 0
   FailsToFill old e =
-      (t : Option Remaining) (done : List TypedRow) → HasBuffered t (reader_schema old.reader) done (remaining_batches remaining place bytes old.reader) old
+      (t : Option Remaining) (done : List RowSlot) → HasBuffered t (reader_schema old.reader) done (remaining_batches remaining place bytes old.reader) old
       → IsRowBufferError t (reader_schema old.reader) done e
 
   -- all rows of one side are read, which are those of the other

@@ -3,7 +3,7 @@ use Rattle.std.specs.Prelude.{◌≡◌, ◌⊎◌, ◌<◌, ◌+◌, ◌^◌, �
 use Rattle.ipc_flatbuf.specs.declared.error.IpcReadError as formats
 use Rattle.ipc_schema.specs.Projections.{ProjectionModel}
 use Rattle.cli_rows.specs.Difference.{AreEqualUpTo}
-use Rattle.cli_rows.specs.Rows.{TypedRow}
+use Rattle.cli_rows.specs.Rows.{RowSlot}
 use Rattle.cli_read.specs.Decoded.{Decoded}
 use Rattle.cli_read.specs.Inputs.{decoded_input}
 use Rattle.cli_read.specs.declared.input.Input as inputs
@@ -40,8 +40,8 @@ abbrev pub IsInputError : CliError → Type 0
 IsInputError Input = Unit {0}
 IsInputError error = ⊥
 
-abbrev pub HasPrefix : List TypedRow → List TypedRow → Type 0
-HasPrefix ys xs = (more : List TypedRow) × (ys ≡ xs ++ more)
+abbrev pub HasPrefix : List RowSlot → List RowSlot → Type 0
+HasPrefix ys xs = (more : List RowSlot) × (ys ≡ xs ++ more)
 
 -- the schemas are equal, and the rows of the first input are the first rows of the second
 abbrev pub RowsBegin : Result TableTree formats.IpcReadError → Result TableTree formats.IpcReadError → Type 0

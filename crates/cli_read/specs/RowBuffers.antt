@@ -11,7 +11,7 @@ use Rattle.nest_array.specs.Seen.{layout_of}
 use Rattle.cli_read.specs.Decoded.{table_with}
 use Rattle.cli_rows.specs.declared.error.BatchError.{BatchError}
 use Rattle.cli_rows.specs.Difference.{IsDifference}
-use Rattle.cli_rows.specs.Rows.{TypedRow, rows_of}
+use Rattle.cli_rows.specs.Rows.{RowSlot, rows_of}
 use Rattle.cli_rows.specs.Compared.{batch_array, table_rows}
 use Rattle.cli_rows.specs.Tables.{TableTree}
 use Rattle.cli_rows.specs.Output.{HasTable}
@@ -52,7 +52,7 @@ module _ {R : Type 0} (remaining : R → Option (List ℕ)) (position : R → Op
 abbrev pub IsInBounds : {R : Type 0} → RowBuffer R → Type 0
 IsInBounds p = p.from ≤ len (layout_of p.rows)
 
-abbrev pub buffered_rows : {R : Type 0} → RowBuffer R → List TypedRow
+abbrev pub buffered_rows : {R : Type 0} → RowBuffer R → List RowSlot
 buffered_rows p = drop p.from (rows_of (layout_of p.rows))
 
 -- so many rows were compared
@@ -83,35 +83,35 @@ abbrev pub table_of_batches : SchemaModel → List RecordBatchTree → TableTree
 table_of_batches s bs = record { schema = s; batches = bs }
 
 -- the rows of the record batches read are those compared, then those buffered
-pub record IsBufferState (t : Remaining) (s : SchemaModel) (done : List TypedRow) (is_over : Bool) (read : ℕ) (rows : List TypedRow) (left : Option Remaining) : Type 0 where
+pub record IsBufferState (t : Remaining) (s : SchemaModel) (done : List RowSlot) (is_over : Bool) (read : ℕ) (rows : List RowSlot) (left : Option Remaining) : Type 0 where
   pub batches : List RecordBatchTree
   pub at : IsPosition t is_over read batches left
   pub are_rows : table_rows (table_of_batches s batches) ≡ done ++ rows
 
-abbrev pub BufferState : Option Remaining → SchemaModel → List TypedRow → Bool → ℕ → List TypedRow → Option Remaining → Type 0
+abbrev pub BufferState : Option Remaining → SchemaModel → List RowSlot → Bool → ℕ → List RowSlot → Option Remaining → Type 0
 BufferState None s done is_over read rows left = Unit {0}
 BufferState (Some t) s done is_over read rows left = IsBufferState t s done is_over read rows left
 
-abbrev pub HasBuffered : {R : Type 0} → Option Remaining → SchemaModel → List TypedRow → Option Remaining → RowBuffer R → Type 0
+abbrev pub HasBuffered : {R : Type 0} → Option Remaining → SchemaModel → List RowSlot → Option Remaining → RowBuffer R → Type 0
 HasBuffered t s done left p = BufferState t s done p.is_over p.read (buffered_rows p) left
 
 -- the record batch after so many, whose rows were compared, was not read
-abbrev pub FailsAfterRows : Remaining → SchemaModel → List TypedRow → Option ℕ → CliError → Type 0
+abbrev pub FailsAfterRows : Remaining → SchemaModel → List RowSlot → Option ℕ → CliError → Type 0
 FailsAfterRows t s done None error = ⊥
 FailsAfterRows t s done (Some k) error = IsBatchReadError error (table_with s (t.first (k + 1))) × HasTable (table_with s (t.first k)) (λ h. (h.schema ≡ s) × (table_rows h ≡ done))
 
-abbrev pub IsRowBufferError : Option Remaining → SchemaModel → List TypedRow → BatchError → Type 0
+abbrev pub IsRowBufferError : Option Remaining → SchemaModel → List RowSlot → BatchError → Type 0
 IsRowBufferError None s done stop = Unit {0}
 IsRowBufferError (Some t) s done stop = FailsAfterRows t s done stop.batch stop.error
 
 -- ---- both inputs
 
 -- the row at an index is there, or there is none and the index is 0
-abbrev pub IsReached : ℕ → List TypedRow → Type 0
+abbrev pub IsReached : ℕ → List RowSlot → Type 0
 IsReached k rows = (k < length rows) ⊎ ((k ≡ 0) × (rows ≡ []))
 
 -- so many rows of both are equal; or there is none; or they first differ at this index
-abbrev pub ComparesBuffers : List TypedRow → List TypedRow → Comparison → Type 0
+abbrev pub ComparesBuffers : List RowSlot → List RowSlot → Comparison → Type 0
 ComparesBuffers xs ys (Equal n) = (n ≤ length xs) × (n ≤ length ys) × (take n xs ≡ take n ys)
 ComparesBuffers xs ys (Decided None) = (xs ≡ []) × (ys ≡ [])
 ComparesBuffers xs ys (Decided (Some k)) = IsDifference xs ys (Some k) × IsReached k xs × IsReached k ys
@@ -123,7 +123,7 @@ IsDifferenceAt rows (Some k) result = ((rows + k < 2 ^ 64) × (result ≡ Ok (Do
 
 -- so many rows were compared, and they are equal
 abbrev pub BothBuffered : {R S : Type 0} → Option Remaining → Option Remaining → SchemaModel → ℕ → Option Remaining → Option Remaining → RowBuffer R → RowBuffer S → Type 0
-BothBuffered t u s rows v w p q = (done : List TypedRow) × (length done ≡ rows) × HasBuffered t s done v p × HasBuffered u s done w q
+BothBuffered t u s rows v w p q = (done : List RowSlot) × (length done ≡ rows) × HasBuffered t s done v p × HasBuffered u s done w q
 
 -- the comparison continues, or this is its result
 abbrev pub IsStep : Option Remaining → Option Remaining → SchemaModel → Result Step CompareError → Type 0 → Type 0

@@ -8,7 +8,7 @@ use Rattle.nest_array.specs.Seen.{layout_of}
 use Rattle.ipc_schema.specs.Schemas.{SchemaModel}
 use Rattle.cli_rows.specs.declared.error.BatchError.{BatchError}
 use Rattle.cli_rows.specs.Selection.{selected_rows}
-use Rattle.cli_rows.specs.Rows.{TypedRow, rows_at_indices, rows_of}
+use Rattle.cli_rows.specs.Rows.{RowSlot, rows_at_indices, rows_of}
 use Rattle.cli_read.specs.Remaining.{Remaining}
 use Rattle.cli_read.specs.RowBuffers.{IsRowBufferError, BufferState}
 use Rattle.cli_rows.specs.SelectedTables.{AreRowsOf}
@@ -18,7 +18,7 @@ use Rattle.cli_args.specs.Requests.{indices}
 use Rattle.cli_read.specs.declared.by_index.rows.TakeState.{TakeState}
 
 -- The indices are sorted, and so many of them were found in these rows, whose rows were taken. The others are after these rows.
-pub record AreTaken (fs : List FieldTree) (wanted : List ℕ) (rows : List TypedRow) (next passed : ℕ) (taken : List TypedRow) : Type 0 where
+pub record AreTaken (fs : List FieldTree) (wanted : List ℕ) (rows : List RowSlot) (next passed : ℕ) (taken : List RowSlot) : Type 0 where
   pub rise : IsNonDecreasing wanted
   pub count : next ≤ length wanted
   pub within : AllByRecursion (λ p. p < length rows) (take next wanted)
@@ -26,22 +26,22 @@ pub record AreTaken (fs : List FieldTree) (wanted : List ℕ) (rows : List Typed
   pub each : AreRowsOf fs taken
   pub rest : next < length wanted → (passed ≡ length rows) × (length rows ≤ get_or wanted next 0)
 
-abbrev pub rows_taken : TakeState → List TypedRow
+abbrev pub rows_taken : TakeState → List RowSlot
 rows_taken t = flat_map rows_of (map layout_of t.rows.items)
 
-abbrev pub HasTakenFrom : List FieldTree → List TypedRow → TakeState → Type 0
+abbrev pub HasTakenFrom : List FieldTree → List RowSlot → TakeState → Type 0
 HasTakenFrom fs rows t = AreTaken fs t.wanted.items rows t.next t.passed (rows_taken t)
 
 -- more rows of these fields were read, and those at indices taken
-abbrev pub TakesRows : List TypedRow → TakeState → TakeState → Type 0
-TakesRows more old new = (fs : List FieldTree) (rows : List TypedRow) → AreRowsOf fs more → HasTakenFrom fs rows old → HasTakenFrom fs (rows ++ more) new
+abbrev pub TakesRows : List RowSlot → TakeState → TakeState → Type 0
+TakesRows more old new = (fs : List FieldTree) (rows : List RowSlot) → AreRowsOf fs more → HasTakenFrom fs rows old → HasTakenFrom fs (rows ++ more) new
 
 abbrev pub HasMoreIndices : TakeState → Type 0
 HasMoreIndices t = t.next < length t.wanted.items
 
 -- so many record batches were read, or all of them
 abbrev pub IsTakeState : Option Remaining → SchemaModel → Bool → ℕ → Option Remaining → TakeState → Type 0
-IsTakeState t s over k u state = (rows : List TypedRow) × BufferState t s rows over k [] u × HasTakenFrom s.fields rows state
+IsTakeState t s over k u state = (rows : List RowSlot) × BufferState t s rows over k [] u × HasTakenFrom s.fields rows state
 
 -- all indices were found, or all record batches were read
 abbrev pub IsTakeEnd : Option Remaining → SchemaModel → TakeState → Type 0
@@ -54,17 +54,17 @@ IsTakeStep false Next End = End
 
 -- the record batch after these rows, in which an index is out of range, was not read
 abbrev pub IsTakeStateError : Option Remaining → SchemaModel → List ℕ → BatchError → Type 0
-IsTakeStateError t s wanted stop = (rows : List TypedRow) × IsRowBufferError t s rows stop × (selected_rows (indices wanted) rows ≡ None)
+IsTakeStateError t s wanted stop = (rows : List RowSlot) × IsRowBufferError t s rows stop × (selected_rows (indices wanted) rows ≡ None)
 
 -- ---- the end
 
 -- these are the rows at the indices
-abbrev pub AreRowsAtIndices : List FieldTree → List ℕ → List TypedRow → List Layout → Type 0
+abbrev pub AreRowsAtIndices : List FieldTree → List ℕ → List RowSlot → List Layout → Type 0
 AreRowsAtIndices fs wanted rows as_ = (selected_rows (indices wanted) rows ≡ Some (flat_map rows_of as_)) × AreRowsOf fs (flat_map rows_of as_)
 
 -- these are the rows at indices, of all rows from which the state has taken the rows at the same indices in sorted order
 abbrev pub AreTakenRows : List ℕ → TakeState → List Layout → Type 0
-AreTakenRows wanted t as_ = (fs : List FieldTree) (rows : List TypedRow) → IsPermutation wanted t.wanted.items → HasTakenFrom fs rows t → AreRowsAtIndices fs wanted rows as_
+AreTakenRows wanted t as_ = (fs : List FieldTree) (rows : List RowSlot) → IsPermutation wanted t.wanted.items → HasTakenFrom fs rows t → AreRowsAtIndices fs wanted rows as_
 
 -- an index is out of range, or an allocation failed
 abbrev pub IsFinishError : CliError → TakeState → Type 0

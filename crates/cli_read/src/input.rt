@@ -1,4 +1,4 @@
-//! Inputs, and the first bytes that tell a file from a stream.
+//! Inputs, and the first bytes that distinguish a file from a stream.
 ghost use Rattle.std.specs.Prelude.{◌≡◌, IfErr, IfOk};
 ghost use Rattle.cli_rows.specs.Output.{IsInputOrMemoryError};
 ghost use Rattle.cli_rows.specs.Tables.{is_file_prefix};

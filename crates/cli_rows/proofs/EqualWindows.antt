@@ -9,10 +9,10 @@ use Rattle.nest_model.specs.Reads.{slots-length}
 use Rattle.nest_model.specs.Runs.{length-cut}
 use Rattle.nest_model.specs.Slot.{Slot}
 use Rattle.nest_array.specs.WindowParts.{WindowParts, window_slots}
-use Rattle.cli_rows.specs.Rows.{TypedRow, rows_in}
+use Rattle.cli_rows.specs.Rows.{RowSlot, rows_in}
 use Rattle.cli_rows.specs.RowLaws.{cut-map}
 
-abbrev typed : TypeTree → List Slot → List TypedRow
+abbrev typed : TypeTree → List Slot → List RowSlot
 typed t ss = map (λ s. (t, s)) ss
 
 abbrev Equal : WindowParts → WindowParts → Type 0
@@ -21,11 +21,11 @@ Equal x y = (layout_type x.array ≡ layout_type y.array) × (window_slots x ≡
 pub same-rows : (x y : WindowParts) → Equal x y → rows_in x ≡ rows_in y
 same-rows x y e = ap (λ t. typed t (window_slots x)) e.0 ∙ ap (typed (layout_type y.array)) e.1
 
-untyped : (t : TypeTree) (ss : List Slot) → map (λ (r : TypedRow). r.1) (typed t ss) ≡ ss
+untyped : (t : TypeTree) (ss : List Slot) → map (λ (r : RowSlot). r.1) (typed t ss) ≡ ss
 untyped t [] = refl
 untyped t (s ∷ ss) = ap (λ rest. s ∷ rest) (untyped t ss)
 
-abbrev first_type : TypeTree → List TypedRow → TypeTree
+abbrev first_type : TypeTree → List RowSlot → TypeTree
 first_type d [] = d
 first_type d (r ∷ rs) = r.0
 
@@ -39,7 +39,7 @@ types-equal t u ss rs h e =
     sym (is-first t t ss h) ∙ ap (first_type t) e ∙ is-first t u rs (omega (arith, h, long))
 
 slots-equal : (t u : TypeTree) (ss rs : List Slot) → typed t ss ≡ typed u rs → ss ≡ rs
-slots-equal t u ss rs e = sym (untyped t ss) ∙ ap (map (λ (r : TypedRow). r.1)) e ∙ untyped u rs
+slots-equal t u ss rs e = sym (untyped t ss) ∙ ap (map (λ (r : RowSlot). r.1)) e ∙ untyped u rs
 
 pub one-row : (w v : WindowParts) (k : ℕ) → v.array ≡ w.array → window_slots v ≡ sublist (window_slots w) k 1 → rows_in v ≡ sublist (rows_in w) k 1
 one-row w v k a s =

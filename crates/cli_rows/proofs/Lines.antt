@@ -9,7 +9,7 @@ use Rattle.nest_model.specs.Reads.{items-cut}
 use Rattle.nest_model.specs.Slot.{Slot}
 use Rattle.nest_array.specs.WindowParts.{WindowParts, window_parts}
 use Rattle.json_write.specs.JsonText.{slot_json}
-use Rattle.cli_rows.specs.Rows.{TypedRow, rows_in}
+use Rattle.cli_rows.specs.Rows.{RowSlot, rows_in}
 use Rattle.cli_rows.specs.Text.{json_line, text_of_rows}
 
 run-more : (f : ℕ → Slot) (o k : ℕ) → run f o (k + 1) ≡ run f o k ++ f (o + k) ∷ []
@@ -25,7 +25,7 @@ window-run a o n h = ap (map (λ s. (layout_type a, s))) (sym (items-cut a o n h
 pub line-next : (a : Layout) (o k : ℕ) → o + k < len a
     → (text_of_rows (rows_in (window_parts a o k)) ++ slot_json a (o + k)) ++ 10 ∷ [] ≡ text_of_rows (rows_in (window_parts a o (k + 1)))
 line-next a o k h =
-    let typed : Slot → TypedRow = λ s. (layout_type a, s) in
+    let typed : Slot → RowSlot = λ s. (layout_type a, s) in
     let before = map typed (run (slot a) o k) in
     let row = typed (slot a (o + k)) in
     append_assoc (text_of_rows (rows_in (window_parts a o k))) (slot_json a (o + k)) (10 ∷ [])

@@ -13,7 +13,7 @@ use Rattle.nest_array.specs.declared.any.AnyArray.{AnyArray}
 use Rattle.cli_args.specs.Requests.{indices}
 use Rattle.cli_rows.specs.Selection.{selected_rows}
 use Rattle.cli_rows.specs.RowOffsets.{AreRowOffsets, IsLocated, length_at, row_count, rows_before}
-use Rattle.cli_rows.specs.Rows.{TypedRow, rows_at_indices, rows_of}
+use Rattle.cli_rows.specs.Rows.{RowSlot, rows_at_indices, rows_of}
 use Rattle.cli_rows.specs.RowLaws.{cut-front, rows-length}
 
 pub record StartsSoFar (starts : List ℕ) (arrays : List AnyArray) (i rows : ℕ) : Type 0 where
@@ -145,7 +145,7 @@ same-default [] i d e h = absurd (omega (arith, h))
 same-default (x ∷ xs) zero d e h = refl
 same-default (x ∷ xs) (suc i) d e h = same-default xs i d e (omega (arith, h))
 
-pub place-more : (rows : List TypedRow) (places : List ℕ) (j place : ℕ) → j < length places → place ≡ get_or places j place → length (sublist rows place 1) ≡ 1
+pub place-more : (rows : List RowSlot) (places : List ℕ) (j place : ℕ) → j < length places → place ≡ get_or places j place → length (sublist rows place 1) ≡ 1
     → list_all (λ p. nat_lt p (length rows)) (take j places) ≡ true → list_all (λ p. nat_lt p (length rows)) (take (j + 1) places) ≡ true
 place-more rows places j place h e one so_far =
     let t = length-take 1 (drop place rows) in
@@ -155,14 +155,14 @@ place-more rows places j place h e one so_far =
     ∙ ap (λ p. nat_lt p (length rows)) (sym e)
     ∙ lt-ltb place (length rows) (omega (arith, t, d, one))
 
-pub none-at : (rows : List TypedRow) (places : List ℕ) (j place : ℕ) → j < length places → place ≡ get_or places j place → length rows ≤ place → None ≡ selected_rows (indices places) rows
+pub none-at : (rows : List RowSlot) (places : List ℕ) (j place : ℕ) → j < length places → place ≡ get_or places j place → length rows ≤ place → None ≡ selected_rows (indices places) rows
 none-at rows places j place h e past =
     sym (cond-false _ _ _ (list_all_at (λ p. nat_lt p (length rows)) places j place h (ap (λ p. nat_lt p (length rows)) (sym e) ∙ not-lt place (length rows) past)))
   where
     not-lt : (m n : ℕ) → n ≤ m → nat_lt m n ≡ false
     not-lt m n k = grind arith
 
-pub all-at : (rows selected : List TypedRow) (places : List ℕ) (j : ℕ) → length places ≤ j → selected ≡ rows_at_indices rows (take j places) → list_all (λ p. nat_lt p (length rows)) (take j places) ≡ true
+pub all-at : (rows selected : List RowSlot) (places : List ℕ) (j : ℕ) → length places ≤ j → selected ≡ rows_at_indices rows (take j places) → list_all (λ p. nat_lt p (length rows)) (take j places) ≡ true
     → Some selected ≡ selected_rows (indices places) rows
 all-at rows selected places j h is all =
     ap (λ rs. Some rs) (is ∙ ap (rows_at_indices rows) (take_all j places h))

@@ -1,13 +1,13 @@
 -- Two tables have one first difference.
 use Rattle.std.proofs.Common.{◌≡◌, ℕ, List, Option, Some, None, refl, ap}
 use Rattle.cli_rows.specs.Difference.{IsDifference}
-use Rattle.cli_rows.specs.Rows.{TypedRow}
+use Rattle.cli_rows.specs.Rows.{RowSlot}
 use Rattle.cli_rows.specs.Compared.{IsTableDifference, table_rows}
 use Rattle.cli_rows.specs.Tables.{TableTree}
 use Rattle.cli_rows.specs.declared.difference.Difference.{Difference}
 use Rattle.cli_rows.specs.declared.difference.Difference.TheVariants as differences
 
-module _ (one : (xs ys : List TypedRow) (d e : Option ℕ) → IsDifference xs ys d → IsDifference xs ys e → d ≡ e) (s t : TableTree) where
+module _ (one : (xs ys : List RowSlot) (d e : Option ℕ) → IsDifference xs ys d → IsDifference xs ys e → d ≡ e) (s t : TableTree) where
   rows : (d e : Option ℕ) → IsDifference (table_rows s) (table_rows t) d → IsDifference (table_rows s) (table_rows t) e → d ≡ e
   rows d e p q = one (table_rows s) (table_rows t) d e p q
 

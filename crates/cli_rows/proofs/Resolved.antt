@@ -13,7 +13,7 @@ use Rattle.cli_args.specs.Requests.{SelectionTree, all, indexed, indices, named,
 use Rattle.cli_rows.specs.Booleans.{is_field_true, is_field_true_at, is_record, is_true_in, spec_is_boolean, spec_is_true}
 use Rattle.cli_rows.specs.ColumnNames.{column_by_index, resolved_selection, spec_boolean_error, spec_column_index, spec_field_at, spec_field_named, spec_selection_error}
 use Rattle.cli_rows.specs.Records.{record_type, records}
-use Rattle.cli_rows.specs.Rows.{TypedRow, rows_of}
+use Rattle.cli_rows.specs.Rows.{RowSlot, rows_of}
 use Rattle.cli_rows.specs.SelectedTables.{AreRowsOf}
 use Rattle.cli_rows.specs.Selection.{selected_rows}
 use Rattle.cli_rows.proofs.SelectedBatches.{both-all}
@@ -56,14 +56,14 @@ same-slot name fs i (slots.list ss) e = refl
 same-slot name fs i (slots.pick f u s) e = refl
 
 -- rows of this type
-abbrev pub AreTyped : TypeTree → List TypedRow → Type 0
+abbrev pub AreTyped : TypeTree → List RowSlot → Type 0
 AreTyped t rows = AllByRecursion (λ r. r.0 ≡ t) rows
 
-each-same : (name : List ℕ) (fs : List FieldTree) (i : ℕ) (rows : List TypedRow) → spec_column_index name fs ≡ Some i → AreTyped (record_type fs) rows → AllByRecursion (λ r. is_true_in (named name) r ≡ is_true_in (indexed i) r) rows
+each-same : (name : List ℕ) (fs : List FieldTree) (i : ℕ) (rows : List RowSlot) → spec_column_index name fs ≡ Some i → AreTyped (record_type fs) rows → AllByRecursion (λ r. is_true_in (named name) r ≡ is_true_in (indexed i) r) rows
 each-same name fs i [] e h = tt
 each-same name fs i ((t, s) ∷ rows) e h = (subst (λ u. is_true_in (named name) (u, s) ≡ is_true_in (indexed i) (u, s)) (sym h.0) (same-slot name fs i s e), each-same name fs i rows e h.1)
 
-same-filter : (p q : TypedRow → Bool) (rows : List TypedRow) → AllByRecursion (λ r. p r ≡ q r) rows → filter p rows ≡ filter q rows
+same-filter : (p q : RowSlot → Bool) (rows : List RowSlot) → AllByRecursion (λ r. p r ≡ q r) rows → filter p rows ≡ filter q rows
 same-filter p q [] h = refl
 same-filter p q (r ∷ rows) h = ap (λ b. cond b (r ∷ filter p rows) (filter p rows)) h.0 ∙ ap (λ l. cond (q r) (r ∷ l) l) (same-filter p q rows h.1)
 
@@ -82,7 +82,7 @@ resolved-error fs (where_true (named name)) = by_index (spec_column_index name f
     by_index None e = refl
     by_index (Some i) e = ap spec_boolean_error (sym (same-field name fs i e))
 
-pub resolved-rows : (fs : List FieldTree) (c : SelectionTree) (rows : List TypedRow) → (0 < length fs → AreTyped (record_type fs) rows) → selected_rows (resolved_selection fs c) rows ≡ selected_rows c rows
+pub resolved-rows : (fs : List FieldTree) (c : SelectionTree) (rows : List RowSlot) → (0 < length fs → AreTyped (record_type fs) rows) → selected_rows (resolved_selection fs c) rows ≡ selected_rows c rows
 resolved-rows fs all rows h = refl
 resolved-rows fs (slice o n) rows h = refl
 resolved-rows fs (indices places) rows h = refl
@@ -95,7 +95,7 @@ resolved-rows fs (where_true (named name)) rows h = by_index (spec_column_index 
 
 -- ---- the rows of tables
 
-pub rows-typed : (fs : List FieldTree) (rows : List TypedRow) → AreRowsOf fs rows → 0 < length fs → AreTyped (record_type fs) rows
+pub rows-typed : (fs : List FieldTree) (rows : List RowSlot) → AreRowsOf fs rows → 0 < length fs → AreTyped (record_type fs) rows
 rows-typed [] rows h some = absurd (omega (arith, some))
 rows-typed (f ∷ fs) [] h some = tt
 rows-typed (f ∷ fs) (r ∷ rows) h some = (h.0.0, rows-typed (f ∷ fs) rows h.1 some)

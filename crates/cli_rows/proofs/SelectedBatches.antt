@@ -26,7 +26,7 @@ use Rattle.nest_take.specs.Taken.{IsTaken}
 use Rattle.ipc.specs.Streams.{RecordBatchTree}
 use Rattle.cli_args.specs.Requests.{ColumnTree, SelectionTree, all, indexed, indices, named, slice, where_true}
 use Rattle.cli_rows.specs.Selection.{selected_rows}
-use Rattle.cli_rows.specs.Rows.{TypedRow, rows_at_indices, rows_in, rows_of}
+use Rattle.cli_rows.specs.Rows.{RowSlot, rows_at_indices, rows_in, rows_of}
 use Rattle.cli_rows.specs.RowLaws.{rows-length}
 use Rattle.cli_rows.specs.Booleans.{IsBooleanColumn, is_valid, spec_is_true, is_true_in}
 use Rattle.cli_rows.specs.ColumnNames.{spec_selection_error}
@@ -86,7 +86,7 @@ module _ {A : Type 0} (P : A → Type 0) where
   middle-each f h [] x ys k = left-all (f (h x)) (flat_map f (map h ys)) k
   middle-each f h (z ∷ zs) x ys k = middle-each f h zs x ys (right-all (f (h z)) (flat_map f (map h (zs ++ x ∷ ys))) k)
 
-abbrev rowed : TypeTree → List Slot → List TypedRow
+abbrev rowed : TypeTree → List Slot → List RowSlot
 rowed t ss = map (λ s. (t, s)) ss
 
 null-run : (fs : List FieldTree) (o n : ℕ) → AreRowsOf [] (map (λ s. (types.null, s)) (run (λ i. slots.null) o n))
@@ -105,7 +105,7 @@ pub held-each : (fs : List FieldTree) (bs : List RecordBatchTree) → AreRowsOf 
 held-each fs [] = tt
 held-each fs (b ∷ bs) = both-all (IsRowOf fs) (rows_of (batch_array fs b)) (batch_rows fs bs) (batch-each fs b) (held-each fs bs)
 
-pub selected-each : (fs : List FieldTree) (c : SelectionTree) (rows picked : List TypedRow) → selected_rows c rows ≡ Some picked → AreRowsOf fs rows → AreRowsOf fs picked
+pub selected-each : (fs : List FieldTree) (c : SelectionTree) (rows picked : List RowSlot) → selected_rows c rows ≡ Some picked → AreRowsOf fs rows → AreRowsOf fs picked
 selected-each fs all rows picked e h = let same : rows ≡ picked = cc in subst (AreRowsOf fs) same h
 selected-each fs (slice o n) rows picked e h = let same : sublist rows o n ≡ picked = cc in subst (AreRowsOf fs) same (cut-each (IsRowOf fs) rows o n h)
 selected-each fs (indices places) rows picked e h = by_places (list_all (λ p. nat_lt p (length rows)) places) e
@@ -202,7 +202,7 @@ filtered-more test g h xs i x old new lt e more so_far =
     ∙ ap (λ z. flat_map g (map h (take i xs) ++ h z ∷ [])) e
     ∙ ap (flat_map g) (sym (ap (map h) (take_more xs i x lt) ∙ map-append h (take i xs) (get_or xs i x ∷ []))))
 
-pub batch-more : (fs : List FieldTree) (old new : List RecordBatchTree) (b : RecordBatchTree) (rows : List TypedRow) → new ≡ old ++ b ∷ [] → rows_of (batch_array fs b) ≡ rows → batch_rows fs new ≡ batch_rows fs old ++ rows
+pub batch-more : (fs : List FieldTree) (old new : List RecordBatchTree) (b : RecordBatchTree) (rows : List RowSlot) → new ≡ old ++ b ∷ [] → rows_of (batch_array fs b) ≡ rows → batch_rows fs new ≡ batch_rows fs old ++ rows
 batch-more fs old new b rows pushed is =
     ap (batch_rows fs) pushed
     ∙ ap (flat_map rows_of) (map-append (batch_array fs) old (b ∷ []))
@@ -274,10 +274,10 @@ no-true-rows column a h = none 0 (len a)
     none o zero = refl
     none o (suc n) = rw (h o) (none (suc o) n)
 
-pub filtered-each : (fs : List FieldTree) (column : ColumnTree) (rows : List TypedRow) → AreRowsOf fs rows → AreRowsOf fs (filter (is_true_in column) rows)
+pub filtered-each : (fs : List FieldTree) (column : ColumnTree) (rows : List RowSlot) → AreRowsOf fs rows → AreRowsOf fs (filter (is_true_in column) rows)
 filtered-each fs column rows h = filter-each (IsRowOf fs) (is_true_in column) rows h
 
-pub rows-result : {E : Type 0} (old new rows same : List TypedRow) (r : Result ⊤ E) → rows ≡ same → OnOk r (new ≡ old ++ rows) → OnOk r (new ≡ old ++ same)
+pub rows-result : {E : Type 0} (old new rows same : List RowSlot) (r : Result ⊤ E) → rows ≡ same → OnOk r (new ≡ old ++ rows) → OnOk r (new ≡ old ++ same)
 rows-result old new rows same (Ok x) e h = h ∙ ap (λ rs. old ++ rs) e
 rows-result old new rows same (Err x) e h = h
 

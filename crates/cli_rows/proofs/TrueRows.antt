@@ -28,7 +28,7 @@ use Rattle.nest_array.specs.WindowParts.{WindowParts, window_parts}
 use Rattle.nest_array.specs.declared.any.AnyArray.{AnyArray}
 use Rattle.json_write.specs.JsonText.{field_name}
 use Rattle.cli_args.specs.Requests.{ColumnTree, indexed, named}
-use Rattle.cli_rows.specs.Rows.{TypedRow, rows_in, rows_of}
+use Rattle.cli_rows.specs.Rows.{RowSlot, rows_in, rows_of}
 use Rattle.cli_rows.specs.RowLaws.{rows-length}
 use Rattle.cli_rows.specs.Booleans.{IsBooleanColumn, column_at, column_layout, column_named, spec_is_boolean, is_boolean_kind, is_column_true, is_field_true, is_field_true_at, is_record, is_record_kind, is_valid, spec_is_true, is_true_in}
 
@@ -232,10 +232,10 @@ none-run : (column : ColumnTree) (a : Layout) (o n : ℕ) → ((i : ℕ) → is_
 none-run column a o zero h = refl
 none-run column a o (suc n) h = rw (h o) (none-run column a (suc o) n h)
 
-pub none-true : (column : ColumnTree) (a : Layout) (front : List TypedRow) → ((i : ℕ) → is_true_in column (layout_type a, slot a i) ≡ false) → front ≡ front ++ filter (is_true_in column) (rows_of a)
+pub none-true : (column : ColumnTree) (a : Layout) (front : List RowSlot) → ((i : ℕ) → is_true_in column (layout_type a, slot a i) ≡ false) → front ≡ front ++ filter (is_true_in column) (rows_of a)
 none-true column a front h = sym (append-nil front) ∙ ap (λ l. front ++ l) (sym (none-run column a 0 (len a) h))
 
-row-at : (a : Layout) (i : ℕ) (d : TypedRow) → i < len a → get_or (rows_of a) i d ≡ (layout_type a, slot a i)
+row-at : (a : Layout) (i : ℕ) (d : RowSlot) → i < len a → get_or (rows_of a) i d ≡ (layout_type a, slot a i)
 row-at a i d h =
     let l = slots-length a in
     get_or-map (λ s. (layout_type a, s)) (slots_of a) i slots.null d (omega (arith, l, h)) ∙ ap (λ s. (layout_type a, s)) (slot-place a i slots.null h)
@@ -243,7 +243,7 @@ row-at a i d h =
 one-more : (column : ColumnTree) (a : Layout) (i : ℕ) (b : Bool) → i < len a → is_true_in column (layout_type a, slot a i) ≡ b
     → filter (is_true_in column) (take (i + 1) (rows_of a)) ≡ filter (is_true_in column) (take i (rows_of a)) ++ cond b ((layout_type a, slot a i) ∷ []) []
 one-more column a i b h e =
-    let row : TypedRow = (layout_type a, slot a i) in
+    let row : RowSlot = (layout_type a, slot a i) in
     let l = rows-length a in
     filter_more (is_true_in column) (rows_of a) i row (omega (arith, l, h))
     ∙ ap (λ r. filter (is_true_in column) (take i (rows_of a)) ++ cond (is_true_in column r) (r ∷ []) []) (row-at a i row h)
@@ -252,7 +252,7 @@ one-more column a i b h e =
 window-row : (a : Layout) (i : ℕ) → i < len a → rows_in (window_parts a i 1) ≡ (layout_type a, slot a i) ∷ []
 window-row a i h = ap (map (λ s. (layout_type a, s))) (sym (items-cut a i 1 (omega (arith, h))))
 
-pub true-more : (column : ColumnTree) (a : Layout) (i : ℕ) (old new : List WindowParts) (w : WindowParts) (front : List TypedRow) → i < len a → w ≡ window_parts a i 1 → new ≡ old ++ w ∷ []
+pub true-more : (column : ColumnTree) (a : Layout) (i : ℕ) (old new : List WindowParts) (w : WindowParts) (front : List RowSlot) → i < len a → w ≡ window_parts a i 1 → new ≡ old ++ w ∷ []
     → is_true_in column (layout_type a, slot a i) ≡ true → flat_map rows_in old ≡ front ++ filter (is_true_in column) (take i (rows_of a))
     → flat_map rows_in new ≡ front ++ filter (is_true_in column) (take (i + 1) (rows_of a))
 true-more column a i old new w front h is pushed e so_far =
@@ -263,18 +263,18 @@ true-more column a i old new w front h is pushed e so_far =
     ∙ append_assoc front (filter (is_true_in column) (take i (rows_of a))) _
     ∙ ap (λ l. front ++ l) (sym (one-more column a i true h e))
 
-pub false-more : (column : ColumnTree) (a : Layout) (i : ℕ) (selected front : List TypedRow) → i < len a → is_true_in column (layout_type a, slot a i) ≡ false
+pub false-more : (column : ColumnTree) (a : Layout) (i : ℕ) (selected front : List RowSlot) → i < len a → is_true_in column (layout_type a, slot a i) ≡ false
     → selected ≡ front ++ filter (is_true_in column) (take i (rows_of a)) → selected ≡ front ++ filter (is_true_in column) (take (i + 1) (rows_of a))
 false-more column a i selected front h e so_far =
     so_far ∙ ap (λ l. front ++ l) (sym (one-more column a i false h e ∙ append-nil _))
 
-pub all-true : (column : ColumnTree) (a : Layout) (i : ℕ) (selected front : List TypedRow) → len a ≤ i
+pub all-true : (column : ColumnTree) (a : Layout) (i : ℕ) (selected front : List RowSlot) → len a ≤ i
     → selected ≡ front ++ filter (is_true_in column) (take i (rows_of a)) → selected ≡ front ++ filter (is_true_in column) (rows_of a)
 all-true column a i selected front h so_far =
     let l = rows-length a in
     so_far ∙ ap (λ rs. front ++ filter (is_true_in column) rs) (take_all i (rows_of a) (omega (arith, l, h)))
 
-abbrev pub true_in_array : ColumnTree → AnyArray → List TypedRow
+abbrev pub true_in_array : ColumnTree → AnyArray → List RowSlot
 true_in_array column a = filter (is_true_in column) (rows_of (layout_of a))
 
 each-true : (column : ColumnTree) (xs : List AnyArray) → flat_map (true_in_array column) xs ≡ filter (is_true_in column) (flat_map rows_of (map layout_of xs))

@@ -10,7 +10,7 @@ use Rattle.nest_model.specs.Slot as slots
 use Rattle.nest_model.specs.Slot.{Slot, Slots, no_slots, more_slots}
 use Rattle.json_write.specs.JsonText.{field_name}
 use Rattle.cli_args.specs.Requests.{ColumnTree, indexed, named}
-use Rattle.cli_rows.specs.Rows.{TypedRow}
+use Rattle.cli_rows.specs.Rows.{RowSlot}
 
 -- the boolean value of a slot
 abbrev pub is_boolean_kind : PhysicalType → Bool
@@ -51,7 +51,7 @@ is_column_true (named name) fs ss = is_field_true name fs ss
 is_column_true (indexed i) fs ss = is_field_true_at i fs ss
 
 -- whether a column is true in a row
-abbrev pub is_true_in : ColumnTree → TypedRow → Bool
+abbrev pub is_true_in : ColumnTree → RowSlot → Bool
 is_true_in column (t, slots.record_of ss) = is_record t && is_column_true column (fields_of t) ss
 is_true_in column (t, s) = false
 

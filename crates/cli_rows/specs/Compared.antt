@@ -10,7 +10,7 @@ use Rattle.nest_model.specs.Layout.{Layout}
 use Rattle.ipc_flatbuf.specs.ReadResults.{FailsOrRunsOut}
 use Rattle.ipc_flatbuf.specs.declared.error.IpcReadError as formats
 use Rattle.ipc.specs.Streams.{RecordBatchTree}
-use Rattle.cli_rows.specs.Rows.{TypedRow, rows_of}
+use Rattle.cli_rows.specs.Rows.{RowSlot, rows_of}
 use Rattle.cli_rows.specs.Difference.{IsDifference}
 use Rattle.cli_rows.specs.Records.{record_type, records}
 use Rattle.cli_rows.specs.declared.error.CliError.{CliError}
@@ -31,7 +31,7 @@ abbrev pub batch_arrays : TableTree → List Layout
 batch_arrays h = map (batch_array h.schema.fields) h.batches
 
 -- the rows of all record batches
-abbrev pub table_rows : TableTree → List TypedRow
+abbrev pub table_rows : TableTree → List RowSlot
 table_rows h = flat_map rows_of (batch_arrays h)
 
 -- ---- differences

@@ -10,7 +10,7 @@ use Rattle.nest_model.specs.Reads.{slots-length}
 use Rattle.nest_array.specs.Seen.{layout_of}
 use Rattle.nest_array.specs.WindowParts.{WindowParts, window_parts}
 use Rattle.nest_array.specs.declared.any.AnyArray.{AnyArray}
-use Rattle.cli_rows.specs.Rows.{TypedRow, rows_in, rows_of}
+use Rattle.cli_rows.specs.Rows.{RowSlot, rows_in, rows_of}
 
 -- ---- lists
 
@@ -72,7 +72,7 @@ cut-none (suc o) (suc n) = refl
 -- ---- rows
 
 -- the rows of the arrays from one on
-abbrev pub rows_behind : List AnyArray → ℕ → List TypedRow
+abbrev pub rows_behind : List AnyArray → ℕ → List RowSlot
 rows_behind xs i = flat_map rows_of (map layout_of (drop i xs))
 
 pub behind-more : (xs : List AnyArray) (i : ℕ) (x : AnyArray) → i < length xs → x ≡ get_or xs i x → rows_behind xs i ≡ rows_of (layout_of x) ++ rows_behind xs (i + 1)
@@ -91,7 +91,7 @@ pub window-rows : (a : Layout) (o n : ℕ) → rows_in (window_parts a o n) ≡ 
 window-rows a o n = sym (cut-map (λ s. (layout_type a, s)) (slots_of a) o n)
 
 -- one more window of a slice, and the rest of the slice
-pub cut-more : (xs : List AnyArray) (i : ℕ) (x : AnyArray) (o n from many : ℕ) (old new : List WindowParts) (w : WindowParts) (whole : List TypedRow)
+pub cut-more : (xs : List AnyArray) (i : ℕ) (x : AnyArray) (o n from many : ℕ) (old new : List WindowParts) (w : WindowParts) (whole : List RowSlot)
     → i < length xs → x ≡ get_or xs i x → from ≡ min o (len (layout_of x)) → many ≡ min n (len (layout_of x) - from) → w ≡ window_parts (layout_of x) from many → new ≡ old ++ w ∷ []
     → flat_map rows_in old ++ sublist (rows_behind xs i) o n ≡ whole
     → flat_map rows_in new ++ sublist (rows_behind xs (i + 1)) (o - from) (n - many) ≡ whole
@@ -111,7 +111,7 @@ cut-more xs i x o n from many old new w whole h e f m is pushed so_far =
     ∙ ap (λ rs. flat_map rows_in old ++ rs) (sym one)
     ∙ so_far
 
-pub cut-end : (xs : List AnyArray) (i o n : ℕ) (windows : List WindowParts) (whole : List TypedRow) → length xs ≤ i
+pub cut-end : (xs : List AnyArray) (i o n : ℕ) (windows : List WindowParts) (whole : List RowSlot) → length xs ≤ i
     → flat_map rows_in windows ++ sublist (rows_behind xs i) o n ≡ whole → flat_map rows_in windows ≡ whole
 cut-end xs i o n windows whole h so_far =
     sym (append-nil (flat_map rows_in windows))

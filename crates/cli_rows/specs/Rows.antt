@@ -11,17 +11,17 @@ use Rattle.nest_array.specs.declared.any.AnyArray.{AnyArray}
 use Rattle.nest_array.specs.WindowParts.{WindowParts, window_slots}
 
 -- a row: a slot, and the data type of its array
-abbrev pub TypedRow : Type 0
-TypedRow = TypeTree × Slot
+abbrev pub RowSlot : Type 0
+RowSlot = TypeTree × Slot
 
-abbrev pub rows_of : Layout → List TypedRow
+abbrev pub rows_of : Layout → List RowSlot
 rows_of a = map (λ s. (layout_type a, s)) (slots_of a)
 
 -- the rows of arrays, one array after another
-abbrev pub rows_of_arrays : List AnyArray → List TypedRow
+abbrev pub rows_of_arrays : List AnyArray → List RowSlot
 rows_of_arrays arrays = flat_map rows_of (map layout_of arrays)
 
-abbrev pub rows_in : WindowParts → List TypedRow
+abbrev pub rows_in : WindowParts → List RowSlot
 rows_in w = map (λ s. (layout_type w.array, s)) (window_slots w)
 
 -- the row at each index, in the order of the indices

@@ -12,7 +12,7 @@ use Rattle.ipc.specs.declared.batch.Batch.{Batch}
 use Rattle.ipc.specs.Streams.{RecordBatchTree, StreamTree, record_batch_of, projected_stream_in}
 use Rattle.ipc.specs.Files.{FileTree, projected_file_in}
 use Rattle.cli_rows.specs.Records.{record_type, records}
-use Rattle.cli_rows.specs.Rows.{TypedRow, rows_of}
+use Rattle.cli_rows.specs.Rows.{RowSlot, rows_of}
 use Rattle.cli_rows.specs.declared.table.Table.{Table}
 
 -- the schema, and the batches
@@ -39,7 +39,7 @@ abbrev pub table_records : TableTree → List Layout
 table_records t = map (records (record_type t.schema.fields)) (map (λ b. b.columns) t.batches)
 
 -- the records of all batches
-abbrev pub record_rows : TableTree → List TypedRow
+abbrev pub record_rows : TableTree → List RowSlot
 record_rows t = flat_map rows_of (table_records t)
 
 -- there is a column, the columns have the types of the schema, and in each batch they are of one length

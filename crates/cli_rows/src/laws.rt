@@ -8,7 +8,7 @@ ghost use Rattle.cli_rows.specs.Compared.{IsTableDifference};
 ghost use Rattle.cli_rows.specs.Concatenated.{IsConcatenation};
 ghost use Rattle.cli_rows.specs.Difference.{AreEqualUpTo, IsDifference};
 ghost use Rattle.cli_rows.specs.ListExamples.{other_numbers, three_numbers, two_numbers};
-ghost use Rattle.cli_rows.specs.Rows.{TypedRow};
+ghost use Rattle.cli_rows.specs.Rows.{RowSlot};
 ghost use Rattle.cli_rows.specs.SelectExamples.{first, null_record, second, third, three};
 ghost use Rattle.cli_rows.specs.SelectedTables.{AreRowsOf, IsSelectedFrom};
 ghost use Rattle.cli_rows.specs.Selection.{selected_rows};
@@ -63,7 +63,7 @@ pub fn names_are_resolved()
 /// A resolved selection has the same error, and selects the same rows of record batches of the fields.
 pub fn resolved_selections_select_the_same()
     ensures error { (fs : List FieldTree) (c : SelectionTree) → spec_selection_error (resolved_selection fs c) fs ≡ spec_selection_error c fs }
-    ensures rows { (fs : List FieldTree) (c : SelectionTree) (rows : List TypedRow) → AreRowsOf fs rows → selected_rows (resolved_selection fs c) rows ≡ selected_rows c rows }
+    ensures rows { (fs : List FieldTree) (c : SelectionTree) (rows : List RowSlot) → AreRowsOf fs rows → selected_rows (resolved_selection fs c) rows ≡ selected_rows c rows }
 {}
 
 /// Three numbers compared with the same three; with another second number; with two of them.
@@ -85,7 +85,7 @@ pub fn prefixes_are_compared()
 
 /// The first difference of rows is unique.
 pub fn first_difference_is_unique()
-    ensures { (xs ys : List TypedRow) (d e : Option ℕ) → IsDifference xs ys d → IsDifference xs ys e → d ≡ e }
+    ensures { (xs ys : List RowSlot) (d e : Option ℕ) → IsDifference xs ys d → IsDifference xs ys e → d ≡ e }
 {}
 
 /// Three rows in other batches; another second row; one more row; another schema.

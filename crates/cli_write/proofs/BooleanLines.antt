@@ -1,7 +1,7 @@
 -- Lines of one boolean field.
 use Rattle.std.proofs.Common.{◌≡◌, ◌∙◌, ℕ, Bool, true, false, List, [], ◌∷◌, None, Ok, Err, ap, sym}
 use Rattle.cli_rows.specs.Records.{record_type}
-use Rattle.cli_rows.specs.Rows.{TypedRow}
+use Rattle.cli_rows.specs.Rows.{RowSlot}
 use Rattle.cli_write.specs.LineExamples.{IsBooleanLine}
 use Rattle.cli_write.specs.Imports.{HasRows, records_of}
 use Rattle.json_read.specs.JsonLines.{json_value, line_row, value_row, line_rows}
@@ -42,7 +42,7 @@ abbrev truth-in : Slot → Bool
 truth-in (slots.record_of (more_slots (slots.boolean b) ss)) = b
 truth-in _ = false
 
-abbrev pub first-truth : List TypedRow → Bool
+abbrev pub first-truth : List RowSlot → Bool
 first-truth [] = false
 first-truth (r ∷ rows) = truth-in r.1
 

@@ -17,7 +17,7 @@ use Rattle.cli_rows.specs.Records.{side_by_side}
 use Rattle.cli_rows.specs.declared.error.CliError.{CliError}
 use Rattle.cli_rows.specs.Selection.{selected_rows}
 use Rattle.cli_rows.specs.RowLaws.{cut-none, rows-length, sublist-both}
-use Rattle.cli_rows.specs.Rows.{TypedRow, rows_of}
+use Rattle.cli_rows.specs.Rows.{RowSlot, rows_of}
 use Rattle.cli_rows.specs.Booleans.{spec_is_boolean, is_true_in}
 use Rattle.cli_read.specs.RowBuffers.{table_of_batches}
 use Rattle.cli_rows.specs.Compared.{IsRowsError, batch_array}
@@ -81,7 +81,7 @@ is-copy (slice o n) s bs vs none e = (refl, e)
 is-copy (where_true column) s bs vs none e = (refl, ap (λ f. unless_error f (selected_rows (where_true column) (batch_rows s.fields bs))) none ∙ e)
 is-copy (indices places) s bs vs none e = (refl, e)
 
-pub no-place : (c : SelectionTree) (k : ℕ) (rows : List TypedRow) → IsInRowOrder c → selected_rows (remaining_selection c k) rows ≡ None → ⊥
+pub no-place : (c : SelectionTree) (k : ℕ) (rows : List RowSlot) → IsInRowOrder c → selected_rows (remaining_selection c k) rows ≡ None → ⊥
 no-place all k rows h e = cc
 no-place (slice o n) k rows h e = cc
 no-place (where_true column) k rows h e = cc
@@ -143,7 +143,7 @@ rows-fail causes.NotBoolean c s b e = absurd e
 rows-fail causes.Input c s b e = e
 rows-fail causes.Output c s b e = e
 
-pub index-fails : (error : CliError) (c : SelectionTree) (fs : List FieldTree) (bs : List RecordBatchTree) (rows : List TypedRow) → rows ≡ batch_rows fs bs → IsIndexError error (selected_rows c rows) → IsBatchSelectionError error c fs bs
+pub index-fails : (error : CliError) (c : SelectionTree) (fs : List FieldTree) (bs : List RecordBatchTree) (rows : List RowSlot) → rows ≡ batch_rows fs bs → IsIndexError error (selected_rows c rows) → IsBatchSelectionError error c fs bs
 index-fails causes.IndexOutOfRange c fs bs rows same e = ap (selected_rows c) (sym same) ∙ e
 index-fails causes.Memory c fs bs rows same e = tt
 index-fails (causes.Read error) c fs bs rows same e = absurd e

@@ -2,7 +2,7 @@
 use Rattle.std.specs.Prelude.{◌≡◌, ◌++◌, ℕ, List, [], map, Option, Some, None, Result, Ok, Err}
 use Rattle.std.specs.Io.KnownBytes.{Appends}
 use Rattle.cli_rows.specs.Records.{record_type}
-use Rattle.cli_rows.specs.Rows.{TypedRow}
+use Rattle.cli_rows.specs.Rows.{RowSlot}
 use Rattle.cli_write.specs.Copies.{IsWriteRefusal}
 use Rattle.cli_write.specs.declared.import.error.ImportError.{ImportError}
 use Rattle.cli_write.specs.declared.import.error.ImportError.TheVariants as causes
@@ -17,7 +17,7 @@ use Rattle.nest_model.specs.Slot.{Slot}
 use Rattle.cli_args.specs.declared.format.Format.{Format}
 
 -- slots as rows of a type
-abbrev pub records_of : TypeTree → List Slot → List TypedRow
+abbrev pub records_of : TypeTree → List Slot → List RowSlot
 records_of t ss = map (λ s. (t, s)) ss
 
 -- a table of these fields without metadata, whose rows are the lines

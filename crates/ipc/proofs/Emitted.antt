@@ -14,12 +14,12 @@ use Rattle.nest_model.specs.Array.{IsArray, AreArrays}
 use Rattle.nest_model.specs.Layout.{Layout, Layouts, no_layouts, more_layouts}
 use Rattle.ipc.specs.DictionaryEntries.{DictionaryEntries, count_dictionaries}
 use Rattle.ipc.specs.PendingDictionaries.{entry_at, with_entries, pending_in, each_pending, columns_pending}
-use Rattle.ipc.specs.EntriesOf.{dictionary_entries_of}
+use Rattle.ipc.specs.EntriesOf.{by_id}
 use Rattle.ipc.proofs.Entries.{viewed_found}
 use Rattle.ipc.proofs.Visits.{and_one}
 
 -- the values emitted last for an id
-pub entry_found : (es : List (ℤ × AnyArray)) (key id : ℤ) (last : Option AnyArray) → key ≡ id → lookup (is_at (int_cmp key)) es ≡ last → entry_at (dictionary_entries_of es) id ≡ option_map layout_of last
+pub entry_found : (es : List (ℤ × AnyArray)) (key id : ℤ) (last : Option AnyArray) → key ≡ id → lookup (is_at (int_cmp key)) es ≡ last → entry_at (by_id es) id ≡ option_map layout_of last
 entry_found es key id last same is =
     viewed_found layout_of (is_at (int_cmp id)) es ∙ ap (option_map layout_of) (ap (λ (k : ℤ). lookup (is_at (int_cmp k)) es) (sym same) ∙ is)
 

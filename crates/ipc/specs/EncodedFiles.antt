@@ -22,7 +22,7 @@ use Rattle.ipc.specs.Files.{FileTree}
 use Rattle.ipc.specs.declared.writing_files.FileBlocks as declared
 use Rattle.ipc.specs.declared.state.DictionaryState as code
 use Rattle.nest_array.specs.declared.any.AnyArray.{AnyArray}
-use Rattle.ipc.specs.EntriesOf.{dictionary_entries_of}
+use Rattle.ipc.specs.EntriesOf.{by_id}
 use Rattle.ipc.specs.EncodedStreams.{batch_head, batch_bytes, dictionary_head, dictionary_bytes, pending_by, emitted_after, encoded_messages, or_error, size_error_if, schema_error, spec_are_columns, record_batch_error, dictionary_error, error_from, decoded_record_batch, decoded_batches}
 
 -- ---- bytes
@@ -124,7 +124,7 @@ file_state emitted state = record { emitted = emitted; state = state }
 
 -- of the values that the code holds
 abbrev pub file_state_of : List (ℤ × AnyArray) → code.DictionaryState → FileState
-file_state_of emitted state = file_state (dictionary_entries_of emitted) (state_of state)
+file_state_of emitted state = file_state (by_id emitted) (state_of state)
 
 abbrev pub file_state_after : FileState → RecordBatchTree → FileState
 file_state_after f b = record { emitted = emitted_after f.emitted b; state = after state_after f.state (file_dictionary_batches f.emitted b) }

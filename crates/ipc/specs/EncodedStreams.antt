@@ -233,7 +233,7 @@ pub record DictionaryRoundTrips (p : DictionaryBatchTree) : Type 0 where
   pub values : (once : Bool) (s : StateTree) → CanReadDictionary once s p → dictionary_in once s parts ≡ spec_with_values p.0 s p.1.0 (read_values s.known (number_of p.1.0) p.1.1)
   pub over : RoundTripOverExtensions (p.1.1 ∷ [])
 
--- a batch behind what is put before it
+-- a record batch after the messages written before it
 pub record BatchRoundTrips (ps : List DictionaryBatchTree) (b : RecordBatchTree) : Type 0 where
   pub dictionaries : AllByRecursion DictionaryRoundTrips ps
   pub batch : RecordBatchRoundTrips b

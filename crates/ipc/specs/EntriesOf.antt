@@ -6,8 +6,9 @@ use Rattle.nest_array.specs.declared.any.AnyArray.{AnyArray}
 use Rattle.nest_model.specs.Layout.{Layout}
 use Rattle.ipc.specs.DictionaryEntries.{DictionaryEntries}
 
-abbrev pub dictionary_entries_of : List (ℤ × AnyArray) → DictionaryEntries
-dictionary_entries_of entries = map (λ e. (e.0, layout_of e.1)) entries
+-- the layout of the values of each dictionary, by its id
+abbrev pub by_id : List (ℤ × AnyArray) → DictionaryEntries
+by_id entries = map (λ e. (e.0, layout_of e.1)) entries
 
 abbrev pub entry_of : ℤ × Bor AnyArray → ℤ × Layout
 entry_of e = (e.0, layout_of e.1.now)

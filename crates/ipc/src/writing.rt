@@ -9,7 +9,7 @@ ghost use Rattle.ipc_schema.specs.Schemas.{schema_of};
 ghost use Rattle.ipc_flatbuf.specs.Batches.{batch_of};
 ghost use Rattle.ipc_arrays.specs.Encoding.{columns_body, size_error, IsWriteError};
 ghost use Rattle.ipc.specs.FileDictionaries.{whole};
-ghost use Rattle.ipc.specs.EntriesOf.{entry_of, dictionary_entries_of};
+ghost use Rattle.ipc.specs.EntriesOf.{entry_of, by_id};
 ghost use Rattle.ipc.specs.Streams.{record_batch_of, stream_in, types_of_fields};
 ghost use Rattle.ipc.specs.EncodedStreams.{batch_tree, batch_bytes, dictionary_bytes, pending_by, stream_dictionary_batches, encoded_batch, encoded_batches, encoded_stream, emitted_after, spec_is_column, spec_are_columns, record_batch_error, dictionary_error, each_error, batch_error, batches_error, stream_error, IsErrorOrMemory, RecordBatchRoundTrips, DictionaryRoundTrips, BatchRoundTrips, BatchesRoundTrip, AreSameBatches, decoded_batches, decoded_stream};
 ghost use Rattle.ipc.specs.EncodedBatches.{IsMetadata, emitted_after_all};
@@ -144,13 +144,13 @@ pub fn encode_stream_batch<'a>(
     emitted: &BTreeMap<i64, AnyArray>,
     batch: &'a Batch,
 ) -> Result<(usize, Vec<(i64, &'a AnyArray)>), IpcWriteError>
-    ensures bytes { OnOk result (out.new.items ≡ out.old.items ++ encoded_batch stream_dictionary_batches (dictionary_entries_of emitted.now.entries) (record_batch_of batch.now)) }
-    ensures pending { IfOk result (λ x. map entry_of x.1.items ≡ pending_by (dictionary_entries_of emitted.now.entries) (record_batch_of batch.now)) }
+    ensures bytes { OnOk result (out.new.items ≡ out.old.items ++ encoded_batch stream_dictionary_batches (by_id emitted.now.entries) (record_batch_of batch.now)) }
+    ensures pending { IfOk result (λ x. map entry_of x.1.items ≡ pending_by (by_id emitted.now.entries) (record_batch_of batch.now)) }
     ensures body { IfOk result (λ x. x.0 ≡ length (columns_body (record_batch_of batch.now).columns)) }
     ensures small { IfOk result (λ x. x.0 < 2 ^ 63) }
-    ensures again { OnOk result (BatchRoundTrips (stream_dictionary_batches (dictionary_entries_of emitted.now.entries) (record_batch_of batch.now)) (record_batch_of batch.now)) }
-    ensures form { OnOk result (batch_error (types_of_fields fields.now) (dictionary_entries_of emitted.now.entries) (record_batch_of batch.now) ≡ None) }
-    ensures err { IfErr result (IsErrorOrMemory (batch_error (types_of_fields fields.now) (dictionary_entries_of emitted.now.entries) (record_batch_of batch.now))) }
+    ensures again { OnOk result (BatchRoundTrips (stream_dictionary_batches (by_id emitted.now.entries) (record_batch_of batch.now)) (record_batch_of batch.now)) }
+    ensures form { OnOk result (batch_error (types_of_fields fields.now) (by_id emitted.now.entries) (record_batch_of batch.now) ≡ None) }
+    ensures err { IfErr result (IsErrorOrMemory (batch_error (types_of_fields fields.now) (by_id emitted.now.entries) (record_batch_of batch.now))) }
 {
     if !are_columns(fields, batch.rows, &batch.columns) {
         return Err(IpcWriteError::Columns);
@@ -172,14 +172,14 @@ pub fn append_stream_batch(
     emitted: &mut BTreeMap<i64, AnyArray>,
     batch: &Batch,
 ) -> Result<usize, IpcWriteError>
-    ensures bytes { OnOk result (out.new.items ≡ out.old.items ++ encoded_batch stream_dictionary_batches (dictionary_entries_of emitted.old.entries) (record_batch_of batch.now)) }
-    ensures emitted { OnOk result (dictionary_entries_of emitted.new.entries ≡ emitted_after (dictionary_entries_of emitted.old.entries) (record_batch_of batch.now)) }
+    ensures bytes { OnOk result (out.new.items ≡ out.old.items ++ encoded_batch stream_dictionary_batches (by_id emitted.old.entries) (record_batch_of batch.now)) }
+    ensures emitted { OnOk result (by_id emitted.new.entries ≡ emitted_after (by_id emitted.old.entries) (record_batch_of batch.now)) }
     ensures body { IfOk result (λ long. long ≡ length (columns_body (record_batch_of batch.now).columns)) }
     ensures small { IfOk result (λ long. long < 2 ^ 63) }
-    ensures again { OnOk result (BatchRoundTrips (stream_dictionary_batches (dictionary_entries_of emitted.old.entries) (record_batch_of batch.now)) (record_batch_of batch.now)) }
-    ensures form { OnOk result (batch_error (types_of_fields fields.now) (dictionary_entries_of emitted.old.entries) (record_batch_of batch.now) ≡ None) }
-    ensures err { IfErr result (IsErrorOrMemory (batch_error (types_of_fields fields.now) (dictionary_entries_of emitted.old.entries) (record_batch_of batch.now))) }
-    ensures kept { IfErr result (λ why. (why ≡ Memory) ⊎ (dictionary_entries_of emitted.new.entries ≡ dictionary_entries_of emitted.old.entries)) }
+    ensures again { OnOk result (BatchRoundTrips (stream_dictionary_batches (by_id emitted.old.entries) (record_batch_of batch.now)) (record_batch_of batch.now)) }
+    ensures form { OnOk result (batch_error (types_of_fields fields.now) (by_id emitted.old.entries) (record_batch_of batch.now) ≡ None) }
+    ensures err { IfErr result (IsErrorOrMemory (batch_error (types_of_fields fields.now) (by_id emitted.old.entries) (record_batch_of batch.now))) }
+    ensures kept { IfErr result (λ why. (why ≡ Memory) ⊎ (by_id emitted.new.entries ≡ by_id emitted.old.entries)) }
 {
     let (body_length, pending) = encode_stream_batch(alloc, out, fields, emitted, batch)?;
     record_emitted(alloc, emitted, &pending)?;
@@ -194,10 +194,10 @@ fn write_batches(
     emitted: &mut BTreeMap<i64, AnyArray>,
     batches: &[Batch],
 ) -> Result<(), IpcWriteError>
-    ensures bytes { OnOk result (out.new.items ≡ out.old.items ++ encoded_batches stream_dictionary_batches (dictionary_entries_of emitted.old.entries) (map record_batch_of batches.now)) }
-    ensures again { OnOk result (BatchesRoundTrip stream_dictionary_batches (dictionary_entries_of emitted.old.entries) (map record_batch_of batches.now)) }
-    ensures form { OnOk result (batches_error (types_of_fields fields.now) (dictionary_entries_of emitted.old.entries) (map record_batch_of batches.now) ≡ None) }
-    ensures err { IfErr result (IsErrorOrMemory (batches_error (types_of_fields fields.now) (dictionary_entries_of emitted.old.entries) (map record_batch_of batches.now))) }
+    ensures bytes { OnOk result (out.new.items ≡ out.old.items ++ encoded_batches stream_dictionary_batches (by_id emitted.old.entries) (map record_batch_of batches.now)) }
+    ensures again { OnOk result (BatchesRoundTrip stream_dictionary_batches (by_id emitted.old.entries) (map record_batch_of batches.now)) }
+    ensures form { OnOk result (batches_error (types_of_fields fields.now) (by_id emitted.old.entries) (map record_batch_of batches.now) ≡ None) }
+    ensures err { IfErr result (IsErrorOrMemory (batches_error (types_of_fields fields.now) (by_id emitted.old.entries) (map record_batch_of batches.now))) }
 {
     for batch in batches {
         append_stream_batch(alloc, out, fields, emitted, batch)?;

@@ -9,7 +9,7 @@ ghost use Rattle.ipc_schema.specs.Schemas.{schema_of};
 ghost use Rattle.ipc_schema.specs.SchemaBytes.{schema_message};
 ghost use Rattle.ipc_arrays.specs.Encoding.{columns_body};
 ghost use Rattle.ipc.specs.FileDictionaries.{dictionary_batch_of};
-ghost use Rattle.ipc.specs.EntriesOf.{entry_of, dictionary_entries_of};
+ghost use Rattle.ipc.specs.EntriesOf.{entry_of, by_id};
 ghost use Rattle.ipc.specs.Streams.{record_batch_of, restored, state_of, column_types, types_of_fields};
 ghost use Rattle.ipc.specs.Files.{file_in};
 ghost use Rattle.ipc.specs.SliceStreamReaders.{state_in};
@@ -257,13 +257,13 @@ pub fn encode_file_batch<'a>(
     known: &mut DictionaryState,
     batch: &'a Batch,
 ) -> Result<EncodedFileBatch<'a>, IpcWriteError>
-    ensures bytes { OnOk result (out.new.items ≡ out.old.items ++ encoded_batch file_dictionary_batches (dictionary_entries_of emitted.now.entries) (record_batch_of batch.now)) }
-    ensures pending { IfOk result (λ encoded. map entry_of encoded.pending.items ≡ pending_by (dictionary_entries_of emitted.now.entries) (record_batch_of batch.now)) }
+    ensures bytes { OnOk result (out.new.items ≡ out.old.items ++ encoded_batch file_dictionary_batches (by_id emitted.now.entries) (record_batch_of batch.now)) }
+    ensures pending { IfOk result (λ encoded. map entry_of encoded.pending.items ≡ pending_by (by_id emitted.now.entries) (record_batch_of batch.now)) }
     ensures undo { MatchResult result (λ encoded. restored encoded.before (state_of known.new) ≡ state_of known.old) (λ _. state_of known.new ≡ state_of known.old) }
-    ensures blocks { OnOk result (file_blocks_of blocks.new ≡ with_part (file_blocks_of blocks.old) (length out.old.items) (dictionary_entries_of emitted.now.entries) (record_batch_of batch.now)) }
+    ensures blocks { OnOk result (file_blocks_of blocks.new ≡ with_part (file_blocks_of blocks.old) (length out.old.items) (by_id emitted.now.entries) (record_batch_of batch.now)) }
     ensures picked { known.new.picked ≡ known.old.picked }
     ensures known { OnOk result (state_of known.new ≡ (file_state_after (file_state_of emitted.now.entries known.old) (record_batch_of batch.now)).state) }
-    ensures again { OnOk result (BatchRoundTrips (file_dictionary_batches (dictionary_entries_of emitted.now.entries) (record_batch_of batch.now)) (record_batch_of batch.now)) }
+    ensures again { OnOk result (BatchRoundTrips (file_dictionary_batches (by_id emitted.now.entries) (record_batch_of batch.now)) (record_batch_of batch.now)) }
     ensures form { OnOk result (file_batch_error (types_of_fields fields.now) (file_state_of emitted.now.entries known.old) (record_batch_of batch.now) ≡ None) }
     ensures err { IfErr result (IsErrorOrMemory (file_batch_error (types_of_fields fields.now) (file_state_of emitted.now.entries known.old) (record_batch_of batch.now))) }
 {
@@ -289,10 +289,10 @@ fn write_block(
     blocks: &mut FileBlocks,
     batch: &Batch,
 ) -> Result<(), IpcWriteError>
-    ensures bytes { OnOk result (out.new.items ≡ out.old.items ++ encoded_batch file_dictionary_batches (dictionary_entries_of emitted.old.entries) (record_batch_of batch.now)) }
+    ensures bytes { OnOk result (out.new.items ≡ out.old.items ++ encoded_batch file_dictionary_batches (by_id emitted.old.entries) (record_batch_of batch.now)) }
     ensures file_state { OnOk result (file_state_of emitted.new.entries known.new ≡ file_state_after (file_state_of emitted.old.entries known.old) (record_batch_of batch.now)) }
-    ensures blocks { OnOk result (file_blocks_of blocks.new ≡ with_part (file_blocks_of blocks.old) (length out.old.items) (dictionary_entries_of emitted.old.entries) (record_batch_of batch.now)) }
-    ensures again { OnOk result (BatchRoundTrips (file_dictionary_batches (dictionary_entries_of emitted.old.entries) (record_batch_of batch.now)) (record_batch_of batch.now)) }
+    ensures blocks { OnOk result (file_blocks_of blocks.new ≡ with_part (file_blocks_of blocks.old) (length out.old.items) (by_id emitted.old.entries) (record_batch_of batch.now)) }
+    ensures again { OnOk result (BatchRoundTrips (file_dictionary_batches (by_id emitted.old.entries) (record_batch_of batch.now)) (record_batch_of batch.now)) }
     ensures form { OnOk result (file_batch_error (types_of_fields fields.now) (file_state_of emitted.old.entries known.old) (record_batch_of batch.now) ≡ None) }
     ensures err { IfErr result (IsErrorOrMemory (file_batch_error (types_of_fields fields.now) (file_state_of emitted.old.entries known.old) (record_batch_of batch.now))) }
 {
@@ -310,9 +310,9 @@ fn write_blocks(
     known: &mut DictionaryState,
     batches: &[Batch],
 ) -> Result<FileBlocks, IpcWriteError>
-    ensures bytes { OnOk result (out.new.items ≡ out.old.items ++ encoded_batches file_dictionary_batches (dictionary_entries_of emitted.old.entries) (map record_batch_of batches.now)) }
-    ensures blocks { IfOk result (λ blocks. file_blocks_of blocks ≡ blocks_from (length out.old.items) (dictionary_entries_of emitted.old.entries) (map record_batch_of batches.now)) }
-    ensures again { OnOk result (BatchesRoundTrip file_dictionary_batches (dictionary_entries_of emitted.old.entries) (map record_batch_of batches.now)) }
+    ensures bytes { OnOk result (out.new.items ≡ out.old.items ++ encoded_batches file_dictionary_batches (by_id emitted.old.entries) (map record_batch_of batches.now)) }
+    ensures blocks { IfOk result (λ blocks. file_blocks_of blocks ≡ blocks_from (length out.old.items) (by_id emitted.old.entries) (map record_batch_of batches.now)) }
+    ensures again { OnOk result (BatchesRoundTrip file_dictionary_batches (by_id emitted.old.entries) (map record_batch_of batches.now)) }
     ensures form { OnOk result (file_batches_error (types_of_fields fields.now) (file_state_of emitted.old.entries known.old) (map record_batch_of batches.now) ≡ None) }
     ensures err { IfErr result (IsErrorOrMemory (file_batches_error (types_of_fields fields.now) (file_state_of emitted.old.entries known.old) (map record_batch_of batches.now))) }
 {

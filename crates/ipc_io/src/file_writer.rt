@@ -6,7 +6,7 @@ ghost use Rattle.ipc_schema.specs.Schemas.{schema_of};
 ghost use Rattle.ipc_schema.specs.FooterBytes.{file_head};
 ghost use Rattle.ipc_schema.specs.FooterLaws.{FooterRoundTrips};
 ghost use Rattle.ipc.specs.PendingDictionaries.{with_entries};
-ghost use Rattle.ipc.specs.EntriesOf.{entry_of, dictionary_entries_of};
+ghost use Rattle.ipc.specs.EntriesOf.{entry_of, by_id};
 ghost use Rattle.ipc.specs.Streams.{record_batch_of, restored, state_of, column_types};
 ghost use Rattle.ipc.specs.EncodedStreams.{pending_by, encoded_batch, schema_error, IsErrorOrMemory, BatchRoundTrips};
 ghost use Rattle.ipc.specs.EncodedFiles.{no_blocks, file_blocks_of, file_state, file_state_after, file_state_start, file_dictionary_batches};
@@ -145,16 +145,16 @@ fn encode_batch_at<'a>(
     known: &mut DictionaryState,
     batch: &'a Batch,
 ) -> Result<EncodedBatch<'a>, IpcWriteError>
-    ensures bytes { IfOk result (λ encoded. encoded.bytes.items ≡ encoded_batch file_dictionary_batches (dictionary_entries_of emitted.now.entries) (record_batch_of batch.now)) }
-    ensures blocks { IfOk result (λ encoded. file_blocks_of encoded.blocks ≡ batch_blocks position (dictionary_entries_of emitted.now.entries) (record_batch_of batch.now)) }
-    ensures pending { IfOk result (λ encoded. map entry_of encoded.pending.items ≡ pending_by (dictionary_entries_of emitted.now.entries) (record_batch_of batch.now)) }
+    ensures bytes { IfOk result (λ encoded. encoded.bytes.items ≡ encoded_batch file_dictionary_batches (by_id emitted.now.entries) (record_batch_of batch.now)) }
+    ensures blocks { IfOk result (λ encoded. file_blocks_of encoded.blocks ≡ batch_blocks position (by_id emitted.now.entries) (record_batch_of batch.now)) }
+    ensures pending { IfOk result (λ encoded. map entry_of encoded.pending.items ≡ pending_by (by_id emitted.now.entries) (record_batch_of batch.now)) }
     ensures small { IfOk result (λ encoded. position + length encoded.bytes.items < 2 ^ 63) }
     ensures picked { known.new.picked ≡ known.old.picked }
     ensures undo { MatchResult result (λ encoded. restored encoded.before (state_of known.new) ≡ state_of known.old) (λ _. state_of known.new ≡ state_of known.old) }
-    ensures known { OnOk result (state_of known.new ≡ (file_state_after (file_state (dictionary_entries_of emitted.now.entries) (state_of known.old)) (record_batch_of batch.now)).state) }
-    ensures again { OnOk result (BatchRoundTrips (file_dictionary_batches (dictionary_entries_of emitted.now.entries) (record_batch_of batch.now)) (record_batch_of batch.now)) }
-    ensures form { OnOk result (placed_error position (column_types (schema_of schema.now)) (file_state (dictionary_entries_of emitted.now.entries) (state_of known.old)) (record_batch_of batch.now) ≡ None) }
-    ensures err { IfErr result (IsErrorOrMemory (placed_error position (column_types (schema_of schema.now)) (file_state (dictionary_entries_of emitted.now.entries) (state_of known.old)) (record_batch_of batch.now))) }
+    ensures known { OnOk result (state_of known.new ≡ (file_state_after (file_state (by_id emitted.now.entries) (state_of known.old)) (record_batch_of batch.now)).state) }
+    ensures again { OnOk result (BatchRoundTrips (file_dictionary_batches (by_id emitted.now.entries) (record_batch_of batch.now)) (record_batch_of batch.now)) }
+    ensures form { OnOk result (placed_error position (column_types (schema_of schema.now)) (file_state (by_id emitted.now.entries) (state_of known.old)) (record_batch_of batch.now) ≡ None) }
+    ensures err { IfErr result (IsErrorOrMemory (placed_error position (column_types (schema_of schema.now)) (file_state (by_id emitted.now.entries) (state_of known.old)) (record_batch_of batch.now))) }
 {
     let mut bytes = Vec::new(alloc);
     let mut blocks = FileBlocks::new(alloc);

@@ -4,7 +4,7 @@ ghost use Rattle.ipc_flatbuf.specs.MessageBytes.{end_of_stream};
 ghost use Rattle.ipc_schema.specs.Schemas.{schema_of};
 ghost use Rattle.ipc_schema.specs.SchemaBytes.{schema_message};
 ghost use Rattle.ipc.specs.PendingDictionaries.{with_entries};
-ghost use Rattle.ipc.specs.EntriesOf.{entry_of, dictionary_entries_of};
+ghost use Rattle.ipc.specs.EntriesOf.{entry_of, by_id};
 ghost use Rattle.ipc.specs.Streams.{record_batch_of};
 ghost use Rattle.ipc.specs.EncodedStreams.{stream_dictionary_batches, schema_error, IsErrorOrMemory, BatchRoundTrips};
 ghost use Rattle.ipc_io.specs.Writers.{StartsWriting, FinishesWriting, SchemaRoundTrips, WritesBytes, WritesRecordBatch};
@@ -41,9 +41,9 @@ impl<W> Model for StreamWriter<W> {
     ghost coded = { coded_writer W.code };
 
     ghost use Rattle.ipc_schema.specs.Schemas.{schema_of};
-    ghost use Rattle.ipc.specs.EntriesOf.{dictionary_entries_of};
+    ghost use Rattle.ipc.specs.EntriesOf.{by_id};
 
-    ghost view = { λ w. record { inner = w.inner; schema = schema_of w.schema; emitted = dictionary_entries_of w.emitted.entries; failed = w.failed } };
+    ghost view = { λ w. record { inner = w.inner; schema = schema_of w.schema; emitted = by_id w.emitted.entries; failed = w.failed } };
 }
 
 // Returns the message of a schema, and a clone of the schema.
@@ -83,7 +83,7 @@ impl<W> StreamWriter<W> {
 
     // Returns the values last emitted for each dictionary id.
     pub(crate) fn emitted(&self) -> &BTreeMap<i64, AnyArray>
-        ensures { dictionary_entries_of result.now.entries ≡ self.now.emitted }
+        ensures { by_id result.now.entries ≡ self.now.emitted }
     {
         &self.emitted
     }

@@ -11,9 +11,10 @@ value_type_of v = record { values = type_of v.data_type; inside = v.inside.items
 abbrev pub value_types_of : List (ℤ × DictionaryValueType) → List (ℤ × models.ValueTypeModel)
 value_types_of entries = map (λ e. (e.0, value_type_of e.1)) entries
 
-abbrev pub types_model : DictionaryTypes → models.DictionaryTypesModel
-types_model d = record { ids = d.ids.items; named = value_types_of d.named.entries }
+-- the dictionaries seen so far
+abbrev pub seen_of : DictionaryTypes → models.DictionaryTypesModel
+seen_of d = record { ids = d.ids.items; named = value_types_of d.named.entries }
 
 -- the budget left and the dictionaries so far
 abbrev pub progress_of : ℕ → DictionaryTypes → models.Progress
-progress_of left seen = models.progress left (types_model seen)
+progress_of left seen = models.progress left (seen_of seen)

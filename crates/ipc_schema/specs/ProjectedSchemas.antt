@@ -21,7 +21,7 @@ use Rattle.ipc_schema.specs.declared.projected.Parts.{Parts}
 use Rattle.ipc_schema.specs.declared.projected.Item as declared
 use Rattle.ipc_schema.specs.declared.projected.Item.TheVariants as items
 use Rattle.ipc_schema.specs.Dictionaries.{DictionaryTypesModel, Progress, no_dictionaries, progress}
-use Rattle.ipc_schema.specs.DictionaryModels.{types_model}
+use Rattle.ipc_schema.specs.DictionaryModels.{seen_of}
 use Rattle.ipc_schema.specs.Schemas.{SchemaModel, spec_metadata_at, spec_field_at, schema_of, schema_parts}
 use Rattle.ipc_schema.specs.SkippedFields.{spec_skipped_field_at}
 use Rattle.ipc_schema.specs.Projections.{ProjectionModel, spec_contains_field}
@@ -124,4 +124,4 @@ abbrev pub fields_model_of : Parts → ProjectedFields
 fields_model_of p = record { steps = p.steps.items; fields = map field_of p.fields.items }
 
 abbrev pub projected_schema_of : ProjectedSchema → ProjectedSchemaModel
-projected_schema_of s = record { schema = schema_of s.schema; steps = s.steps.items; seen = types_model s.dictionaries }
+projected_schema_of s = record { schema = schema_of s.schema; steps = s.steps.items; seen = seen_of s.dictionaries }

@@ -20,7 +20,7 @@ use Rattle.ipc_schema.specs.declared.schema.SchemaWithDictionaries.{SchemaWithDi
 use Rattle.ipc_schema.specs.declared.dictionaries.Encoding.{Encoding}
 use Rattle.ipc_schema.specs.declared.reading.Keys.{Keys}
 use Rattle.ipc_schema.specs.Dictionaries.{DictionaryTypesModel, Progress, no_dictionaries, progress, spec_record_id, spec_record_values, spec_with_encoding, spec_dictionary_at}
-use Rattle.ipc_schema.specs.DictionaryModels.{types_model}
+use Rattle.ipc_schema.specs.DictionaryModels.{seen_of}
 use Rattle.ipc_schema.specs.FieldVectors.{tables_in_turn}
 use Rattle.ipc_schema.specs.Extensions.{spec_names_float, field_with_metadata}
 use Rattle.ipc_schema.specs.Types.{spec_type_position, spec_shape_at, spec_can_have, spec_with_children}
@@ -142,4 +142,4 @@ abbrev pub schema_of : Schema → SchemaModel
 schema_of s = record { fields = map field_of s.fields.items; metadata = entries_of s.metadata.entries }
 
 abbrev pub schema_with_dictionaries_of : SchemaWithDictionaries → SchemaModel × DictionaryTypesModel
-schema_with_dictionaries_of s = (schema_of s.schema, types_model s.dictionaries)
+schema_with_dictionaries_of s = (schema_of s.schema, seen_of s.dictionaries)

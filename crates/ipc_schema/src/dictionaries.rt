@@ -4,7 +4,7 @@ ghost use Rattle.nest_memory.specs.TypeOf.{type_of};
 ghost use Rattle.nest_memory.specs.TypeTree.{logical_type};
 ghost use Rattle.ipc_flatbuf.specs.ReadResults.{ReturnsOrRunsOut};
 ghost use Rattle.ipc_schema.specs.Dictionaries.{spec_key_at, spec_encoding_at, spec_dictionary_at, spec_with_encoding, no_dictionaries, spec_record_id, with_value_type, spec_same_values, spec_name_values, spec_record_values};
-ghost use Rattle.ipc_schema.specs.DictionaryModels.{value_type_of, types_model};
+ghost use Rattle.ipc_schema.specs.DictionaryModels.{value_type_of, seen_of};
 ghost use Rattle.std.specs.Map.{lookup};
 ghost use Rattle.std.specs.BTreeMap.{is_at};
 ghost use Rattle.std.specs.Ordering.{int_cmp};
@@ -123,7 +123,7 @@ pub struct DictionaryTypes {
 impl DictionaryTypes {
     /// Returns the dictionaries of a schema without fields.
     pub fn new(alloc: Global) -> DictionaryTypes
-        ensures { types_model result ≡ no_dictionaries }
+        ensures { seen_of result ≡ no_dictionaries }
     {
         DictionaryTypes {
             ids: Vec::new(alloc),
@@ -137,7 +137,7 @@ pub fn record_id(
     seen: &mut DictionaryTypes,
     dictionary: Option<Encoding>,
 ) -> Result<(), IpcReadError>
-    ensures { ReturnsOrRunsOut (λ x. types_model seen.new) result (Ok (spec_record_id dictionary (types_model seen.old))) }
+    ensures { ReturnsOrRunsOut (λ x. seen_of seen.new) result (Ok (spec_record_id dictionary (seen_of seen.old))) }
 {
     if let Some(encoding) = dictionary {
         seen.ids.push(encoding.id)?;
@@ -152,7 +152,7 @@ fn same_values(old: &DictionaryValueType, new: &DictionaryValueType) -> bool
 }
 
 fn insert(seen: &mut DictionaryTypes, id: i64, new: DictionaryValueType) -> Result<(), AllocError>
-    ensures { OnOk result (types_model seen.new ≡ with_value_type id (value_type_of new) (types_model seen.old)) }
+    ensures { OnOk result (seen_of seen.new ≡ with_value_type id (value_type_of new) (seen_of seen.old)) }
 {
     seen.named.insert(id, new)?;
     Ok(())
@@ -160,7 +160,7 @@ fn insert(seen: &mut DictionaryTypes, id: i64, new: DictionaryValueType) -> Resu
 
 // Whether the value type of an id is this one, `None` where the id is new.
 fn names_as(seen: &DictionaryTypes, id: &i64, new: &DictionaryValueType) -> Option<bool>
-    ensures { result ≡ option_map (λ old. spec_same_values old (value_type_of new.now)) (lookup (is_at (int_cmp id.now)) (types_model seen.now).named) }
+    ensures { result ≡ option_map (λ old. spec_same_values old (value_type_of new.now)) (lookup (is_at (int_cmp id.now)) (seen_of seen.now).named) }
 {
     match seen.named.get(id) {
         None => None,
@@ -174,7 +174,7 @@ fn name_values(
     id: i64,
     new: DictionaryValueType,
 ) -> Result<(), IpcReadError>
-    ensures { ReturnsOrRunsOut (λ x. types_model seen.new) result (spec_name_values id (value_type_of new) (types_model seen.old) (lookup (is_at (int_cmp id)) (types_model seen.old).named)) }
+    ensures { ReturnsOrRunsOut (λ x. seen_of seen.new) result (spec_name_values id (value_type_of new) (seen_of seen.old) (lookup (is_at (int_cmp id)) (seen_of seen.old).named)) }
 {
     match names_as(seen, &id, &new) {
         None => {
@@ -204,7 +204,7 @@ fn values_behind(
     data_type: &DataType,
     before: usize,
 ) -> Result<DictionaryValueType, IpcReadError>
-    ensures { ReturnsOrRunsOut value_type_of result (Ok (record { values = logical_type (type_of data_type.now); inside = drop (suc before) (types_model seen.now).ids })) }
+    ensures { ReturnsOrRunsOut value_type_of result (Ok (record { values = logical_type (type_of data_type.now); inside = drop (suc before) (seen_of seen.now).ids })) }
 {
     let inside = ids_behind(alloc, &seen.ids, before)?;
     match data_type.to_logical_type().clone(alloc) {
@@ -224,7 +224,7 @@ pub fn record_values(
     data_type: &DataType,
     before: usize,
 ) -> Result<(), IpcReadError>
-    ensures { ReturnsOrRunsOut (λ x. types_model seen.new) result (spec_record_values dictionary (type_of data_type.now) before (types_model seen.old)) }
+    ensures { ReturnsOrRunsOut (λ x. seen_of seen.new) result (spec_record_values dictionary (type_of data_type.now) before (seen_of seen.old)) }
 {
     match dictionary {
         None => Ok(()),

@@ -1,6 +1,6 @@
 //! The dictionary ids that are not nested in the value type of another.
 ghost use Rattle.std.specs.Prelude.{◌≡◌, IfOk};
-ghost use Rattle.ipc_schema.specs.DictionaryModels.{types_model};
+ghost use Rattle.ipc_schema.specs.DictionaryModels.{seen_of};
 ghost use Rattle.ipc_schema.specs.OutermostIds.{spec_count_nested, spec_outermost_ids};
 
 use crate::dictionaries::DictionaryTypes;
@@ -8,7 +8,7 @@ use std::alloc::{AllocError, Global};
 
 // The number of ids that are nested in the value type of an id.
 fn count_nested(dictionaries: &DictionaryTypes, id: &i64) -> usize
-    ensures { result ≡ spec_count_nested (types_model dictionaries.now).named id.now }
+    ensures { result ≡ spec_count_nested (seen_of dictionaries.now).named id.now }
 {
     match dictionaries.named.get(id) {
         None => 0,
@@ -25,7 +25,7 @@ pub fn outermost_ids(
     ids: &[i64],
     dictionaries: &DictionaryTypes,
 ) -> Result<Vec<i64>, AllocError>
-    ensures { IfOk result (λ v. v.items ≡ spec_outermost_ids (types_model dictionaries.now).named ids.now) }
+    ensures { IfOk result (λ v. v.items ≡ spec_outermost_ids (seen_of dictionaries.now).named ids.now) }
 {
     let mut outer = Vec::new(alloc);
     let mut inside = 0;

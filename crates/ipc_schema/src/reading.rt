@@ -5,7 +5,7 @@ ghost use Rattle.ipc_schema.specs.Extensions.{spec_names_float, field_with_metad
 ghost use Rattle.ipc_flatbuf.specs.ReadResults.{ReturnsOrRunsOut, Returns, check};
 ghost use Rattle.ipc_flatbuf.specs.declared.error.IpcReadError.TheVariants.{ChildCount, UnsupportedType};
 ghost use Rattle.ipc_schema.specs.FieldVectors.{tables_in_turn};
-ghost use Rattle.ipc_schema.specs.DictionaryModels.{types_model, progress_of};
+ghost use Rattle.ipc_schema.specs.DictionaryModels.{seen_of, progress_of};
 ghost use Rattle.ipc_flatbuf.specs.Messages.{model_of, optional_model_of};
 ghost use Rattle.ipc_schema.specs.Types.{spec_can_have};
 ghost use Rattle.ipc_schema.specs.ShapeModels.{shape_tree, completed_type};
@@ -99,7 +99,7 @@ fn field_with(
     keys: Keys,
     seen: &mut DictionaryTypes,
 ) -> Result<Field, IpcReadError>
-    ensures { ReturnsOrRunsOut (λ x. (field_of x, types_model seen.new)) result (field_of_keys name.now is_nullable (entries_of metadata.entries) keys (types_model seen.old) (completed_type shape.entry fields)) }
+    ensures { ReturnsOrRunsOut (λ x. (field_of x, seen_of seen.new)) result (field_of_keys name.now is_nullable (entries_of metadata.entries) keys (seen_of seen.old) (completed_type shape.entry fields)) }
 {
     let values = with_children(alloc, shape, fields)?;
     record_values(alloc, seen, keys.dictionary, &values, keys.before)?;

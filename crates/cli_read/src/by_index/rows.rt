@@ -8,7 +8,7 @@ ghost use Rattle.ipc_schema.specs.Projections.{projection_of};
 ghost use Rattle.ipc_schema.specs.Schemas.{schema_of};
 ghost use Rattle.cli_args.specs.Requests.{indices};
 ghost use Rattle.cli_rows.specs.Compared.{table_rows};
-ghost use Rattle.cli_rows.specs.Rows.{TypedRow, rows_of};
+ghost use Rattle.cli_rows.specs.Rows.{RowSlot, rows_of};
 ghost use Rattle.cli_rows.specs.SelectedTables.{AreRowsOf};
 ghost use Rattle.cli_rows.specs.Selection.{selected_rows};
 ghost use Rattle.cli_rows.specs.Tables.{table_of};
@@ -200,9 +200,9 @@ fn finish(
     wanted: &[usize],
 ) -> Result<Table, CliError>
     requires same { IsPermutation wanted.now state.now.wanted.items }
-    requires taken { (rows : List TypedRow) × HasTakenFrom (schema_of schema.now).fields rows state.now }
+    requires taken { (rows : List RowSlot) × HasTakenFrom (schema_of schema.now).fields rows state.now }
     ensures schema { IfOk result (λ table. (table_of table).schema ≡ schema_of schema.now) }
-    ensures rows { IfOk result (λ table. (rows : List TypedRow) → HasTakenFrom (schema_of schema.now).fields rows state.now → selected_rows (indices wanted.now) rows ≡ Some (table_rows (table_of table))) }
+    ensures rows { IfOk result (λ table. (rows : List RowSlot) → HasTakenFrom (schema_of schema.now).fields rows state.now → selected_rows (indices wanted.now) rows ≡ Some (table_rows (table_of table))) }
     ensures error { IfErr result (λ e. IsFinishError e state.now) }
 {
     match rows_in_order(alloc, state, wanted) {

@@ -1,4 +1,4 @@
-//! Selections in row order, which each record batch answers alone.
+//! Selections in row order, each made one record batch at a time.
 ghost use Rattle.std.specs.Prelude.{◌≡◌, IfErr, IfOk};
 ghost use Rattle.cli_args.specs.Requests.{indices};
 ghost use Rattle.cli_args.specs.RequestTrees.{selection_tree};

@@ -4,7 +4,7 @@ ghost use Rattle.nest_array.specs.Seen.{layout_of};
 ghost use Rattle.nest_model.specs.Meaning.{len};
 ghost use Rattle.ipc.specs.PendingDictionaries.{entry_at};
 ghost use Rattle.ipc.specs.FileDictionaries.{dictionary_batch_of, spec_delta_values, spec_begins_with, batches_for, spec_dictionary_batches, spec_is_replaced, spec_any_replaced};
-ghost use Rattle.ipc.specs.EntriesOf.{dictionary_entries_of, entry_of};
+ghost use Rattle.ipc.specs.EntriesOf.{by_id, entry_of};
 
 use nest_array::any::AnyArray;
 use std::alloc::{AllocError, Global};
@@ -61,7 +61,7 @@ fn is_replaced(
     id: i64,
     values: &AnyArray,
 ) -> Result<bool, AllocError>
-    ensures { IfOk result (λ b. b ≡ spec_is_replaced (entry_at (dictionary_entries_of emitted.now.entries) id) (layout_of values.now)) }
+    ensures { IfOk result (λ b. b ≡ spec_is_replaced (entry_at (by_id emitted.now.entries) id) (layout_of values.now)) }
 {
     match emitted.get(&id) {
         None => Ok(false),
@@ -78,7 +78,7 @@ pub fn any_replaced(
     emitted: &BTreeMap<i64, AnyArray>,
     pending: &[(i64, &AnyArray)],
 ) -> Result<bool, AllocError>
-    ensures { IfOk result (λ b. b ≡ spec_any_replaced (dictionary_entries_of emitted.now.entries) (map entry_of pending.now)) }
+    ensures { IfOk result (λ b. b ≡ spec_any_replaced (by_id emitted.now.entries) (map entry_of pending.now)) }
 {
     for (id, values) in pending {
         if is_replaced(alloc, emitted, *id, values)? {
@@ -96,8 +96,8 @@ fn push_batch(
     values: &AnyArray,
     puts: &mut Vec<DictionaryBatch>,
 ) -> Result<(), AllocError>
-    requires { spec_is_replaced (entry_at (dictionary_entries_of emitted.now.entries) id) (layout_of values.now) ≡ false }
-    ensures { OnOk result (map dictionary_batch_of puts.new.items ≡ map dictionary_batch_of puts.old.items ++ batches_for (entry_at (dictionary_entries_of emitted.now.entries) id) (id, layout_of values.now)) }
+    requires { spec_is_replaced (entry_at (by_id emitted.now.entries) id) (layout_of values.now) ≡ false }
+    ensures { OnOk result (map dictionary_batch_of puts.new.items ≡ map dictionary_batch_of puts.old.items ++ batches_for (entry_at (by_id emitted.now.entries) id) (id, layout_of values.now)) }
 {
     match emitted.get(&id) {
         None => {
@@ -135,8 +135,8 @@ pub fn dictionary_batches(
     emitted: &BTreeMap<i64, AnyArray>,
     pending: &[(i64, &AnyArray)],
 ) -> Result<Vec<DictionaryBatch>, AllocError>
-    requires { spec_any_replaced (dictionary_entries_of emitted.now.entries) (map entry_of pending.now) ≡ false }
-    ensures { IfOk result (λ v. map dictionary_batch_of v.items ≡ spec_dictionary_batches (dictionary_entries_of emitted.now.entries) (map entry_of pending.now)) }
+    requires { spec_any_replaced (by_id emitted.now.entries) (map entry_of pending.now) ≡ false }
+    ensures { IfOk result (λ v. map dictionary_batch_of v.items ≡ spec_dictionary_batches (by_id emitted.now.entries) (map entry_of pending.now)) }
 {
     let mut puts = Vec::new(alloc);
     for (id, values) in pending {

@@ -4,7 +4,7 @@ ghost use Rattle.std.specs.BTreeMap.{insert_entry};
 ghost use Rattle.std.specs.Ordering.{int_cmp};
 ghost use Rattle.nest_array.specs.Seen.{layout_of};
 ghost use Rattle.ipc.specs.PendingDictionaries.{with_entries};
-ghost use Rattle.ipc.specs.EntriesOf.{dictionary_entries_of, entry_of};
+ghost use Rattle.ipc.specs.EntriesOf.{by_id, entry_of};
 
 use nest_array::any::AnyArray;
 use std::alloc::{AllocError, Global};
@@ -17,7 +17,7 @@ pub(crate) fn insert_clone(
     id: i64,
     values: &AnyArray,
 ) -> Result<(), AllocError>
-    ensures { OnOk result (dictionary_entries_of entries.new.entries ≡ insert_entry int_cmp (dictionary_entries_of entries.old.entries) id (layout_of values.now)) }
+    ensures { OnOk result (by_id entries.new.entries ≡ insert_entry int_cmp (by_id entries.old.entries) id (layout_of values.now)) }
 {
     match values.clone(alloc) {
         Err(_) => Err(AllocError),
@@ -37,7 +37,7 @@ pub fn record_emitted(
     emitted: &mut BTreeMap<i64, AnyArray>,
     pending: &[(i64, &AnyArray)],
 ) -> Result<(), AllocError>
-    ensures { OnOk result (dictionary_entries_of emitted.new.entries ≡ with_entries (dictionary_entries_of emitted.old.entries) (map entry_of pending.now)) }
+    ensures { OnOk result (by_id emitted.new.entries ≡ with_entries (by_id emitted.old.entries) (map entry_of pending.now)) }
 {
     for (id, values) in pending {
         insert_clone(alloc, emitted, *id, values)?;

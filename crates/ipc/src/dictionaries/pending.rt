@@ -5,7 +5,7 @@ ghost use Rattle.nest_array.specs.Seen.{layout_of, layouts_of};
 ghost use Rattle.nest_array.specs.Kinds.{has_leaves};
 ghost use Rattle.nest_model.specs.Array.{IsArray, TopFits};
 ghost use Rattle.ipc.specs.PendingDictionaries.{pending, entry_at, is_same};
-ghost use Rattle.ipc.specs.EntriesOf.{dictionary_entries_of, entry_of, borrowed_entries_of};
+ghost use Rattle.ipc.specs.EntriesOf.{by_id, entry_of, borrowed_entries_of};
 ghost use Rattle.ipc.specs.Visited.{is_leaf, IsVisited, AreVisited};
 
 use nest_array::any::AnyArray;
@@ -26,7 +26,7 @@ fn id_of(next: usize) -> Result<i64, AllocError>
 
 // Returns whether these values were emitted last for an id.
 fn is_emitted(emitted: &BTreeMap<i64, AnyArray>, id: i64, values: &AnyArray) -> bool
-    ensures { result ≡ is_same (entry_at (dictionary_entries_of emitted.now.entries) id) (layout_of values.now) }
+    ensures { result ≡ is_same (entry_at (by_id emitted.now.entries) id) (layout_of values.now) }
 {
     match emitted.get(&id) {
         None => false,
@@ -66,7 +66,7 @@ fn visit_dictionary<'a>(
     array: &'a DictionaryArray,
     found: &mut Vec<(i64, &'a AnyArray)>,
 ) -> Result<usize, AllocError>
-    ensures { IfOk result (IsVisited (dictionary_entries_of emitted.now.entries) next array.now (borrowed_entries_of found.old.items) (borrowed_entries_of found.new.items)) }
+    ensures { IfOk result (IsVisited (by_id emitted.now.entries) next array.now (borrowed_entries_of found.old.items) (borrowed_entries_of found.new.items)) }
 {
     array.known();
     let id = id_of(next)?;
@@ -87,7 +87,7 @@ fn visit<'a>(
     array: &'a AnyArray,
     found: &mut Vec<(i64, &'a AnyArray)>,
 ) -> Result<usize, AllocError>
-    ensures { IfOk result (IsVisited (dictionary_entries_of emitted.now.entries) next (layout_of array.now) (borrowed_entries_of found.old.items) (borrowed_entries_of found.new.items)) }
+    ensures { IfOk result (IsVisited (by_id emitted.now.entries) next (layout_of array.now) (borrowed_entries_of found.old.items) (borrowed_entries_of found.new.items)) }
 {
     show_kind(array);
     match array {
@@ -135,7 +135,7 @@ fn visit_each<'a>(
     arrays: &'a [AnyArray],
     found: &mut Vec<(i64, &'a AnyArray)>,
 ) -> Result<usize, AllocError>
-    ensures { IfOk result (AreVisited (dictionary_entries_of emitted.now.entries) next (layouts_of arrays.now) (borrowed_entries_of found.old.items) (borrowed_entries_of found.new.items)) }
+    ensures { IfOk result (AreVisited (by_id emitted.now.entries) next (layouts_of arrays.now) (borrowed_entries_of found.old.items) (borrowed_entries_of found.new.items)) }
 {
     let mut next = next;
     for array in arrays {
@@ -156,7 +156,7 @@ pub fn pending_dictionaries<'a>(
     emitted: &BTreeMap<i64, AnyArray>,
     columns: &'a [AnyArray],
 ) -> Result<Vec<(i64, &'a AnyArray)>, AllocError>
-    ensures pending { IfOk result (λ v. map entry_of v.items ≡ pending (dictionary_entries_of emitted.now.entries) (map layout_of columns.now)) }
+    ensures pending { IfOk result (λ v. map entry_of v.items ≡ pending (by_id emitted.now.entries) (map layout_of columns.now)) }
     ensures fit { IfOk result (λ v. AllByRecursion IsArray (map layout_of columns.now)) }
 {
     let mut found = Vec::new(alloc);

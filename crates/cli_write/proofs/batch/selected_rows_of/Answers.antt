@@ -8,7 +8,7 @@ use Rattle.ipc.specs.Streams.{record_batch_of}
 use Rattle.ipc_schema.specs.Schemas.{schema_of}
 use Rattle.cli_args.specs.RequestTrees.{selection_tree}
 use Rattle.cli_rows.specs.ColumnNames.{spec_selection_error}
-use Rattle.cli_rows.specs.Rows.{TypedRow, rows_of}
+use Rattle.cli_rows.specs.Rows.{RowSlot, rows_of}
 use Rattle.cli_rows.specs.SelectedTables.{AreRowsOf, batch_rows}
 use Rattle.cli_rows.specs.Selection.{selected_rows}
 use Rattle.cli_rows.proofs.SelectedBatches.{held-each}

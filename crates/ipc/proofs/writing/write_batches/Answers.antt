@@ -3,7 +3,7 @@ use Rattle.std.proofs.lemmas.List.{append-nil}
 use Rattle.std.proofs.lemmas.Result.{err_from_is_err_and}
 use Rattle.nest_memory.specs.TypeOf.{field_of}
 use Rattle.nest_memory.specs.TypeTree.{field_type}
-use Rattle.ipc.specs.EntriesOf.{dictionary_entries_of}
+use Rattle.ipc.specs.EntriesOf.{by_id}
 use Rattle.ipc.specs.Streams.{record_batch_of}
 use Rattle.ipc.specs.EncodedStreams.{stream_dictionary_batches, encoded_batches, emitted_after, batch_error}
 use Rattle.ipc.specs.EncodedBatches.{taken, split, after_more, from_refused, from_more, again_more, bytes_push}
@@ -20,7 +20,7 @@ returns-in_err-append_stream_batch-clause-err c =
     let batches = c.args.batches.now in
     let types = map field_type (map field_of c.args.fields.now) in
     let p = err_from_is_err_and c.from_residual.result c.from_residual.ensures.1 in
-    rw (p.1, p.2) (from_refused emitted_after (batch_error types) (dictionary_entries_of c.args.emitted.now.entries) (dictionary_entries_of c.loop-batch.emitted.entries) (map record_batch_of batches) (map record_batch_of (take i batches)) (map record_batch_of (drop (i + 1) batches)) (record_batch_of x) _
+    rw (p.1, p.2) (from_refused emitted_after (batch_error types) (by_id c.args.emitted.now.entries) (by_id c.loop-batch.emitted.entries) (map record_batch_of batches) (map record_batch_of (take i batches)) (map record_batch_of (drop (i + 1) batches)) (record_batch_of x) _
     (split record_batch_of batches i x c.loop-batch-test.true c.batch-item.is) c.loop-batch.invariant.last c.loop-batch.invariant.form c.in_err-append_stream_batch.ensures.err)
 
 pub loop-batch-preserved : goal.loop-batch-preserved
@@ -29,15 +29,15 @@ loop-batch-preserved c =
     let i = c.loop-batch.batch-index in
     let batches = c.args.batches.now in
     let types = map field_type (map field_of c.args.fields.now) in
-    let first = dictionary_entries_of c.args.emitted.now.entries in
-    let emitted = dictionary_entries_of c.loop-batch.emitted.entries in
+    let first = by_id c.args.emitted.now.entries in
+    let emitted = by_id c.loop-batch.emitted.entries in
     let before = map record_batch_of (take i batches) in
     let after = map record_batch_of (take (i + 1) batches) in
     let kept = c.loop-batch.invariant in
     let more = taken record_batch_of batches i x c.loop-batch-test.true c.batch-item.is in
     record {
       written = bytes_push stream_dictionary_batches c.args.out.now.items c.loop-batch.out.items c.append_stream_batch.new.out.items first emitted before after (record_batch_of x) more kept.last kept.written c.in_ok-append_stream_batch.ensures.bytes;
-      last = after_more emitted_after first emitted (dictionary_entries_of c.append_stream_batch.new.emitted.entries) before after (record_batch_of x) more kept.last c.in_ok-append_stream_batch.ensures.emitted;
+      last = after_more emitted_after first emitted (by_id c.append_stream_batch.new.emitted.entries) before after (record_batch_of x) more kept.last c.in_ok-append_stream_batch.ensures.emitted;
       again = again_more stream_dictionary_batches first emitted before after (record_batch_of x) more kept.last kept.again c.in_ok-append_stream_batch.ensures.again;
       form = from_more emitted_after (batch_error types) first emitted before after (record_batch_of x) more kept.last kept.form c.in_ok-append_stream_batch.ensures.form;
     }

@@ -3,7 +3,7 @@ use Rattle.ipc_flatbuf.specs.MessageBytes.{end_of_stream}
 use Rattle.ipc_schema.specs.Schemas.{SchemaModel, schema_of, stream_schema_at}
 use Rattle.ipc_schema.specs.SchemaBytes.{schema_message}
 use Rattle.ipc_schema.specs.SchemaLaws.{with_dictionary_ids}
-use Rattle.ipc.specs.EntriesOf.{dictionary_entries_of}
+use Rattle.ipc.specs.EntriesOf.{by_id}
 use Rattle.ipc.specs.Streams.{RecordBatchTree, record_batch_of, column_types}
 use Rattle.ipc.specs.EncodedStreams.{stream_dictionary_batches, encoded_batches, encoded_messages, encoded_stream, batches_error, BatchesRoundTrip}
 use Rattle.ipc.specs.EncodedStreamLaws.{same_batches, stream_round_trips}
@@ -14,7 +14,7 @@ unfolding encoded_messages
 returns-clause-again c = λ rest.
     let s : SchemaModel = schema_of c.args.schema.now in
     let bs : List RecordBatchTree = map record_batch_of c.args.batches.now in
-    let none : dictionary_entries_of c.new-emitted.result.entries ≡ [] = ap dictionary_entries_of c.new-emitted.ensures.empty in
+    let none : by_id c.new-emitted.result.entries ≡ [] = ap by_id c.new-emitted.ensures.empty in
     let ok : BatchesRoundTrip stream_dictionary_batches [] bs = rw none at c.in_ok-write_batches.ensures.again in
     let form : batches_error (column_types s) [] bs ≡ None = rw (c.deref.ensures.value, none) at c.in_ok-write_batches.ensures.form in
     let schema : (after : List ℕ) → stream_schema_at (schema_message s ++ after) ≡ Ok (with_dictionary_ids s, after) = rw c.in_ok-out.ensures.bytes at c.in_ok-out.ensures.again in
@@ -26,5 +26,5 @@ pub returns-clause-same : goal.returns-clause-same
 returns-clause-same c =
     let s : SchemaModel = schema_of c.args.schema.now in
     let bs : List RecordBatchTree = map record_batch_of c.args.batches.now in
-    let none : dictionary_entries_of c.new-emitted.result.entries ≡ [] = ap dictionary_entries_of c.new-emitted.ensures.empty in
+    let none : by_id c.new-emitted.result.entries ≡ [] = ap by_id c.new-emitted.ensures.empty in
     same_batches s bs c.in_ok-out.ensures.form (rw none at c.in_ok-write_batches.ensures.again)

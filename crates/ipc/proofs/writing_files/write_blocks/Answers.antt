@@ -3,7 +3,7 @@ use Rattle.std.proofs.lemmas.List.{append-nil, length-append}
 use Rattle.std.proofs.lemmas.Result.{err_from_is_err_and}
 use Rattle.nest_memory.specs.TypeOf.{field_of}
 use Rattle.nest_memory.specs.TypeTree.{field_type}
-use Rattle.ipc.specs.EntriesOf.{dictionary_entries_of}
+use Rattle.ipc.specs.EntriesOf.{by_id}
 use Rattle.ipc.specs.DictionaryEntries.{DictionaryEntries}
 use Rattle.ipc.specs.Streams.{record_batch_of, state_of}
 use Rattle.ipc.specs.EncodedStreams.{encoded_batches}
@@ -28,7 +28,7 @@ returns-in_err-write_block-clause-err c =
     let batches = c.args.batches.now in
     let types = map field_type (map field_of c.args.fields.now) in
     let p = err_from_is_err_and c.from_residual.result c.from_residual.ensures.1 in
-    rw (p.1, p.2) (from_refused file_state_after (file_batch_error types) (file_state (dictionary_entries_of c.args.emitted.now.entries) (state_of c.args.known.now)) (file_state (dictionary_entries_of c.loop-batch.emitted.entries) (state_of c.loop-batch.known)) (map record_batch_of batches) (map record_batch_of (take i batches)) (map record_batch_of (drop (i + 1) batches)) (record_batch_of x) _
+    rw (p.1, p.2) (from_refused file_state_after (file_batch_error types) (file_state (by_id c.args.emitted.now.entries) (state_of c.args.known.now)) (file_state (by_id c.loop-batch.emitted.entries) (state_of c.loop-batch.known)) (map record_batch_of batches) (map record_batch_of (take i batches)) (map record_batch_of (drop (i + 1) batches)) (record_batch_of x) _
     (split record_batch_of batches i x c.loop-batch-test.true c.batch-item.is) c.loop-batch.invariant.last c.loop-batch.invariant.form c.in_err-write_block.ensures.err)
 
 pub loop-batch-preserved : goal.loop-batch-preserved
@@ -37,8 +37,8 @@ loop-batch-preserved c =
     let i = c.loop-batch.batch-index in
     let batches = c.args.batches.now in
     let types = map field_type (map field_of c.args.fields.now) in
-    let first = dictionary_entries_of c.args.emitted.now.entries in
-    let emitted = dictionary_entries_of c.loop-batch.emitted.entries in
+    let first = by_id c.args.emitted.now.entries in
+    let emitted = by_id c.loop-batch.emitted.entries in
     let before = map record_batch_of (take i batches) in
     let after = map record_batch_of (take (i + 1) batches) in
     let old = c.args.out.now.items in
@@ -50,7 +50,7 @@ loop-batch-preserved c =
     let position : length c.loop-batch.out.items ≡ length old + length (encoded_batches file_dictionary_batches first before) = ap length kept.written ∙ length-append old (encoded_batches file_dictionary_batches first before) in
     record {
       written = bytes_push file_dictionary_batches old c.loop-batch.out.items c.write_block.new.out.items first emitted before after (record_batch_of x) more written_last kept.written c.in_ok-write_block.ensures.bytes;
-      last = after_more file_state_after start now (file_state (dictionary_entries_of c.write_block.new.emitted.entries) (state_of c.write_block.new.known)) before after (record_batch_of x) more kept.last c.in_ok-write_block.ensures.file_state;
+      last = after_more file_state_after start now (file_state (by_id c.write_block.new.emitted.entries) (state_of c.write_block.new.known)) before after (record_batch_of x) more kept.last c.in_ok-write_block.ensures.file_state;
       blocks = blocks_more (length old) (length c.loop-batch.out.items) first emitted before after (record_batch_of x) (file_blocks_of c.loop-batch.blocks) (file_blocks_of c.write_block.new.blocks) more written_last kept.blocks c.in_ok-write_block.ensures.blocks position;
       again = again_more file_dictionary_batches first emitted before after (record_batch_of x) more written_last kept.again c.in_ok-write_block.ensures.again;
       form = from_more file_state_after (file_batch_error types) start now before after (record_batch_of x) more kept.last kept.form c.in_ok-write_block.ensures.form;

@@ -1,7 +1,7 @@
 use Rattle.std.proofs.Common.{◌≡◌, ◌++◌, length, map, take, None}
 use Rattle.nest_memory.specs.TypeOf.{field_of}
 use Rattle.nest_memory.specs.TypeTree.{field_type}
-use Rattle.ipc.specs.EntriesOf.{dictionary_entries_of}
+use Rattle.ipc.specs.EntriesOf.{by_id}
 use Rattle.ipc.specs.Streams.{record_batch_of, state_of}
 use Rattle.ipc.specs.EncodedStreams.{encoded_batches, BatchesRoundTrip}
 use Rattle.ipc.specs.EncodedFiles.{file_dictionary_batches, blocks_from, file_blocks_of, after, file_state, file_state_after, file_batches_error}
@@ -10,9 +10,9 @@ use Rattle.ipc.proofs.writing_files.write_blocks.Given as goal
 abbrev pub invariant-loop-batch : goal.invariant-loop-batch
 invariant-loop-batch l =
     record {
-      written : l.out.items ≡ l.initial.out.items ++ encoded_batches file_dictionary_batches (dictionary_entries_of l.initial.emitted.entries) (map record_batch_of (take l.batch-index l.batches));
-      last : file_state (dictionary_entries_of l.emitted.entries) (state_of l.known) ≡ after file_state_after (file_state (dictionary_entries_of l.initial.emitted.entries) (state_of l.initial.known)) (map record_batch_of (take l.batch-index l.batches));
-      blocks : file_blocks_of l.blocks ≡ blocks_from (length l.initial.out.items) (dictionary_entries_of l.initial.emitted.entries) (map record_batch_of (take l.batch-index l.batches));
-      again : BatchesRoundTrip file_dictionary_batches (dictionary_entries_of l.initial.emitted.entries) (map record_batch_of (take l.batch-index l.batches));
-      form : file_batches_error (map field_type (map field_of l.fields)) (file_state (dictionary_entries_of l.initial.emitted.entries) (state_of l.initial.known)) (map record_batch_of (take l.batch-index l.batches)) ≡ None;
+      written : l.out.items ≡ l.initial.out.items ++ encoded_batches file_dictionary_batches (by_id l.initial.emitted.entries) (map record_batch_of (take l.batch-index l.batches));
+      last : file_state (by_id l.emitted.entries) (state_of l.known) ≡ after file_state_after (file_state (by_id l.initial.emitted.entries) (state_of l.initial.known)) (map record_batch_of (take l.batch-index l.batches));
+      blocks : file_blocks_of l.blocks ≡ blocks_from (length l.initial.out.items) (by_id l.initial.emitted.entries) (map record_batch_of (take l.batch-index l.batches));
+      again : BatchesRoundTrip file_dictionary_batches (by_id l.initial.emitted.entries) (map record_batch_of (take l.batch-index l.batches));
+      form : file_batches_error (map field_type (map field_of l.fields)) (file_state (by_id l.initial.emitted.entries) (state_of l.initial.known)) (map record_batch_of (take l.batch-index l.batches)) ≡ None;
     }

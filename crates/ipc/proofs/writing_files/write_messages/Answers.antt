@@ -4,7 +4,7 @@ use Rattle.ipc_schema.specs.ProjectionLaws.{all_written}
 use Rattle.ipc_schema.specs.Schemas.{SchemaModel, schema_of, stream_schema_at}
 use Rattle.ipc_schema.specs.SchemaBytes.{schema_message}
 use Rattle.ipc_schema.specs.SchemaLaws.{with_dictionary_ids}
-use Rattle.ipc.specs.EntriesOf.{dictionary_entries_of}
+use Rattle.ipc.specs.EntriesOf.{by_id}
 use Rattle.ipc.specs.Streams.{RecordBatchTree, record_batch_of, state_of, start, column_types}
 use Rattle.ipc.specs.EncodedStreams.{schema_error}
 use Rattle.ipc.specs.EncodedFiles.{file_state_start, file_batches_error}
@@ -18,7 +18,7 @@ returns-in_err-blocks-clause-err c =
     let bs : List RecordBatchTree = map record_batch_of c.args.batches.now in
     let said = c.in_ok-message.ensures in
     let keyed : (after : List ℕ) → stream_schema_at (schema_message s ++ after) ≡ Ok (with_dictionary_ids s, after) = rw said.bytes at said.again in
-    let none : dictionary_entries_of c.new-emitted.result.entries ≡ [] = ap dictionary_entries_of c.new-emitted.ensures.empty in
+    let none : by_id c.new-emitted.result.entries ≡ [] = ap by_id c.new-emitted.ensures.empty in
     let known : state_of c.in_ok-known.known ≡ start (all_written s) = known_start s c.deref-2.result.now (state_of c.in_ok-known.known) (c.deref-2.ensures.value ∙ said.bytes) keyed c.in_ok-known.ensures.state in
     let e = err_from_is_err_and c.from_residual-in_err-blocks.result c.from_residual-in_err-blocks.ensures.1 in
     rw (e.1, e.2) (later_refused (schema_error s) (file_batches_error (column_types s) (file_state_start s) bs) _ (schema_accepted s said.form said.small) (rw (c.deref-3.ensures.value, none, known) at c.in_err-blocks.ensures.err))
@@ -28,6 +28,6 @@ returns-clause-form c =
     let s : SchemaModel = schema_of c.args.schema.now in
     let said = c.in_ok-message.ensures in
     let keyed : (after : List ℕ) → stream_schema_at (schema_message s ++ after) ≡ Ok (with_dictionary_ids s, after) = rw said.bytes at said.again in
-    let none : dictionary_entries_of c.new-emitted.result.entries ≡ [] = ap dictionary_entries_of c.new-emitted.ensures.empty in
+    let none : by_id c.new-emitted.result.entries ≡ [] = ap by_id c.new-emitted.ensures.empty in
     let known : state_of c.in_ok-known.known ≡ start (all_written s) = known_start s c.deref-2.result.now (state_of c.in_ok-known.known) (c.deref-2.ensures.value ∙ said.bytes) keyed c.in_ok-known.ensures.state in
     rw (c.deref-3.ensures.value, none, known) at c.in_ok-blocks.ensures.form

@@ -3,7 +3,7 @@ use Rattle.std.specs.List.{flat_map}
 use Rattle.nest_array.specs.Seen.{layout_of}
 use Rattle.ipc_schema.specs.Schemas.{schema_of}
 use Rattle.cli_rows.specs.Selection.{selected_rows}
-use Rattle.cli_rows.specs.Rows.{TypedRow, rows_of}
+use Rattle.cli_rows.specs.Rows.{RowSlot, rows_of}
 use Rattle.cli_rows.specs.Compared.{table_rows}
 use Rattle.cli_rows.specs.Tables.{table_of}
 use Rattle.cli_args.specs.Requests.{indices}
@@ -19,5 +19,5 @@ returns-in-Ok-clause-rows c =
     let fs = (schema_of c.args.schema.now).fields in
     let wanted = c.args.wanted.now in
     let out = flat_map rows_of (map layout_of c.in-Ok.rows.items) in
-    if-ok c.table_of_rows.result (λ held. table_rows (table_of held) ≡ out) (λ held. (rows : List TypedRow) → HasTakenFrom fs rows c.args.state.now → selected_rows (indices wanted) rows ≡ Some (table_rows (table_of held)))
+    if-ok c.table_of_rows.result (λ held. table_rows (table_of held) ≡ out) (λ held. (rows : List RowSlot) → HasTakenFrom fs rows c.args.state.now → selected_rows (indices wanted) rows ≡ Some (table_rows (table_of held)))
     (λ held is rows took. (c.in-Ok.ensures.rows fs rows c.requires.same took).0 ∙ ap Some (sym is)) c.table_of_rows.ensures.rows

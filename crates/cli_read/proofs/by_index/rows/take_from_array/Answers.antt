@@ -1,7 +1,7 @@
 use Rattle.std.proofs.Common.{◌≡◌, ◌∙◌, ◌<◌, ◌+◌, ◌-◌, ◌^◌, ◌++◌, get_or, List, ℕ, ap, arith, drop, length, map, subst, sym, take}
 use Rattle.std.specs.List.{flat_map}
 use Rattle.nest_array.specs.Seen.{layout_of}
-use Rattle.cli_rows.specs.Rows.{TypedRow, rows_of}
+use Rattle.cli_rows.specs.Rows.{RowSlot, rows_of}
 use Rattle.cli_rows.specs.RowLaws.{rows-length}
 use Rattle.cli_read.specs.Indices.{AreIndicesInBatch, AreSortedFrom}
 use Rattle.cli_read.specs.TakeStates.{AreTaken, rows_taken}
@@ -26,4 +26,4 @@ returns-clause-took c = λ fs rows each took.
     let stored = c.in_ok-found.found.ok.0 in
     let count : length found ≡ c.len-count.result = omega (arith, stored, c.len-count.ensures) in
     subst (λ (k : ℕ). AreTaken fs wanted (rows ++ rows_of a) (old.next + k) later (flat_map rows_of (map layout_of c.append.new.self.items))) count
-    (subst (λ (rs : List TypedRow). AreTaken fs wanted (rows ++ rows_of a) (old.next + length found) later rs) (sym (rows-behind old.rows.items c.append.new.self.items taken appended)) more)
+    (subst (λ (rs : List RowSlot). AreTaken fs wanted (rows ++ rows_of a) (old.next + length found) later rs) (sym (rows-behind old.rows.items c.append.new.self.items taken appended)) more)

@@ -6,13 +6,13 @@ use Rattle.std.proofs.lemmas.Int.{to_z-of_z}
 use Rattle.nest_array.specs.Seen.{layout_of}
 use Rattle.ipc.specs.PendingDictionaries.{entry_at}
 use Rattle.ipc.specs.FileDictionaries.{spec_is_replaced, spec_any_replaced}
-use Rattle.ipc.specs.EntriesOf.{dictionary_entries_of, entry_of}
+use Rattle.ipc.specs.EntriesOf.{by_id, entry_of}
 use Rattle.ipc.proofs.Batches.{anew_next}
 use Rattle.ipc.proofs.dictionaries.batches.any_replaced.Goals as goal
 
 pub loop-id-preserved : goal.loop-id-preserved
 loop-id-preserved c =
-    let es = dictionary_entries_of c.args.emitted.now.entries in
+    let es = by_id c.args.emitted.now.entries in
     let xs = c.args.pending.now in
     let i = c.loop-id.id-index in
     let x = c.loop-id-item.result in

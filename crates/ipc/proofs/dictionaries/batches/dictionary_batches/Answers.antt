@@ -6,13 +6,13 @@ use Rattle.std.proofs.lemmas.Int.{to_z-of_z}
 use Rattle.nest_array.specs.Seen.{layout_of}
 use Rattle.ipc.specs.PendingDictionaries.{entry_at}
 use Rattle.ipc.specs.FileDictionaries.{DictionaryBatchTree, dictionary_batch_of, batches_for, spec_dictionary_batches, spec_is_replaced}
-use Rattle.ipc.specs.EntriesOf.{dictionary_entries_of, entry_of}
+use Rattle.ipc.specs.EntriesOf.{by_id, entry_of}
 use Rattle.ipc.proofs.Batches.{write_next, none_next}
 use Rattle.ipc.proofs.dictionaries.batches.dictionary_batches.Goals as goal
 
 pub push_batch-requires : goal.push_batch-requires
 push_batch-requires c =
-    let es = dictionary_entries_of c.args.emitted.now.entries in
+    let es = by_id c.args.emitted.now.entries in
     let x = c.loop-id-item.result in
     let fits : SFits w64 x.0 = search rules in
     let none = none_next entry_of es c.args.pending.now c.loop-id.id-index x c.loop-id-test.true c.loop-id-item.is c.loop-id.invariant.0 in
@@ -20,7 +20,7 @@ push_batch-requires c =
 
 pub loop-id-preserved : goal.loop-id-preserved
 loop-id-preserved c =
-    let es = dictionary_entries_of c.args.emitted.now.entries in
+    let es = by_id c.args.emitted.now.entries in
     let xs = c.args.pending.now in
     let i = c.loop-id.id-index in
     let x = c.loop-id-item.result in

@@ -8,7 +8,7 @@ use Rattle.nest_array.proofs.Children.{weight-at}
 use Rattle.nest_array.specs.Seen.{layout_of, layouts_of}
 use Rattle.nest_model.specs.Layout.{Layouts, weight}
 use Rattle.ipc.specs.PendingDictionaries.{entry_at, is_same}
-use Rattle.ipc.specs.EntriesOf.{dictionary_entries_of, entry_of, borrowed_entries_of}
+use Rattle.ipc.specs.EntriesOf.{by_id, entry_of, borrowed_entries_of}
 use Rattle.ipc.specs.Visited.{AreVisited}
 use Rattle.ipc.proofs.Emitted.{take_one}
 use Rattle.ipc.proofs.Visits.{pushed, kept, more_walked}
@@ -17,7 +17,7 @@ use Rattle.ipc.proofs.dictionaries.pending.+visit.Goals as goal
 
 pub visit_dictionary-returns-in_ok-push : goal.visit_dictionary-returns-in_ok-push
 visit_dictionary-returns-in_ok-push t c =
-    let es = dictionary_entries_of c.args.emitted.now.entries in
+    let es = by_id c.args.emitted.now.entries in
     let old = c.args.found.now.items in
     let mid = c.visit.new.found.items in
     let id = c.in_ok-id.id in
@@ -36,7 +36,7 @@ visit_dictionary-returns-in_ok-push t c =
 
 pub visit_dictionary-returns-else-not-is_emitted : goal.visit_dictionary-returns-else-not-is_emitted
 visit_dictionary-returns-else-not-is_emitted t c =
-    let es = dictionary_entries_of c.args.emitted.now.entries in
+    let es = by_id c.args.emitted.now.entries in
     let old = c.args.found.now.items in
     let mid = c.visit.new.found.items in
     let id = c.in_ok-id.id in
@@ -56,7 +56,7 @@ visit_each-visit-requires t c =
 
 pub visit_each-loop-array-preserved : goal.visit_each-loop-array-preserved
 visit_each-loop-array-preserved t c =
-    let es = dictionary_entries_of c.args.emitted.now.entries in
+    let es = by_id c.args.emitted.now.entries in
     let xs = c.args.arrays.now in
     let i = c.loop-array.array-index in
     let x = c.array-item.result in
