@@ -1,5 +1,5 @@
 //! Reads a stream from a reader, one record batch at a time.
-ghost use Rattle.std.specs.Prelude.{◌≡◌, true, None, Ok, IfOk};
+ghost use Rattle.std.specs.Prelude.{◌≡◌, true, false, None, Ok, IfOk};
 ghost use Rattle.ipc_schema.specs.Projections.{all, projection_of};
 ghost use Rattle.ipc_schema.specs.Schemas.{schema_of};
 ghost use Rattle.ipc.specs.Streams.{state_of};
@@ -167,7 +167,7 @@ impl<R: Read + Drop> StreamReader<R> {
 
     /// Returns the next record batch, or `None` at the end of the stream.
     ///
-    /// After the end, or after an error, every call returns `None`.
+    /// After the end, or after an error, every call returns `None`. Bytes after the end-of-stream marker stay in the reader.
     ///
     /// # Errors
     /// `Ipc` with the first error of the messages up to the batch, or `Memory`. `Io` with an error of the reader.
@@ -175,6 +175,7 @@ impl<R: Read + Drop> StreamReader<R> {
         ensures next { ReadsNext R.remaining self.old self.new result }
         ensures over { IfOk result (λ next. next ≡ None → self.new.over ≡ true) }
         ensures still { self.old.over ≡ true → (result ≡ Ok None) × (self.new ≡ self.old) }
+        ensures rest { self.old.over ≡ false → NextIn self.old.state (R.remaining self.old.inner) self.new.state (R.remaining self.new.inner) result }
     {
         if self.over {
             return Ok(None);
