@@ -9,15 +9,15 @@ use Rattle.nest_memory.specs.declared.datatypes.IntegerType.{IntegerType}
 use Rattle.nest_memory.specs.declared.datatypes.IntegerType.TheVariants as integers
 use Rattle.nest_model.specs.BuilderTree.{BuilderTree, dictionary}
 
-abbrev pub key_kind : AnyMutableDictionary → IntegerType
-key_kind (Int8 b) = integers.Int8
-key_kind (Int16 b) = integers.Int16
-key_kind (Int32 b) = integers.Int32
-key_kind (Int64 b) = integers.Int64
-key_kind (UInt8 b) = integers.UInt8
-key_kind (UInt16 b) = integers.UInt16
-key_kind (UInt32 b) = integers.UInt32
-key_kind (UInt64 b) = integers.UInt64
+abbrev pub key_integer_type : AnyMutableDictionary → IntegerType
+key_integer_type (Int8 b) = integers.Int8
+key_integer_type (Int16 b) = integers.Int16
+key_integer_type (Int32 b) = integers.Int32
+key_integer_type (Int64 b) = integers.Int64
+key_integer_type (UInt8 b) = integers.UInt8
+key_integer_type (UInt16 b) = integers.UInt16
+key_integer_type (UInt32 b) = integers.UInt32
+key_integer_type (UInt64 b) = integers.UInt64
 
 abbrev pub keyed_type : AnyMutableDictionary → TypeTree
 keyed_type (Int8 b) = b.value.data_type
@@ -50,4 +50,4 @@ keyed_values (UInt32 b) = b.value.values.values
 keyed_values (UInt64 b) = b.value.values.values
 
 abbrev pub dictionary_tree : AnyMutableDictionary → BuilderTree
-dictionary_tree b = dictionary (key_kind b) (keyed_type b) (keyed_rows b) (values_tree (keyed_values b))
+dictionary_tree b = dictionary (key_integer_type b) (keyed_type b) (keyed_rows b) (values_tree (keyed_values b))

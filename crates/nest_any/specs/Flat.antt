@@ -22,11 +22,11 @@ flat_layout (FixedSizeBinary b) = b
 abbrev pub values_tree : AnyMutableFlat → BuilderTree
 values_tree b = flat_tree (flat_layout b)
 
-abbrev pub physical_kind : AnyMutableFlat → PhysicalType
-physical_kind (Boolean b) = physical.Boolean
-physical_kind (Primitive b) = physical.Primitive (built_kind b)
-physical_kind (Binary b) = physical.Binary
-physical_kind (LargeBinary b) = physical.LargeBinary
-physical_kind (Utf8 b) = physical.Utf8
-physical_kind (LargeUtf8 b) = physical.LargeUtf8
-physical_kind (FixedSizeBinary b) = physical.FixedSizeBinary
+abbrev pub flat_kind : AnyMutableFlat → PhysicalType
+flat_kind (Boolean b) = physical.Boolean
+flat_kind (Primitive b) = physical.Primitive (built_kind b)
+flat_kind (Binary b) = physical.Binary
+flat_kind (LargeBinary b) = physical.LargeBinary
+flat_kind (Utf8 b) = physical.Utf8
+flat_kind (LargeUtf8 b) = physical.LargeUtf8
+flat_kind (FixedSizeBinary b) = physical.FixedSizeBinary

@@ -1,6 +1,6 @@
 //! A flat builder of any kind.
 ghost use Rattle.std.specs.Prelude.{◌≡◌};
-ghost use Rattle.nest_any.specs.Flat.{flat_layout, physical_kind, values_tree};
+ghost use Rattle.nest_any.specs.Flat.{flat_layout, flat_kind, values_tree};
 ghost use Rattle.nest_any.specs.Words.{builder_len, builder_type, layout_type, physical_type, type_of};
 
 use nest_array::AnyArray;
@@ -57,7 +57,7 @@ macro_rules! join_pair {
 
 // The data type of a builder has the physical type of its variant.
 fn known(any: &AnyMutableFlat)
-    ensures { physical_type (layout_type (flat_layout any.now)) ≡ physical_kind any.now }
+    ensures { physical_type (layout_type (flat_layout any.now)) ≡ flat_kind any.now }
 {
     match any {
         AnyMutableFlat::Boolean(builder) => builder.known(),

@@ -1,5 +1,5 @@
 -- Builders of fixed-size binary arrays: the array so far, and the array after each call.
-use Rattle.std.specs.Prelude.{◌≡◌, ◌≢◌, ℕ, ◌/◌, Bool, true, false, List, [], ◌∷◌, ◌++◌, length, map, take, drop, replicate, Option, Some, None, is_some}
+use Rattle.std.specs.Prelude.{◌≡◌, ◌≢◌, ℕ, ◌/◌, List, [], ◌∷◌, ◌++◌, length, map, take, drop, replicate, Option, Some, None, is_some}
 use Rattle.std.specs.Borrow.{Bor}
 use Rattle.std.specs.List.{All}
 use Rattle.std.specs.Option.{option_copied}
@@ -11,6 +11,7 @@ use Rattle.nest_model.specs.Meaning.{slots_of}
 use Rattle.nest_model.specs.Slot as slots
 use Rattle.nest_flat.specs.FlatParts.{optional}
 use Rattle.nest_flat.specs.Growth.{is_masked, pushed_validity, joined_validity}
+use Rattle.nest_flat.specs.Slices.{has_null}
 
 -- the bytes of an item: zeros for a null
 abbrev pub sized_bytes : ℕ → Option (List ℕ) → List ℕ
@@ -31,12 +32,6 @@ joined_bytes a b = a
 abbrev pub IsOtherSize : ℕ → Option (List ℕ) → Type 0
 IsOtherSize size None = ⊥
 IsOtherSize size (Some xs) = length xs ≢ size
-
--- some item is null
-abbrev pub has_null : {A : Type 0} → List (Option A) → Bool
-has_null [] = false
-has_null (None ∷ xs) = true
-has_null (Some x ∷ xs) = has_null xs
 
 -- the array with ws in place of its first bytes, its length unchanged
 abbrev pub with_bytes : Layout → List ℕ → Layout

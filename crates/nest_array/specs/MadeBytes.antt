@@ -15,7 +15,8 @@ use Rattle.nest_model.specs.Meaning.{slots_of}
 use Rattle.nest_model.specs.Slot as slots
 use Rattle.nest_flat.specs.FlatParts.{optional}
 use Rattle.nest_flat.specs.Growth.{is_masked}
-use Rattle.nest_array.specs.FixedBytes.{IsMadeOf, IsOtherSize, has_null}
+use Rattle.nest_flat.specs.Slices.{has_null}
+use Rattle.nest_array.specs.FixedBytes.{IsMadeOf, IsOtherSize}
 
 -- one more item
 pub taken-more : {A : Type 0} (xs : List A) (i : ℕ) (x : A) → i < length xs → x ≡ get_or xs i x → take (i + 1) xs ≡ take i xs ++ x ∷ []

@@ -30,7 +30,8 @@ use Rattle.nest_model.specs.BuilderAppendLaws.{flat_accepted, flat_null_accepted
 use Rattle.nest_model.specs.BuilderRefusals.{required_item, requirement_refusal}
 use Rattle.nest_model.specs.BuilderRefusalLaws.{within, same_number, other_number}
 use Rattle.nest_model.specs.BuilderJoin.{join_checks}
-use Rattle.nest_array.specs.FixedBytes.{IsOtherSize, has_null}
+use Rattle.nest_flat.specs.Slices.{has_null}
+use Rattle.nest_array.specs.FixedBytes.{IsOtherSize}
 use Rattle.nest_build.specs.FlatTree.{flat_tree}
 use Rattle.nest_build.proofs.FlatTrees.{flat-bits, value-holds}
 use Rattle.nest_array.specs.FixedBytesLaws.{sized-equal}

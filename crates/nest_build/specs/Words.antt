@@ -1,5 +1,5 @@
 -- Re-exports of the definitions that this crate's contracts use.
-pub use Rattle.nest_array.specs.FixedBytes.{GivesOtherSize, IsMadeOf, IsOtherSize, has_null, joined_bytes, pushed_bytes, sized_bytes, with_bytes}
+pub use Rattle.nest_array.specs.FixedBytes.{GivesOtherSize, IsMadeOf, IsOtherSize, joined_bytes, pushed_bytes, sized_bytes, with_bytes}
 pub use Rattle.nest_array.specs.Seen.{layout_of}
 pub use Rattle.nest_array.specs.Types.{default_field, default_list_type}
 pub use Rattle.nest_build.specs.BuiltKind.{built_kind}
@@ -12,6 +12,7 @@ pub use Rattle.nest_flat.specs.AnyMutablePrimitive.{built_layout}
 pub use Rattle.nest_flat.specs.FlatParts.{optional}
 pub use Rattle.nest_flat.specs.Growth.{CanDrain, is_masked}
 pub use Rattle.nest_flat.specs.Plain.{plain_value, plain_values}
+pub use Rattle.nest_flat.specs.Slices.{has_null}
 pub use Rattle.nest_memory.specs.Sublist.{sublist}
 pub use Rattle.nest_memory.specs.Physical.{physical_type}
 pub use Rattle.nest_memory.specs.Rising.{largest_offset}

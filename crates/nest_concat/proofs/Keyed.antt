@@ -29,7 +29,7 @@ use Rattle.nest_model.specs.Slot.{Slot}
 use Rattle.nest_array.specs.Keys.{keyed_by}
 use Rattle.nest_array.specs.Kinds.{IsKeyed}
 use Rattle.nest_array.specs.WindowParts.{WindowParts, window_slots}
-use Rattle.nest_concat.specs.Joined.{AreArrays, AreKeyed, AreOfKind, AreWithin, IsJoined, IsWithin, RefusesJoin, RefusesKeys, first_array}
+use Rattle.nest_concat.specs.Joined.{AreArrays, HaveKeys, AreOfKind, AreWithin, IsJoined, IsWithin, RefusesJoin, RefusesKeys, first_array}
 use Rattle.nest_concat.specs.Lookups.{AreJoinedKeys, HaveValues, KeysPass, count_values, keys_in, moved_key, moved_keys, moved_run, most_keys, values_in}
 use Rattle.nest_concat.specs.Windows.{count_of, count_slots, concatenated_validity}
 use Rattle.nest_concat.proofs.Logical.{kind-alike, value-alike}
@@ -53,7 +53,7 @@ keyed-kind a t ks c h e =
     let f = dictionary-facts t ks c (subst TopFits e h) in
     ap (λ z. physical_type (layout_type z)) e ∙ keyed-type t f.typed ∙ ap (λ k. physical.Dictionary (keyed_by k)) f.key_typed ∙ ap (λ z. physical.Dictionary (width_of z)) (sym e)
 
-pub are-keyed : (k : IntegerType) (ws : List WindowParts) → AreOfKind (physical.Dictionary k) ws → AreKeyed ws
+pub are-keyed : (k : IntegerType) (ws : List WindowParts) → AreOfKind (physical.Dictionary k) ws → HaveKeys ws
 are-keyed k ws h = λ i d l. subst IsKeyed (sym (h i d l)) tt
 
 -- facts about the dictionary of a window

@@ -68,8 +68,8 @@ abbrev pub AreOfKind : PhysicalType → List WindowParts → Type 0
 AreOfKind p ws = All (λ w. physical_type (layout_type w.array) ≡ p) ws
 
 -- each array is a dictionary
-abbrev pub AreKeyed : List WindowParts → Type 0
-AreKeyed ws = All (λ w. IsKeyed (physical_type (layout_type w.array))) ws
+abbrev pub HaveKeys : List WindowParts → Type 0
+HaveKeys ws = All (λ w. IsKeyed (physical_type (layout_type w.array))) ws
 
 -- errors for keys: an allocation fails or, where keys move, a key is n or more or the values pass the largest length
 abbrev pub RefusesKeys : Bool → Error → ℕ → List WindowParts → Type 0

@@ -13,7 +13,7 @@ pub use Rattle.nest_model.specs.Meaning.{len, slots_of}
 pub use Rattle.nest_model.specs.Part.{begin, count_rows, extent, valid_at}
 pub use Rattle.nest_array.specs.WindowParts.{WindowParts, window_parts, window_slots}
 pub use Rattle.nest_concat.specs.Interleaved.{AreIndicesOf, IsInterleaved, RefusesInterleave, slot_windows}
-pub use Rattle.nest_concat.specs.Joined.{AreArrays, AreOfKind, AreOfOneType, AreWithin, EachJoined, HasFields, IsConcatenated, IsJoined, IsWithin, RefusesConcatenate, RefusesEach, RefusesJoin, first_array, whole, AreKeyed, RefusesKeys}
+pub use Rattle.nest_concat.specs.Joined.{AreArrays, AreOfKind, AreOfOneType, AreWithin, EachJoined, HasFields, IsConcatenated, IsJoined, IsWithin, RefusesConcatenate, RefusesEach, RefusesJoin, first_array, whole, HaveKeys, RefusesKeys}
 pub use Rattle.nest_concat.specs.Laid.{joined_layout, joined_rows, joins_past, laid, laid_each, laid_keys}
 pub use Rattle.nest_concat.specs.Limits.{PassesLength, PassesLimits, PassesOffsets, PassesPicks, SomePasses}
 pub use Rattle.nest_concat.specs.Lookups.{AreJoinedKeys, HaveValues, IsKeyPast, KeyPasses, KeysPass, KeysFit, KeyFits, SomePast, count_values, joined_keys, keys_in, moved_key, moved_keys, moved_run, values_in}

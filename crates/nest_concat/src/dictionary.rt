@@ -4,7 +4,7 @@ ghost use Rattle.nest_model.specs.Layout as layouts;
 ghost use Rattle.nest_array.specs.Kinds.{IsKeyed};
 ghost use Rattle.nest_array.specs.Seen.{layout_of};
 ghost use Rattle.nest_array.specs.SeenKeys.{keys_layout};
-ghost use Rattle.nest_concat.specs.Words.{AreArrays, AreKeyed, AreWithin, Fits, HaveValues, IsJoined, Memory, RefusesJoin, child_of, count_slots, first_array, layout_type, physical_type, type_of, values_in, laid, PassesLimits};
+ghost use Rattle.nest_concat.specs.Words.{AreArrays, HaveKeys, AreWithin, Fits, HaveValues, IsJoined, Memory, RefusesJoin, child_of, count_slots, first_array, layout_type, physical_type, type_of, values_in, laid, PassesLimits};
 
 use crate::any::join;
 use crate::keys;
@@ -28,7 +28,7 @@ pub(crate) fn values_of_window<'a>(window: &Window<'a>) -> &'a AnyArray
 
 /// Returns whether the arrays of all windows have values equal to `values`. Each array is compared once.
 fn have_values(windows: &[Window<'_>], values: &AnyArray) -> bool
-    requires { AreKeyed windows.now }
+    requires { HaveKeys windows.now }
     ensures { IsTrue result ↔ HaveValues (layout_of values.now) windows.now }
 {
     for window in windows {
@@ -41,7 +41,7 @@ fn have_values(windows: &[Window<'_>], values: &AnyArray) -> bool
 
 /// Returns the windows over all values of the arrays of windows.
 fn whole_values<'a>(alloc: Global, windows: &[Window<'a>]) -> Result<Vec<Window<'a>>, Error>
-    requires { AreKeyed windows.now }
+    requires { HaveKeys windows.now }
     ensures ok { IfOk result (λ v. v.items ≡ map values_in windows.now) }
     ensures fit { IfOk result (λ v. AreArrays v.items) }
     ensures err { IsOkUnless result (Memory alloc_error) }

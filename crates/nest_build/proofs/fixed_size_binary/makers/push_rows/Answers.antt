@@ -2,7 +2,7 @@ use Rattle.std.specs.Prelude.{is_some, not, ◌||◌}
 use Rattle.std.proofs.Common.{[], ◌∷◌, ◌++◌, map, take, ap, sym, ◌∙◌}
 use Rattle.nest_flat.specs.FlatParts.{optional}
 use Rattle.nest_model.specs.Slot as slots
-use Rattle.nest_array.specs.FixedBytes.{has_null}
+use Rattle.nest_flat.specs.Slices.{has_null}
 use Rattle.nest_array.specs.MadeBytes.{taken-more, map-push, has_null-push}
 use Rattle.nest_build.proofs.fixed_size_binary.makers.push_rows.Goals as goal
 

@@ -4,7 +4,7 @@ use Rattle.nest_flat.specs.Growth.{is_masked}
 use Rattle.nest_model.specs.Layout.{layout_type}
 use Rattle.nest_model.specs.Meaning.{slots_of}
 use Rattle.nest_model.specs.Slot as slots
-use Rattle.nest_array.specs.FixedBytes.{has_null}
+use Rattle.nest_flat.specs.Slices.{has_null}
 use Rattle.nest_build.proofs.fixed_size_binary.makers.push_rows.Given as goal
 
 abbrev pub invariant-loop-item : goal.invariant-loop-item
