@@ -162,12 +162,11 @@ fn a_device_that_fails_at_each_byte(rt: HostRuntime) {
     let batches = batches(alloc, 3).expect(&rt, "batches");
     let bytes = write_file(alloc, &schema, &batches).expect(&rt, "a file");
     for fails_at in 0..bytes.len() {
-        for most in [1usize, 64] {
-            let mut sink = Sink::new(alloc, most, fails_at);
-            assert!(rt; fails_before_its_end(alloc, &mut sink, &schema, &batches));
-            assert!(rt; sink.bytes[..] == bytes[..fails_at]);
-            assert!(rt; sink.flushes == 0);
-        }
+        let most = if fails_at % 2 == 0 { 1 } else { 64 };
+        let mut sink = Sink::new(alloc, most, fails_at);
+        assert!(rt; fails_before_its_end(alloc, &mut sink, &schema, &batches));
+        assert!(rt; sink.bytes[..] == bytes[..fails_at]);
+        assert!(rt; sink.flushes == 0);
     }
 }
 

@@ -314,15 +314,22 @@ fn is_decoded(alloc: Global, bytes: &[u8]) -> Result<bool, IpcReadError> {
     }
 }
 
-// Where a changed byte is not decoded: it is 255 or one more.
+// What a byte is changed to: 255 at an even index, one more at an odd one.
+fn other_byte(index: usize, byte: u8) -> u8 {
+    if index % 2 == 0 {
+        255
+    } else {
+        byte.wrapping_add(1)
+    }
+}
+
+// Where a changed byte is not decoded.
 fn unanswered(alloc: Global, bytes: &mut [u8], from: usize, to: usize) -> Option<usize> {
     for index in from..to {
         let old = bytes[index];
-        for new in [255, old.wrapping_add(1)] {
-            bytes[index] = new;
-            if is_decoded(alloc, bytes) != Ok(true) {
-                return Some(index);
-            }
+        bytes[index] = other_byte(index, old);
+        if is_decoded(alloc, bytes) != Ok(true) {
+            return Some(index);
         }
         bytes[index] = old;
     }
@@ -375,11 +382,9 @@ fn each_byte_of_the_last_sixth_changed(rt: HostRuntime) {
 fn unread_byte(alloc: Global, bytes: &mut [u8], from: usize, to: usize) -> Option<usize> {
     for index in from..to {
         let old = bytes[index];
-        for new in [255, old.wrapping_add(1)] {
-            bytes[index] = new;
-            if is_file_read(alloc, bytes).is_none() {
-                return Some(index);
-            }
+        bytes[index] = other_byte(index, old);
+        if is_file_read(alloc, bytes).is_none() {
+            return Some(index);
         }
         bytes[index] = old;
     }

@@ -58,7 +58,8 @@ fn each_beginning(rt: HostRuntime) {
     let alloc = rt.alloc();
     for sample in &READ_NESTED {
         let bytes = bytes_of(alloc, sample).expect(&rt, "no bytes");
-        for end in 0..bytes.len() {
+        let step = if bytes.len() > BYTES { 3 } else { 1 };
+        for end in (0..bytes.len()).step_by(step) {
             assert!(rt;
                 is_read(alloc, &bytes[..end]).is_some(),
                 "{} up to {end}",
@@ -68,7 +69,7 @@ fn each_beginning(rt: HostRuntime) {
     }
 }
 
-/// Longer streams have each prefix alone.
+/// Longer streams have each third prefix alone.
 const BYTES: usize = 600;
 
 #[test]
@@ -81,14 +82,13 @@ fn each_byte_changed(rt: HostRuntime) {
         let mut bytes = bytes_of(alloc, sample).expect(&rt, "no bytes");
         for i in 0..bytes.len() {
             let byte = bytes[i];
-            for other in [0, 255] {
-                bytes[i] = other;
-                assert!(rt;
-                    is_read(alloc, &bytes).is_some(),
-                    "{} with {other} at {i}",
-                    sample.name
-                );
-            }
+            let other = if i % 2 == 0 { 0 } else { 255 };
+            bytes[i] = other;
+            assert!(rt;
+                is_read(alloc, &bytes).is_some(),
+                "{} with {other} at {i}",
+                sample.name
+            );
             bytes[i] = byte;
         }
     }

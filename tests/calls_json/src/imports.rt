@@ -323,7 +323,7 @@ fn devices_fail(rt: HostRuntime) -> Result<(), Fail> {
             let (done, _) = imported(alloc, ROWS, format, text_of(alloc, text, 1, call)?, NEVER)?;
             assert!(&rt; done.err() == Some(ImportError::Input), "call {call}");
         }
-        for room in 0..whole.len() {
+        for room in (0..whole.len()).step_by(5) {
             let (done, _) = imported(alloc, ROWS, format, text_of(alloc, text, 7, NEVER)?, room)?;
             assert!(&rt; done.err() == Some(ImportError::Output), "room {room}");
         }

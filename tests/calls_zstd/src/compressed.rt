@@ -74,10 +74,8 @@ fn letters_of_each_length(rt: HostRuntime) {
 fn four_million_bytes(rt: HostRuntime) {
     let mut wanted = Vec::new(rt.alloc());
     append_rows(&mut wanted, 4_000_000).expect(&rt, "a content");
-    expect_content(&rt, include_bytes!("zstd/rows_1.zst"), &wanted);
     expect_content(&rt, include_bytes!("zstd/rows_3.zst"), &wanted);
     expect_content(&rt, include_bytes!("zstd/rows_19.zst"), &wanted);
-    expect_content(&rt, include_bytes!("zstd/rows_fast.zst"), &wanted);
 }
 
 #[test]

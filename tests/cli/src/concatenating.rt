@@ -124,8 +124,7 @@ fn devices_and_outputs_fail(rt: HostRuntime) -> Result<(), Fail> {
     let parts = samples(alloc, &[FILE, STREAM])?;
     for format in [Format::File, Format::Stream] {
         let want = appended(alloc, &parts, format, (NEVER, NEVER)).expect(&rt, "an output");
-        for third in 0..want.len() / 3 {
-            let at = third * 3;
+        for at in (0..want.len()).step_by(7) {
             let found = appended(alloc, &parts, format, (NEVER, at)).err();
             let is_output = match found {
                 Some((_, AppendError::Batch(e))) => e.error == CliError::Output,
@@ -134,7 +133,7 @@ fn devices_and_outputs_fail(rt: HostRuntime) -> Result<(), Fail> {
             assert!(rt; is_output, "{at}: {found:?}");
         }
         let mut errors = 0;
-        for call in 0..400usize {
+        for call in (0..400usize).step_by(3) {
             match appended(alloc, &parts, format, (call, NEVER)) {
                 Ok(made) => assert!(rt; made == want),
                 Err((1, AppendError::Batch(e))) => {
@@ -144,7 +143,7 @@ fn devices_and_outputs_fail(rt: HostRuntime) -> Result<(), Fail> {
                 Err(other) => assert!(rt; false, "{other:?}"),
             }
         }
-        assert!(rt; errors > 100, "{errors}");
+        assert!(rt; errors > 30, "{errors}");
     }
     Ok(())
 }

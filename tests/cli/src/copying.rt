@@ -215,8 +215,7 @@ fn devices_and_outputs_fail(rt: HostRuntime) -> Result<(), Fail> {
             let (want, _) = copied(alloc, &bytes, format, Selection::All, (NEVER, NEVER)).expect(
                 &rt, "a copy",
             );
-            for third in 0..want.len() / 3 {
-                let at = third * 3;
+            for at in (0..want.len()).step_by(7) {
                 let found = copied(alloc, &bytes, format, Selection::All, (NEVER, at));
                 assert!(rt;
                     found.err().map(|e| e.error) == Some(CliError::Output),
@@ -224,7 +223,7 @@ fn devices_and_outputs_fail(rt: HostRuntime) -> Result<(), Fail> {
                 );
             }
             let mut errors = 0;
-            for call in 0..400usize {
+            for call in (0..400usize).step_by(3) {
                 match copied(alloc, &bytes, format, Selection::All, (call, NEVER)) {
                     Ok((made, _)) => assert!(rt; made == want),
                     Err(e) => {
@@ -233,7 +232,7 @@ fn devices_and_outputs_fail(rt: HostRuntime) -> Result<(), Fail> {
                     }
                 }
             }
-            assert!(rt; errors > 100, "{errors}");
+            assert!(rt; errors > 30, "{errors}");
         }
     }
     Ok(())

@@ -65,7 +65,8 @@ def frames():
     write("window.zst", by_zstd(noise(1024) * 8, "-5", "--zstd=wlog=10"))
     for name, level in (("1", "-1"), ("3", "-3"), ("19", "-19"), ("fast", "--fast=1")):
         write(f"letters_{name}.zst", b"".join(by_zstd(letters(it), level, "--no-check") for it in range(301)))
-        write(f"rows_{name}.zst", by_zstd(rows(4_000_000), level))
+        if name in ("3", "19"):
+            write(f"rows_{name}.zst", by_zstd(rows(4_000_000), level))
         write(f"mixture_{name}.zst", by_zstd(mixture(), level))
     for name, content in (("sequence", b"abc" * 8 + b"d"), ("huffman", letters(70)), ("both", letters(100) * 2)):
         frame = by_zstd(content, "-19", "--no-check")
