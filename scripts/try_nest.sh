@@ -136,19 +136,24 @@ expect 2 '' "nest: $room/none: no such file" equal "$room/file" "$room/none"
 # Projected columns, in the order of the schema, of streams and files, with the option anywhere; an unknown name.
 for file in "$room/stream" "$room/file" -; do
     expect 0 'b: string\n' '' schema "$file" --columns b
-    expect 0 'a: int32\nb: string\n' '' schema --columns b,a,c "$file"
+    expect 0 'a: int32\nb: string\n' '' schema --columns b,a "$file"
     expect 0 '{"b":"a"}\n{"b":"b"}\n{"b":null}\n' '' rows --columns b "$file"
     expect 0 '{"a":3}\n' '' take "$file" --columns a 2
-    expect 0 '' '' schema "$file" --columns c
-    expect 2 '' "nest: $file: record batch 0: the record batch has no columns of the schema" rows "$file" --columns c
+    for command in schema rows head; do
+        expect 2 '' "nest: $file: there is no column \"c\"" "$command" "$file" --columns b,c,d
+    done
+    expect 2 '' "nest: $file: there is no column \"c\"" take "$file" 0 --columns c
+    expect 2 '' "nest: $file: there is no column \"\"" convert "$file" "$room/c" --columns b,
+    expect 2 '' "nest: $file: there is no column \"c\"" concat "$file" -o "$room/c" --columns c
     expect 2 '' "nest: $file: there is no column of that name" where "$file" a --columns b
     expect 0 '' '' convert "$file" "$room/b" --columns b
     expect 0 '{"b":"a"}\n{"b":"b"}\n{"b":null}\n' '' rows "$room/b"
 done
 expect 0 '' '' equal "$room/parts" "$room/unlike" --columns b
 expect 1 'row 2\n' '' equal "$room/parts" "$room/unlike" --columns a
-expect 0 '' '' equal "$room/parts" "$room/bare" --columns c
-expect 1 'row 3\n' '' equal "$room/bare" "$room/truths" --columns c
+expect 2 '' "nest: $room/bare: there is no column \"b\"" equal "$room/parts" "$room/bare" --columns b
+expect 2 '' "nest: $room/bare: there is no column \"b\"" equal "$room/bare" "$room/parts" --columns b
+expect 2 '' "nest: $room/bare: there is no column \"b\"" concat "$room/parts" "$room/bare" -o "$room/c" --columns b
 # Concatenations as a file, as a stream and on standard output; different schemas; an output that is an input.
 expect 0 '' '' concat "$room/file" "$room/parts" -o "$room/both"
 expect 0 "$all$all" '' rows "$room/both"

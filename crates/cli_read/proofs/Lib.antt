@@ -12,6 +12,7 @@ mod Buffers
 mod AllBatches
 mod SameBytes
 mod EqualFiles
+mod ProjectedNames
 mod Positions
 mod RowsAtIndices
 mod IndexedRows

@@ -10,7 +10,7 @@ use Rattle.ipc.specs.Streams.{RecordBatchTree}
 use Rattle.cli_args.specs.Requests.{RequestTree}
 use Rattle.cli_rows.specs.declared.error.BatchError.{BatchError}
 use Rattle.cli_rows.specs.declared.error.CliError.{CliError}
-use Rattle.cli_rows.specs.declared.error.CliError.TheVariants.{Input, Read, Write, MismatchedColumns, IndexOutOfRange, UnknownColumn, NotBoolean, Output, Memory}
+use Rattle.cli_rows.specs.declared.error.CliError.TheVariants.{Input, Read, Write, MismatchedColumns, IndexOutOfRange, UnknownColumn, NotBoolean, UnknownName, Output, Memory}
 use Rattle.cli_read.specs.Decoded.{Decoded, table_with}
 use Rattle.cli_read.specs.Printed.{FailsWhilePrinting, FailsWith, HasRowsToPrint, Prints, WritesText}
 use Rattle.cli_read.specs.Remaining.{FailsToReadNext, FailsToOpen, IsOpened, IsReadErrorOf, Remaining, ReturnsNext, StartsEmpty, with_schema}
@@ -85,6 +85,7 @@ fails-next MismatchedColumns q s t u k bs Earlier old new at h earlier = absurd 
 fails-next IndexOutOfRange q s t u k bs Earlier old new at h earlier = absurd h
 fails-next UnknownColumn q s t u k bs Earlier old new at h earlier = absurd h
 fails-next NotBoolean q s t u k bs Earlier old new at h earlier = absurd h
+fails-next (UnknownName i) q s t u k bs Earlier old new at h earlier = absurd h
 fails-next Output q s t u k bs Earlier old new at h earlier = absurd h
 fails-next Memory q s t u k bs Earlier old new at h earlier = absurd h
 
@@ -113,6 +114,7 @@ unopened-by MismatchedColumns q x old h = absurd h
 unopened-by IndexOutOfRange q x old h = absurd h
 unopened-by UnknownColumn q x old h = absurd h
 unopened-by NotBoolean q x old h = absurd h
+unopened-by (UnknownName i) q x old h = absurd h
 unopened-by Output q x old h = absurd h
 unopened-by Memory q x old h = absurd h
 

@@ -17,7 +17,7 @@ use Rattle.cli_rows.specs.Tables.{TableTree, record_rows}
 use Rattle.cli_rows.specs.Text.{text_of_rows}
 use Rattle.cli_rows.specs.declared.error.BatchError.{BatchError}
 use Rattle.cli_rows.specs.declared.error.CliError.{CliError}
-use Rattle.cli_rows.specs.declared.error.CliError.TheVariants.{Input, Read, Write, MismatchedColumns, IndexOutOfRange, UnknownColumn, NotBoolean, Output, Memory}
+use Rattle.cli_rows.specs.declared.error.CliError.TheVariants.{Input, Read, Write, MismatchedColumns, IndexOutOfRange, UnknownColumn, NotBoolean, UnknownName, Output, Memory}
 use Rattle.cli_rows.proofs.Resolved.{records-typed, resolved-error, resolved-rows}
 use Rattle.cli_read.specs.Decoded.{table_with}
 use Rattle.cli_read.specs.Printed.{FailsWhilePrinting, FailsWith, HasRowsToPrint, Prints, WritesText, WritesTextPrefix}
@@ -88,6 +88,7 @@ print-error UnknownColumn s q (Ok bs) h = sym (error-same s.fields q) ∙ h
 print-error UnknownColumn s q (Err error) h = absurd h
 print-error NotBoolean s q (Ok bs) h = sym (error-same s.fields q) ∙ h
 print-error NotBoolean s q (Err error) h = absurd h
+print-error (UnknownName i) s q read h = h
 print-error Memory s q read h = tt
 print-error Input s q read h = h
 print-error Output s q read h = h
@@ -103,6 +104,7 @@ fails-with MismatchedColumns s q read Earlier Before old new k h = (k h.0, print
 fails-with IndexOutOfRange s q read Earlier Before old new k h = (k h.0, print-error IndexOutOfRange s q read h.1)
 fails-with UnknownColumn s q read Earlier Before old new k h = (k h.0, print-error UnknownColumn s q read h.1)
 fails-with NotBoolean s q read Earlier Before old new k h = (k h.0, print-error NotBoolean s q read h.1)
+fails-with (UnknownName i) s q read Earlier Before old new k h = (k h.0, print-error (UnknownName i) s q read h.1)
 fails-with Memory s q read Earlier Before old new k h = (k h.0, tt)
 
 fails-at : (error : CliError) (batch : Option ℕ) (s : SchemaModel) (q : RequestTree) (t : Remaining) (old new : Option (List ℕ)) → FailsWhilePrinting (resolved_request s.fields q) (with_schema s t) batch error old new → FailsWhilePrinting q (with_schema s t) batch error old new

@@ -156,6 +156,7 @@ unplaced wanted t s state (causes.Write why) same has h = absurd h
 unplaced wanted t s state causes.MismatchedColumns same has h = absurd h
 unplaced wanted t s state causes.UnknownColumn same has h = absurd h
 unplaced wanted t s state causes.NotBoolean same has h = absurd h
+unplaced wanted t s state (causes.UnknownName i) same has h = absurd h
 unplaced wanted t s state causes.Input same has h = absurd h
 unplaced wanted t s state causes.Output same has h = absurd h
 
@@ -172,4 +173,5 @@ unopened wanted (Some x) (causes.Write why) h = absurd h
 unopened wanted (Some x) causes.MismatchedColumns h = absurd h
 unopened wanted (Some x) causes.UnknownColumn h = absurd h
 unopened wanted (Some x) causes.NotBoolean h = absurd h
+unopened wanted (Some x) (causes.UnknownName i) h = absurd h
 unopened wanted (Some x) causes.Output h = absurd h

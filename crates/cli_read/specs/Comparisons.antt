@@ -6,6 +6,7 @@ use Rattle.cli_rows.specs.Difference.{AreEqualUpTo}
 use Rattle.cli_rows.specs.Rows.{RowSlot}
 use Rattle.cli_read.specs.Decoded.{Decoded}
 use Rattle.cli_read.specs.Inputs.{decoded_input}
+use Rattle.cli_read.specs.ProjectedNames.{HasUnknown, StopsForName}
 use Rattle.cli_read.specs.declared.input.Input as inputs
 use Rattle.cli_rows.specs.Compared.{ComparesTables, IsRowsError, IsTableDifference, table_rows}
 use Rattle.cli_rows.specs.Tables.{TableTree}
@@ -71,7 +72,20 @@ ComparesInputs (Some s) (Some t) (Err (First stop)) = FailsIn stop.batch stop.er
 ComparesInputs (Some s) (Some t) (Err (Second stop)) = FailsInSecond stop.batch stop.error s t
 ComparesInputs (Some s) (Some t) (Err TooManyRows) = HaveTooManyRows s t
 
+-- the error has the first projected name that no column of an input has
+abbrev pub LacksComparedName : ProjectionModel → Decoded → Decoded → CompareError → Type 0
+LacksComparedName picks s t (First stop) = StopsForName picks (Some s) stop
+LacksComparedName picks s t (Second stop) = HasUnknown picks None s × StopsForName picks (Some t) stop
+LacksComparedName picks s t TooManyRows = ⊥
+
+-- the same of projected columns: each projected name is that of a column of both inputs, or the first that is not is the error
+abbrev pub ComparesColumns : ProjectionModel → Option Decoded → Option Decoded → Result (Option Difference) CompareError → Type 0
+ComparesColumns picks None t result = Unit {0}
+ComparesColumns picks (Some s) None result = Unit {0}
+ComparesColumns picks (Some s) (Some t) (Ok difference) = ComparesInputs (Some s) (Some t) (Ok difference) × HasUnknown picks None s × HasUnknown picks None t
+ComparesColumns picks (Some s) (Some t) (Err e) = ComparesInputs (Some s) (Some t) (Err e) ⊎ LacksComparedName picks s t e
+
 module _ {R S : Type 0} (remaining : R → Option (List ℕ)) (position : R → Option ℕ) (bytes : R → Option (List ℕ)) (remaining_s : S → Option (List ℕ)) (position_s : S → Option ℕ) (bytes_s : S → Option (List ℕ)) where
-  -- the same of the projected columns of two inputs
+  -- the result of comparing the projected columns of two inputs
   abbrev pub ComparesProjections : ProjectionModel → inputs.Input R → inputs.Input S → Result (Option Difference) CompareError → Type 0
-  ComparesProjections picks left right result = ComparesInputs (decoded_input remaining position bytes picks left) (decoded_input remaining_s position_s bytes_s picks right) result
+  ComparesProjections picks left right result = ComparesColumns picks (decoded_input remaining position bytes picks left) (decoded_input remaining_s position_s bytes_s picks right) result

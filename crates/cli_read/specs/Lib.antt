@@ -1,6 +1,7 @@
 pub mod Decoded
 pub mod RemainingRequests
 pub mod Printed
+pub mod ProjectedNames
 pub mod FirstBytes
 pub mod Remaining
 pub mod Inputs

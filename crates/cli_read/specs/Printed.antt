@@ -3,6 +3,7 @@ use Rattle.std.specs.Prelude.{◌≡◌, ◌⊎◌, ◌+◌, ℕ, ⊤, List, Opt
 use Rattle.std.specs.Io.KnownBytes.{Appends, Keeps}
 use Rattle.ipc_flatbuf.specs.declared.error.IpcReadError as formats
 use Rattle.ipc_io.specs.Writes.{WritesPrefix}
+use Rattle.ipc_schema.specs.Projections.{ProjectionModel}
 use Rattle.cli_args.specs.Requests.{RequestTree}
 use Rattle.cli_rows.specs.Tables.{TableTree}
 use Rattle.cli_rows.specs.Output.{HasTable, IsPrintError, printed_text}
@@ -11,6 +12,7 @@ use Rattle.cli_rows.specs.declared.error.CliError.{CliError}
 use Rattle.cli_rows.specs.declared.error.CliError.TheVariants.{Input, Output}
 use Rattle.cli_read.specs.RemainingRequests.{HasRequestedRows}
 use Rattle.cli_read.specs.Decoded.{Decoded}
+use Rattle.cli_read.specs.ProjectedNames.{HasUnknown, StopsForName}
 
 -- the request prints this text of a table
 abbrev pub HasText : RequestTree → TableTree → List ℕ → Type 0
@@ -54,3 +56,9 @@ abbrev pub Prints : RequestTree → Option Decoded → Result ⊤ BatchError →
 Prints q None result old new = Unit {0}
 Prints q (Some s) (Ok done) old new = (k : ℕ) × WritesText q (s.first k) old new × ((s.first k ≡ s.whole) ⊎ HasRowsToPrint q (s.first k))
 Prints q (Some s) (Err e) old new = FailsWhilePrinting q s e.batch e.error old new
+
+-- the same of projected columns: each projected name is that of a column, or the first that is not is the error, and nothing was written
+abbrev pub PrintsColumns : ProjectionModel → RequestTree → Option Decoded → Result ⊤ BatchError → Option (List ℕ) → Option (List ℕ) → Type 0
+PrintsColumns picks q None result old new = Unit {0}
+PrintsColumns picks q (Some s) (Ok done) old new = Prints q (Some s) (Ok done) old new × HasUnknown picks None s
+PrintsColumns picks q (Some s) (Err e) old new = Prints q (Some s) (Err e) old new ⊎ (StopsForName picks (Some s) e × Keeps old new)

@@ -3,7 +3,9 @@ use Rattle.std.specs.Prelude.{◌≡◌, ◌⊎◌, ◌+◌, ℕ, List, Option, 
 use Rattle.ipc_flatbuf.specs.declared.error.IpcReadError as formats
 use Rattle.ipc_flatbuf.specs.declared.error.IpcWriteError.{IpcWriteError}
 use Rattle.ipc.specs.EncodedStreams.{IsErrorOrMemory}
+use Rattle.ipc_schema.specs.Projections.{ProjectionModel}
 use Rattle.cli_read.specs.Decoded.{Decoded}
+use Rattle.cli_read.specs.ProjectedNames.{StopsForName}
 use Rattle.cli_rows.specs.declared.error.BatchError.{BatchError}
 use Rattle.cli_rows.specs.Selection.{selected_rows}
 use Rattle.cli_read.specs.Comparisons.{IsBatchReadError}
@@ -38,6 +40,10 @@ abbrev pub FailsToTake : List ℕ → Option Decoded → BatchError → Type 0
 FailsToTake wanted None stop = Unit {0}
 FailsToTake wanted (Some s) stop = IsTakeError wanted s stop.batch stop.error
 
+-- or the error has the first projected name that no column has
+abbrev pub FailsToTakeColumns : ProjectionModel → List ℕ → Option Decoded → BatchError → Type 0
+FailsToTakeColumns picks wanted x stop = FailsToTake wanted x stop ⊎ StopsForName picks x stop
+
 -- ---- as text and as bytes
 
 -- the text of the rows taken
@@ -45,13 +51,13 @@ abbrev pub TakesText : List ℕ → Option Decoded → List ℕ → Type 0
 TakesText wanted x text = (t : TableTree) × Takes wanted x t × (printed_text (rows all) (Ok t) ≡ Some text)
 
 -- or they are not taken, or have no text
-abbrev pub FailsToTakeText : List ℕ → Option Decoded → BatchError → Type 0
-FailsToTakeText wanted x stop = FailsToTake wanted x stop ⊎ ((t : TableTree) × Takes wanted x t × (stop.batch ≡ None) × IsRequestError stop.error (rows all) t)
+abbrev pub FailsToTakeText : ProjectionModel → List ℕ → Option Decoded → BatchError → Type 0
+FailsToTakeText picks wanted x stop = FailsToTakeColumns picks wanted x stop ⊎ ((t : TableTree) × Takes wanted x t × (stop.batch ≡ None) × IsRequestError stop.error (rows all) t)
 
 -- the bytes decode to the rows taken
 abbrev pub TakesBytes : forms.Format → List ℕ → Option Decoded → List ℕ → Type 0
 TakesBytes form wanted x bytes = (t : TableTree) × Takes wanted x t × IsEncodingOf form t bytes
 
 -- or they are not taken, or not written
-abbrev pub FailsToTakeBytes : forms.Format → List ℕ → Option Decoded → BatchError → Type 0
-FailsToTakeBytes form wanted x stop = FailsToTake wanted x stop ⊎ ((t : TableTree) × (why : IpcWriteError) × Takes wanted x t × (stop.batch ≡ None) × (stop.error ≡ Write why) × IsErrorOrMemory (write_refusal form t) why)
+abbrev pub FailsToTakeBytes : ProjectionModel → forms.Format → List ℕ → Option Decoded → BatchError → Type 0
+FailsToTakeBytes picks form wanted x stop = FailsToTakeColumns picks wanted x stop ⊎ ((t : TableTree) × (why : IpcWriteError) × Takes wanted x t × (stop.batch ≡ None) × (stop.error ≡ Write why) × IsErrorOrMemory (write_refusal form t) why)

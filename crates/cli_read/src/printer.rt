@@ -6,7 +6,7 @@ ghost use Rattle.ipc_schema.specs.Schemas.{SchemaModel, schema_of};
 ghost use Rattle.cli_args.specs.RequestTrees.{request_tree};
 ghost use Rattle.cli_rows.specs.Tables.{table_of_parts};
 ghost use Rattle.cli_read.specs.Inputs.{decoded_input};
-ghost use Rattle.cli_read.specs.Printed.{FailsToPrint, Prints, WritesText};
+ghost use Rattle.cli_read.specs.Printed.{FailsToPrint, Prints, PrintsColumns, WritesText};
 ghost use Rattle.cli_read.specs.Readers.{decoded_reader};
 ghost use Rattle.cli_read.specs.RemainingRequests.{IsRequestInRowOrder, batch_table, is_complete_request, remaining_request, table_row_count};
 
@@ -160,8 +160,8 @@ fn print_reader<R: SeekRead + Drop, W: Write>(
 /// batch are written before the next batch is read. No batch is read after the selected rows. Only the projected columns are read.
 ///
 /// # Errors
-/// Before any record batch: `Read` with the first error of the bytes in reading order; `UnknownColumn` if there is no column of the name
-/// of `Where`, and `NotBoolean` if the first one is not boolean. In a record batch, after the lines of the batches before it and no line
+/// Before any record batch: `Read` with the first error of the bytes in reading order; `UnknownName` with the first projected name that no
+/// column has; `UnknownColumn` if there is no column of the name of `Where`, and `NotBoolean` if the first one is not boolean. In a record batch, after the lines of the batches before it and no line
 /// of its own: `Read`; `MismatchedColumns` if its columns do not match the schema, or there is no column. `Input` if a read fails.
 /// `Output` if a write fails: a prefix of the lines was written. `Memory`, also in `Read`, if an allocation fails.
 pub fn print<R: SeekRead + Drop, W: Write>(
@@ -172,7 +172,8 @@ pub fn print<R: SeekRead + Drop, W: Write>(
     out: &mut W,
 ) -> Result<(), BatchError>
     requires { IsRequestInRowOrder (request_tree request) }
-    ensures { Prints (request_tree request) (decoded_input R.remaining R.stream_position R.stream_bytes (projection_of columns.entry) input) result (W.contents out.old) (W.contents out.new) }
+    ensures { let picks = projection_of columns.entry in
+        PrintsColumns picks (request_tree request) (decoded_input R.remaining R.stream_position R.stream_bytes picks input) result (W.contents out.old) (W.contents out.new) }
 {
     match open(alloc, columns, input) {
         Err(error) => {

@@ -1,15 +1,16 @@
 //! Record batches read one after another, of a stream or a file.
-ghost use Rattle.std.specs.Prelude.{◌≡◌, IfErr, IfOk, length, option_map};
+ghost use Rattle.std.specs.Prelude.{◌≡◌, IfErr, IfOk, OnOk, length, option_map};
 ghost use Rattle.ipc.specs.Streams.{record_batch_of};
 ghost use Rattle.ipc_schema.specs.Projections.{projection_of};
 ghost use Rattle.ipc_schema.specs.Schemas.{schema_of};
 ghost use Rattle.cli_read.specs.Inputs.{decoded_input};
+ghost use Rattle.cli_read.specs.ProjectedNames.{FailsToOpenColumns, HasNames};
 ghost use Rattle.cli_read.specs.Remaining.{FailsToReadNext, FailsToOpen, ReturnsNext};
 ghost use Rattle.cli_read.specs.Readers.{IsReaderOf, ReturnsBatch, reader_schema, remaining_batches, remaining_of_stream};
 ghost use Rattle.cli_read.specs.declared.reader.BatchReader.TheVariants.{File};
 
 use crate::input::Input;
-use cli_rows::CliError;
+use cli_rows::{CliError, first_unknown_name};
 use ipc::Batch;
 use ipc_io::{FileReader, SeekRead, StreamReader};
 use ipc_schema::{Projection, Schema};
@@ -25,11 +26,8 @@ pub enum BatchReader<R> {
     File(FileReader<R>, usize),
 }
 
-/// Opens an input and reads its schema. Only the projected columns are read.
-///
-/// # Errors
-/// `Read` with the first error of the bytes in reading order, which may be `Memory`. `Input` if a read fails.
-pub fn open<R: SeekRead + Drop>(
+/// Opens an input and reads its schema.
+fn open_reader<R: SeekRead + Drop>(
     alloc: Global,
     columns: Projection<'_>,
     input: Input<R>,
@@ -45,6 +43,32 @@ pub fn open<R: SeekRead + Drop>(
         Input::File(device) => match FileReader::with_projection(alloc, device, columns) {
             Ok(reader) => Ok(BatchReader::File(reader, 0)),
             Err(e) => Err(CliError::from(e)),
+        },
+    }
+}
+
+/// Opens an input and reads its schema. Only the projected columns are read.
+///
+/// # Errors
+/// `Read` with the first error of the bytes in reading order, which may be `Memory`. `Input` if a read fails. `UnknownName` with the first
+/// projected name that no column has.
+pub fn open<R: SeekRead + Drop>(
+    alloc: Global,
+    columns: Projection<'_>,
+    input: Input<R>,
+) -> Result<BatchReader<R>, CliError>
+    ensures opened { IfOk result (IsReaderOf R.remaining R.stream_position R.stream_bytes (projection_of columns.entry) input) }
+    ensures names { OnOk result (HasNames (projection_of columns.entry) (decoded_input R.remaining R.stream_position R.stream_bytes (projection_of columns.entry) input)) }
+    ensures error { IfErr result (λ e. FailsToOpenColumns (projection_of columns.entry) e (decoded_input R.remaining R.stream_position R.stream_bytes (projection_of columns.entry) input)) }
+{
+    match open_reader(alloc, columns, input) {
+        Err(error) => Err(error),
+        Ok(reader) => match first_unknown_name(columns, &reader.schema().fields) {
+            None => Ok(reader),
+            Some(name) => {
+                drop(reader);
+                Err(CliError::UnknownName(name))
+            }
         },
     }
 }

@@ -42,11 +42,11 @@ past-end (x ∷ fields) (suc i) h = past-end fields i (omega (arith, h))
 abbrev pub index_from : List ℕ → List Field → ℕ → Option ℕ
 index_from name fields i = option_map (λ k. i + k) (spec_column_index name (map field_of (drop i fields)))
 
-same-index : (o : Option ℕ) → o ≡ option_map (λ k. 0 + k) o
+pub same-index : (o : Option ℕ) → o ≡ option_map (λ k. 0 + k) o
 same-index None = refl
 same-index (Some k) = ap Some (omega arith)
 
-next-index : (i : ℕ) (o : Option ℕ) → option_map (λ k. i + k) (option_map suc o) ≡ option_map (λ k. i + 1 + k) o
+pub next-index : (i : ℕ) (o : Option ℕ) → option_map (λ k. i + k) (option_map suc o) ≡ option_map (λ k. i + 1 + k) o
 next-index i None = refl
 next-index i (Some k) = ap Some (omega arith)
 

@@ -6,6 +6,7 @@ mod OnlyOne
 mod Lines
 mod RecordArrays
 mod ByName
+mod UnknownNames
 pub mod BatchArrays
 pub mod SelectedBatches
 pub mod Resolved

@@ -18,7 +18,7 @@ use Rattle.cli_rows.specs.SelectedTables.{AreRowsOf}
 use Rattle.cli_rows.specs.Selection.{selected_rows}
 use Rattle.cli_rows.proofs.SelectedBatches.{both-all}
 
-under-suc : (o : Option ℕ) (i : ℕ) → option_map suc o ≡ Some i → (k : ℕ) × (o ≡ Some k) × (suc k ≡ i)
+pub under-suc : (o : Option ℕ) (i : ℕ) → option_map suc o ≡ Some i → (k : ℕ) × (o ≡ Some k) × (suc k ≡ i)
 under-suc None i e = absurd cc
 under-suc (Some k) i e = let is : suc k ≡ i = cc in (k, refl, is)
 

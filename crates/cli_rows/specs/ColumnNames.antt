@@ -1,7 +1,9 @@
 -- Columns by name and by index.
-use Rattle.std.specs.Prelude.{ℕ, zero, suc, List, [], ◌∷◌, bytes_eq, Option, Some, None, option_map, if◌then◌else◌}
+use Rattle.std.specs.Prelude.{ℕ, zero, suc, Bool, true, false, List, [], ◌∷◌, bytes_eq, Option, Some, None, option_map, if◌then◌else◌}
 use Rattle.nest_memory.specs.TypeTree.{FieldTree, field_type}
 use Rattle.json_write.specs.JsonText.{field_name}
+use Rattle.ipc_schema.specs.Projections as projections
+use Rattle.ipc_schema.specs.Projections.{ProjectionModel}
 use Rattle.cli_args.specs.Requests.{ColumnTree, SelectionTree, RequestTree, all, indexed, indices, named, columns, slice, rows, where_true}
 use Rattle.cli_rows.specs.Booleans.{spec_is_boolean}
 use Rattle.cli_rows.specs.declared.error.CliError.{CliError}
@@ -26,6 +28,22 @@ field_of_column (indexed i) fields = spec_field_at i fields
 abbrev pub spec_column_index : List ℕ → List FieldTree → Option ℕ
 spec_column_index name [] = None
 spec_column_index name (f ∷ fs) = if bytes_eq (field_name f) name then Some 0 else option_map suc (spec_column_index name fs)
+
+-- whether no field has a name
+abbrev pub lacks_name : List ℕ → List FieldTree → Bool
+lacks_name name [] = true
+lacks_name name (f ∷ fs) = if bytes_eq (field_name f) name then false else lacks_name name fs
+
+-- the first of some names that no field has, by its index among them
+abbrev pub unknown_name : List (List ℕ) → List FieldTree → Option ℕ
+unknown_name [] fields = None
+unknown_name (name ∷ names) fields = if lacks_name name fields then Some 0 else option_map suc (unknown_name names fields)
+
+-- that of the names of a projection
+abbrev pub unknown_projected_name : ProjectionModel → List FieldTree → Option ℕ
+unknown_projected_name projections.all fields = None
+unknown_projected_name (projections.at places) fields = None
+unknown_projected_name (projections.named names) fields = unknown_name names fields
 
 -- the error of a column that must be boolean
 abbrev pub spec_boolean_error : Option FieldTree → Option CliError

@@ -1,13 +1,15 @@
 //! Columns by name and by index.
 ghost use Rattle.std.specs.Prelude.{◌≡◌, map, option_map, string_bytes};
 ghost use Rattle.nest_memory.specs.TypeOf.{field_of, type_of};
+ghost use Rattle.ipc_schema.specs.Projections.{projection_of};
 ghost use Rattle.cli_args.specs.RequestTrees.{column_tree, request_tree, selection_tree};
 ghost use Rattle.cli_rows.specs.Booleans.{spec_is_boolean};
-ghost use Rattle.cli_rows.specs.ColumnNames.{field_of_column, resolved_column, resolved_request, resolved_selection, spec_boolean_error, spec_column_index, spec_field_at, spec_field_named, spec_selection_error};
+ghost use Rattle.cli_rows.specs.ColumnNames.{field_of_column, lacks_name, resolved_column, resolved_request, resolved_selection, spec_boolean_error, spec_column_index, spec_field_at, spec_field_named, spec_selection_error, unknown_name, unknown_projected_name};
 
 use crate::error::CliError;
-use crate::select::is_named;
+use crate::select::{is_called, is_named};
 use cli_args::{Column, Request, Selection};
+use ipc_schema::Projection;
 use nest_memory::datatypes::{DataType, Field, PhysicalType};
 
 /// Returns the first field of a name.
@@ -121,5 +123,40 @@ pub fn resolve_request(request: Request, fields: &[Field]) -> Request
     match request {
         Request::Columns => Request::Columns,
         Request::Rows(selection) => Request::Rows(resolve_selection(selection, fields)),
+    }
+}
+
+/// Returns whether no field has this name.
+fn is_lacking(name: &str, fields: &[Field]) -> bool
+    ensures { result ≡ lacks_name name.now (map field_of fields.now) }
+{
+    for field in fields {
+        if is_called(field, name) {
+            return false;
+        }
+    }
+    true
+}
+
+/// Returns the index of the first name that no field has.
+fn unknown_in(names: &[&str], fields: &[Field]) -> Option<usize>
+    ensures { result ≡ unknown_name (map (λ n. n.now) names.now) (map field_of fields.now) }
+{
+    for i in 0..names.len() {
+        if is_lacking(names[i], fields) {
+            return Some(i);
+        }
+    }
+    None
+}
+
+/// Returns the first name of a projection that no field has, by its index among the names.
+pub fn first_unknown_name(columns: Projection<'_>, fields: &[Field]) -> Option<usize>
+    ensures { result ≡ unknown_projected_name (projection_of columns.entry) (map field_of fields.now) }
+{
+    match columns {
+        Projection::All => None,
+        Projection::Indices(_) => None,
+        Projection::Names(names) => unknown_in(names, fields),
     }
 }

@@ -30,6 +30,9 @@ pub enum CliError {
     /// There is no column of a name.
     #[error("there is no column of that name")]
     UnknownColumn,
+    /// No column has a projected name. The number of the first such name, from 0.
+    #[error("there is no column of projected name {0}")]
+    UnknownName(usize),
     /// The first column of a name is not boolean.
     #[error("the column is not boolean")]
     NotBoolean,

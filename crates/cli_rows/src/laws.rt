@@ -1,9 +1,9 @@
 //! Examples and laws of selected rows, text and tables. Each function's contract is an example or a law, and its body is empty.
-ghost use Rattle.std.specs.Prelude.{◌≡◌, ◌++◌, ℕ, List, [], ◌∷◌, true, false, Ok, Option, Some, None, codes};
+ghost use Rattle.std.specs.Prelude.{◌≡◌, ◌++◌, ℕ, List, [], ◌∷◌, true, false, Ok, Option, Some, None, codes, get_or};
 ghost use Rattle.nest_memory.specs.TypeTree.{FieldTree};
 ghost use Rattle.cli_args.specs.Requests.{SelectionTree, all, columns, indexed, indices, named, rows, slice, where_true};
 ghost use Rattle.cli_rows.specs.ColumnExamples.{ok_and_id};
-ghost use Rattle.cli_rows.specs.ColumnNames.{request_error, resolved_selection, spec_selection_error};
+ghost use Rattle.cli_rows.specs.ColumnNames.{request_error, resolved_selection, spec_column_index, spec_selection_error, unknown_name};
 ghost use Rattle.cli_rows.specs.Compared.{IsTableDifference};
 ghost use Rattle.cli_rows.specs.Concatenated.{IsConcatenation};
 ghost use Rattle.cli_rows.specs.Difference.{AreEqualUpTo, IsDifference};
@@ -50,6 +50,19 @@ pub fn rows_where_true_are_selected()
     ensures column { selected_rows (where_true (named (codes "ok"))) (third ∷ first ∷ second ∷ null_record ∷ first ∷ []) ≡ Some (first ∷ first ∷ []) }
     ensures numbers { selected_rows (where_true (named (codes "id"))) three ≡ Some [] }
     ensures absent { selected_rows (where_true (named (codes "o"))) three ≡ Some [] }
+{}
+
+/// Of two columns: names of both, and twice; a name that is only the beginning of one, after one that has a column; an empty name.
+pub fn unknown_names_are_found()
+    ensures known { unknown_name (codes "id" ∷ codes "ok" ∷ codes "id" ∷ []) ok_and_id ≡ None }
+    ensures second { unknown_name (codes "ok" ∷ codes "o" ∷ codes "x" ∷ []) ok_and_id ≡ Some 1 }
+    ensures empty { unknown_name (codes "" ∷ codes "ok" ∷ []) ok_and_id ≡ Some 0 }
+    ensures none { unknown_name [] ok_and_id ≡ None }
+{}
+
+/// An unknown name is that of no column.
+pub fn unknown_names_have_no_column()
+    ensures { (names : List (List ℕ)) (fields : List FieldTree) (i : ℕ) → unknown_name names fields ≡ Some i → spec_column_index (get_or names i []) fields ≡ None }
 {}
 
 /// Columns of names `id` and `ok`, by their indices; an unknown name stays.

@@ -21,7 +21,7 @@ mod take;
 mod text;
 
 pub use batches::{batches_of_arrays, push_batch, selected_batches};
-pub use columns::{resolve_request, resolve_selection, selection_error};
+pub use columns::{first_unknown_name, resolve_request, resolve_selection, selection_error};
 pub use difference::{Difference, difference_text};
 pub use encoding::encode_table;
 pub use error::{BatchError, CliError};

@@ -44,6 +44,7 @@ held-why causes.MismatchedColumns c form front read h = absurd h
 held-why causes.IndexOutOfRange c form front read h = absurd h
 held-why causes.UnknownColumn c form front read h = absurd h
 held-why causes.NotBoolean c form front read h = absurd h
+held-why (causes.UnknownName i) c form front read h = absurd h
 
 next-stops : (error : CliError) (c : SelectionTree) (form : forms.Format) (front : List RecordBatchTree) (s : SchemaModel) (t u : Remaining) (k : ℕ) (bs : List RecordBatchTree) → IsAfter t k bs u → IsReadErrorOf error (u.first 1) → IsCopyError error c form front (table_with s (t.first (k + 1)))
 next-stops (causes.Read error) c form front s t u k bs at h = behind-error (causes.Read error) s t u k bs at (λ real. ap (table_with s) (h real))
@@ -55,11 +56,13 @@ next-stops causes.MismatchedColumns c form front s t u k bs at h = absurd h
 next-stops causes.IndexOutOfRange c form front s t u k bs at h = absurd h
 next-stops causes.UnknownColumn c form front s t u k bs at h = absurd h
 next-stops causes.NotBoolean c form front s t u k bs at h = absurd h
+next-stops (causes.UnknownName i) c form front s t u k bs at h = absurd h
 
 batch-stops : (error : CliError) (c : SelectionTree) (form : forms.Format) (front : List RecordBatchTree) (s : SchemaModel) (came : List RecordBatchTree) (b : RecordBatchTree) (k : ℕ) → IsInRowOrder c → IsBatchSelectionError error (remaining_selection c k) s.fields (b ∷ []) → IsCopyError error c form front (Ok (table_of_batches s (came ++ b ∷ [])))
 batch-stops (causes.Read error) c form front s came b k order h = λ real. absurd (h real)
 batch-stops causes.UnknownColumn c form front s came b k order h = sym (remaining-error c k s.fields) ∙ h
 batch-stops causes.NotBoolean c form front s came b k order h = sym (remaining-error c k s.fields) ∙ h
+batch-stops (causes.UnknownName i) c form front s came b k order h = absurd h
 batch-stops causes.MismatchedColumns c form front s came b k order h = λ fit. h (fits-last s.fields came (b ∷ []) fit)
 batch-stops causes.IndexOutOfRange c form front s came b k order h = no-place c k (batch_rows s.fields (b ∷ [])) order h
 batch-stops causes.Memory c form front s came b k order h = tt
@@ -77,6 +80,7 @@ part-stops causes.MismatchedColumns c form front s came went copy h = absurd h
 part-stops causes.IndexOutOfRange c form front s came went copy h = absurd h
 part-stops causes.UnknownColumn c form front s came went copy h = absurd h
 part-stops causes.NotBoolean c form front s came went copy h = absurd h
+part-stops (causes.UnknownName i) c form front s came went copy h = absurd h
 
 end-stops : (error : CliError) (c : SelectionTree) (form : forms.Format) (front : List RecordBatchTree) (s : SchemaModel) (came went : List RecordBatchTree) → IsCopy c (table_of_batches s came) (table_of_batches s went) → FailsFinish error form s (front ++ went) → IsCopyError error c form front (Ok (table_of_batches s came))
 end-stops (causes.Write why) c form front s came went copy h = (table_of_batches s went, copy, inl h)
@@ -88,6 +92,7 @@ end-stops causes.MismatchedColumns c form front s came went copy h = absurd h
 end-stops causes.IndexOutOfRange c form front s came went copy h = absurd h
 end-stops causes.UnknownColumn c form front s came went copy h = absurd h
 end-stops causes.NotBoolean c form front s came went copy h = absurd h
+end-stops (causes.UnknownName i) c form front s came went copy h = absurd h
 
 pub empty-refused : (form : forms.Format) (s : SchemaModel) (why : reasons.IpcWriteError) → IsErrorOrMemory (schema_error s) why → IsErrorOrMemory (write_refusal form (table_of_batches s [])) why
 empty-refused forms.TheVariants.Stream s why h = first_refused (schema_error s) (batches_error (column_types s) [] []) why h
@@ -103,10 +108,12 @@ schema-stops causes.MismatchedColumns c form s copy h = absurd h
 schema-stops causes.IndexOutOfRange c form s copy h = absurd h
 schema-stops causes.UnknownColumn c form s copy h = absurd h
 schema-stops causes.NotBoolean c form s copy h = absurd h
+schema-stops (causes.UnknownName i) c form s copy h = absurd h
 
 column-stops : (r : CliError) (c : SelectionTree) (form : forms.Format) (s : SchemaModel) → IsOfColumn r → spec_selection_error c s.fields ≡ Some r → IsCopyError r c form [] (Ok (table_of_batches s []))
 column-stops causes.UnknownColumn c form s is h = h
 column-stops causes.NotBoolean c form s is h = h
+column-stops (causes.UnknownName i) c form s is h = absurd is
 column-stops (causes.Read error) c form s is h = absurd is
 column-stops (causes.Write why) c form s is h = absurd is
 column-stops causes.MismatchedColumns c form s is h = absurd is
@@ -125,6 +132,7 @@ part-of causes.MismatchedColumns form s went b more all e h = absurd h
 part-of causes.IndexOutOfRange form s went b more all e h = absurd h
 part-of causes.UnknownColumn form s went b more all e h = absurd h
 part-of causes.NotBoolean form s went b more all e h = absurd h
+part-of (causes.UnknownName i) form s went b more all e h = absurd h
 
 read-stops : (error : CliError) (c : SelectionTree) (form : forms.Format) (front : List RecordBatchTree) (s : SchemaModel) (read : Result (List RecordBatchTree) formats.IpcReadError) (bs : List RecordBatchTree) → read ≡ Ok bs → IsCopyError error c form front (Ok (table_of_batches s bs)) → IsCopyError error c form front (table_with s read)
 read-stops error c form front s read bs e h = subst (λ (r : Result (List RecordBatchTree) formats.IpcReadError). IsCopyError error c form front (table_with s r)) (sym e) h

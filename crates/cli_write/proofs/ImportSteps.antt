@@ -118,6 +118,7 @@ unwritten-lines looks.MismatchedColumns fs form lines first others h e holds f =
 unwritten-lines looks.IndexOutOfRange fs form lines first others h e holds f = absurd f
 unwritten-lines looks.UnknownColumn fs form lines first others h e holds f = absurd f
 unwritten-lines looks.NotBoolean fs form lines first others h e holds f = absurd f
+unwritten-lines (looks.UnknownName i) fs form lines first others h e holds f = absurd f
 unwritten-lines looks.Memory fs form lines first others h e holds f = absurd f
 
 fails-more : (error : CliError) (P Q : _ → Type 0) → ((why : _) → P why → Q why) → FailsWrite error P → FailsWrite error Q
@@ -129,6 +130,7 @@ fails-more looks.MismatchedColumns P Q f h = absurd h
 fails-more looks.IndexOutOfRange P Q f h = absurd h
 fails-more looks.UnknownColumn P Q f h = absurd h
 fails-more looks.NotBoolean P Q f h = absurd h
+fails-more (looks.UnknownName i) P Q f h = absurd h
 fails-more looks.Memory P Q f h = absurd h
 
 pub stops-begin : (error : CliError) (s : SchemaModel) (form : Format) (all : Option (List ℕ)) → s.metadata ≡ [] → FailsSchema error (schema_error s) → FailsImport (import_error error) s.fields form all

@@ -2,6 +2,7 @@ mod ConcatSteps
 pub mod Lists
 mod Writers
 pub mod CopySteps
+mod ProjectedNames
 mod Resolved
 mod UnreadBytes
 mod ParsedLines

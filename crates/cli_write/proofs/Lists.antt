@@ -96,6 +96,7 @@ picked-copied (indices places) fs bs vs other e = e
 abbrev pub IsOfColumn : CliError → Type 0
 IsOfColumn causes.UnknownColumn = Unit {0}
 IsOfColumn causes.NotBoolean = Unit {0}
+IsOfColumn (causes.UnknownName i) = ⊥
 IsOfColumn (causes.Read error) = ⊥
 IsOfColumn (causes.Write why) = ⊥
 IsOfColumn causes.MismatchedColumns = ⊥
@@ -124,6 +125,7 @@ column-fails error c fs bs e = by error (of-column c fs error e) e
     by : (f : CliError) → IsOfColumn f → spec_selection_error c fs ≡ Some f → IsBatchSelectionError f c fs bs
     by causes.UnknownColumn is e = e
     by causes.NotBoolean is e = e
+    by (causes.UnknownName i) is e = absurd is
     by (causes.Read error) is e = absurd is
     by (causes.Write why) is e = absurd is
     by causes.MismatchedColumns is e = absurd is
@@ -140,6 +142,7 @@ rows-fail (causes.Write why) c s b e = e
 rows-fail causes.IndexOutOfRange c s b e = absurd e
 rows-fail causes.UnknownColumn c s b e = absurd e
 rows-fail causes.NotBoolean c s b e = absurd e
+rows-fail (causes.UnknownName i) c s b e = absurd e
 rows-fail causes.Input c s b e = e
 rows-fail causes.Output c s b e = e
 
@@ -151,6 +154,7 @@ index-fails (causes.Write why) c fs bs rows same e = e
 index-fails causes.MismatchedColumns c fs bs rows same e = absurd e
 index-fails causes.UnknownColumn c fs bs rows same e = absurd e
 index-fails causes.NotBoolean c fs bs rows same e = absurd e
+index-fails (causes.UnknownName i) c fs bs rows same e = absurd e
 index-fails causes.Input c fs bs rows same e = e
 index-fails causes.Output c fs bs rows same e = e
 

@@ -15,7 +15,7 @@ use Rattle.cli_rows.specs.Selection.{selected_rows}
 use Rattle.cli_rows.specs.Tables.{TableTree}
 use Rattle.cli_rows.specs.declared.error.BatchError.{BatchError}
 use Rattle.cli_rows.specs.declared.error.CliError.{CliError}
-use Rattle.cli_rows.specs.declared.error.CliError.TheVariants.{Input, Read, Write, MismatchedColumns, IndexOutOfRange, UnknownColumn, NotBoolean, Output, Memory}
+use Rattle.cli_rows.specs.declared.error.CliError.TheVariants.{Input, Read, Write, MismatchedColumns, IndexOutOfRange, UnknownColumn, NotBoolean, UnknownName, Output, Memory}
 use Rattle.cli_rows.proofs.Resolved.{resolved-error, resolved-rows, rows-typed}
 use Rattle.cli_rows.proofs.SelectedBatches.{held-each}
 use Rattle.cli_read.specs.Decoded.{table_with}
@@ -80,6 +80,7 @@ copy-error UnknownColumn form front s c (Ok bs) h = sym (resolved-error s.fields
 copy-error UnknownColumn form front s c (Err error) h = absurd h
 copy-error NotBoolean form front s c (Ok bs) h = sym (resolved-error s.fields c) ∙ h
 copy-error NotBoolean form front s c (Err error) h = absurd h
+copy-error (UnknownName i) form front s c read h = h
 copy-error MismatchedColumns form front s c read h = h
 copy-error IndexOutOfRange form front s c read h = h
 copy-error Memory form front s c read h = tt

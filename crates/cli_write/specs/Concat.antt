@@ -1,9 +1,11 @@
 -- Inputs concatenated.
-use Rattle.std.specs.Prelude.{◌≡◌, ◌++◌, ℕ, List, [], Option, Some, None, Ok}
+use Rattle.std.specs.Prelude.{◌≡◌, ◌⊎◌, ◌++◌, ℕ, List, [], Option, Some, None, Ok}
 use Rattle.std.specs.Io.KnownBytes.{Appends}
 use Rattle.ipc.specs.Streams.{RecordBatchTree}
+use Rattle.ipc_schema.specs.Projections.{ProjectionModel}
 use Rattle.ipc_schema.specs.Schemas.{SchemaModel}
 use Rattle.cli_read.specs.Decoded.{Decoded}
+use Rattle.cli_read.specs.ProjectedNames.{StopsForName}
 use Rattle.cli_read.specs.Remaining.{Remaining}
 use Rattle.cli_rows.specs.Concatenated.{DecodedTables, EncodesConcatenation}
 use Rattle.cli_rows.specs.Output.{HasTable}
@@ -47,6 +49,11 @@ IsAppendError e form s went None = Unit {0}
 IsAppendError Schema form s went (Some x) = HasTable (x.first 0) (λ h. h.schema ≡ s → ⊥)
 IsAppendError (Batch stop) form s went (Some x) = FailsWhileCopying all form went x stop.batch stop.error × HasSchema stop.batch s x
 
+-- the error has the first projected name that no column has
+abbrev pub LacksAppendedName : ProjectionModel → Option Decoded → AppendError → Type 0
+LacksAppendedName picks x Schema = ⊥
+LacksAppendedName picks x (Batch stop) = StopsForName picks x stop
+
 module _ {W : Type 0} (contents : W → Option (List ℕ)) where
   -- the record batches of an input were written after those of the writer, whose schema it has
   abbrev pub IsAppended : Option Decoded → BatchWriter W → BatchWriter W → Type 0
@@ -55,6 +62,10 @@ module _ {W : Type 0} (contents : W → Option (List ℕ)) where
   -- or this is why not
   abbrev pub FailsToAppend : Option Decoded → BatchWriter W → AppendError → Type 0
   FailsToAppend x old e = (form : forms.Format) (start : W) (s : SchemaModel) (went : List RecordBatchTree) → HasWritten contents form start s went old → IsAppendError e form s went x
+
+  -- or no column has a projected name
+  abbrev pub FailsToAppendColumns : ProjectionModel → Option Decoded → BatchWriter W → AppendError → Type 0
+  FailsToAppendColumns picks x old e = FailsToAppend x old e ⊎ LacksAppendedName picks x e
 
 -- bytes were written that decode to the concatenation of inputs
 abbrev pub WritesConcatenation : forms.Format → DecodedTables → Option (List ℕ) → Option (List ℕ) → Type 0

@@ -7,11 +7,13 @@ use Rattle.ipc_flatbuf.specs.ReadResults.{FailsOrRunsOut}
 use Rattle.ipc_flatbuf.specs.declared.error.IpcReadError as formats
 use Rattle.ipc_flatbuf.specs.declared.error.IpcWriteError.{IpcWriteError}
 use Rattle.ipc_flatbuf.specs.declared.error.IpcWriteError.TheVariants.{Size}
+use Rattle.ipc_schema.specs.Projections.{ProjectionModel}
 use Rattle.ipc.specs.Streams.{RecordBatchTree}
 use Rattle.ipc.specs.EncodedStreams.{IsErrorOrMemory}
 use Rattle.ipc.specs.EncodedFiles.{encoded_file}
 use Rattle.cli_rows.specs.ColumnNames.{spec_selection_error}
 use Rattle.cli_read.specs.Decoded.{Decoded}
+use Rattle.cli_read.specs.ProjectedNames.{HasUnknown, StopsForName}
 use Rattle.cli_rows.specs.declared.error.BatchError.{BatchError}
 use Rattle.cli_rows.specs.Compared.{batch_arrays, table_rows}
 use Rattle.cli_rows.specs.Encodings.{IsEncodingOf, write_refusal}
@@ -19,7 +21,7 @@ use Rattle.cli_rows.specs.Tables.{TableTree}
 use Rattle.cli_rows.specs.Output.{HasTable}
 use Rattle.cli_rows.specs.SelectedTables.{IsSelectedFrom}
 use Rattle.cli_rows.specs.declared.error.CliError.{CliError}
-use Rattle.cli_rows.specs.declared.error.CliError.TheVariants.{Input, Read, Write, MismatchedColumns, IndexOutOfRange, UnknownColumn, NotBoolean, Output, Memory}
+use Rattle.cli_rows.specs.declared.error.CliError.TheVariants.{Input, Read, Write, MismatchedColumns, IndexOutOfRange, UnknownColumn, NotBoolean, UnknownName, Output, Memory}
 use Rattle.cli_args.specs.Requests.{SelectionTree, all, slice, indices, where_true}
 use Rattle.cli_args.specs.declared.format.Format as forms
 use Rattle.cli_args.specs.declared.format.Format.TheVariants.{File, Stream}
@@ -68,6 +70,7 @@ IsCopyError (Read error) c form front read = FailsOrRunsOut error read
 IsCopyError (Write why) c form front read = HasTable read (λ h. (t : TableTree) × IsCopy c h t × IsWriteRefusal form (after_batches front t) why)
 IsCopyError UnknownColumn c form front read = HasTable read (λ h. spec_selection_error c h.schema.fields ≡ Some UnknownColumn)
 IsCopyError NotBoolean c form front read = HasTable read (λ h. spec_selection_error c h.schema.fields ≡ Some NotBoolean)
+IsCopyError (UnknownName i) c form front read = ⊥
 IsCopyError MismatchedColumns c form front read = HasTable read (λ h. AllByRecursion Fits (batch_arrays h) → ⊥)
 IsCopyError IndexOutOfRange c form front read = ⊥
 IsCopyError Memory c form front read = Unit {0}
@@ -84,3 +87,9 @@ abbrev pub Copies : {W : Type 0} → (W → Option (List ℕ)) → forms.Format 
 Copies contents form c None start result = Unit {0}
 Copies contents form c (Some s) start (Ok end) = (k : ℕ) × WritesCopy c form (s.first k) (contents start) (contents end) × HasSufficientBatches c s k
 Copies contents form c (Some s) start (Err stop) = FailsWhileCopying c form [] s stop.batch stop.error
+
+-- the same of projected columns: each projected name is that of a column, or the first that is not is the error
+abbrev pub CopiesColumns : {W : Type 0} → (W → Option (List ℕ)) → ProjectionModel → forms.Format → SelectionTree → Option Decoded → W → Result W BatchError → Type 0
+CopiesColumns contents picks form c None start result = Unit {0}
+CopiesColumns contents picks form c (Some s) start (Ok end) = Copies contents form c (Some s) start (Ok end) × HasUnknown picks None s
+CopiesColumns contents picks form c (Some s) start (Err stop) = Copies contents form c (Some s) start (Err stop) ⊎ StopsForName picks (Some s) stop

@@ -90,6 +90,7 @@ import_error looks.MismatchedColumns = causes.Output
 import_error looks.IndexOutOfRange = causes.Output
 import_error looks.UnknownColumn = causes.Output
 import_error looks.NotBoolean = causes.Output
+import_error (looks.UnknownName i) = causes.Output
 import_error looks.Output = causes.Output
 
 -- a schema of these fields without metadata

@@ -10,7 +10,7 @@ use Rattle.cli_rows.specs.Selection.{selected_rows}
 use Rattle.cli_rows.specs.Compared.{batch_array}
 use Rattle.cli_rows.specs.SelectedTables.{batch_rows}
 use Rattle.cli_rows.specs.declared.error.CliError.{CliError}
-use Rattle.cli_rows.specs.declared.error.CliError.TheVariants.{Input, Read, Write, MismatchedColumns, IndexOutOfRange, UnknownColumn, NotBoolean, Output, Memory}
+use Rattle.cli_rows.specs.declared.error.CliError.TheVariants.{Input, Read, Write, MismatchedColumns, IndexOutOfRange, UnknownColumn, NotBoolean, UnknownName, Output, Memory}
 use Rattle.cli_args.specs.Requests.{SelectionTree, all, slice, indices, where_true}
 
 -- the rows of these record batches are the selected ones of others
@@ -28,6 +28,7 @@ AreSelectedBatches (indices places) fs bs vs = AreSelectedRows (indices places) 
 abbrev pub IsBatchSelectionError : CliError → SelectionTree → List FieldTree → List RecordBatchTree → Type 0
 IsBatchSelectionError UnknownColumn c fs bs = spec_selection_error c fs ≡ Some UnknownColumn
 IsBatchSelectionError NotBoolean c fs bs = spec_selection_error c fs ≡ Some NotBoolean
+IsBatchSelectionError (UnknownName i) c fs bs = ⊥
 IsBatchSelectionError MismatchedColumns c fs bs = AllByRecursion Fits (map (batch_array fs) bs) → ⊥
 IsBatchSelectionError IndexOutOfRange c fs bs = selected_rows c (batch_rows fs bs) ≡ None
 IsBatchSelectionError (Read error) c fs bs = (error ≡ formats.Memory → ⊥) → ⊥

@@ -3,10 +3,11 @@ ghost use Rattle.std.specs.Prelude.{◌≡◌, [], Err, IfErr, IfOk, IsSome, OnO
 ghost use Rattle.ipc_schema.specs.Projections.{projection_of};
 ghost use Rattle.cli_args.specs.Requests.{all};
 ghost use Rattle.cli_read.specs.Inputs.{decoded_input};
+ghost use Rattle.cli_read.specs.ProjectedNames.{HasNames};
 ghost use Rattle.cli_read.specs.Readers.{decoded_reader, reader_schema, remaining_batches};
-ghost use Rattle.cli_write.specs.Concat.{FailsToAppend, IsAppended, IsBeforeBatches, WritesFirst, WritesRemaining};
+ghost use Rattle.cli_write.specs.Concat.{FailsToAppend, FailsToAppendColumns, IsAppended, IsBeforeBatches, WritesFirst, WritesRemaining};
 ghost use Rattle.cli_write.specs.ConcatSteps.{AppendsRemaining, FailsToAppendRemaining};
-ghost use Rattle.cli_write.specs.Copies.{Copies};
+ghost use Rattle.cli_write.specs.Copies.{Copies, CopiesColumns};
 
 use crate::copier::{Progress, copy_all};
 use crate::writer::{BatchWriter, begin_writer};
@@ -89,7 +90,9 @@ pub fn begin_concat<R: SeekRead + Drop, W: Write + Drop, P: Progress>(
     progress: &mut P,
 ) -> Result<BatchWriter<W>, BatchError>
     ensures put { IfOk result (WritesFirst W.contents format (decoded_input R.remaining R.stream_position R.stream_bytes (projection_of columns.entry) input) out) }
-    ensures error { IfErr result (λ e. Copies W.contents format all (decoded_input R.remaining R.stream_position R.stream_bytes (projection_of columns.entry) input) out (Err e)) }
+    ensures names { OnOk result (HasNames (projection_of columns.entry) (decoded_input R.remaining R.stream_position R.stream_bytes (projection_of columns.entry) input)) }
+    ensures error { let picks = projection_of columns.entry in
+        IfErr result (λ e. CopiesColumns W.contents picks format all (decoded_input R.remaining R.stream_position R.stream_bytes picks input) out (Err e)) }
 {
     match open(alloc, columns, input) {
         Err(error) => {
@@ -136,7 +139,9 @@ pub fn append<R: SeekRead + Drop, W: Write + Drop, P: Progress>(
 ) -> Result<(), AppendError>
     ensures put { OnOk result (IsAppended W.contents (decoded_input R.remaining R.stream_position R.stream_bytes (projection_of columns.entry) input) writer.old writer.new) }
     ensures same { IfErr result (λ e. IsBeforeBatches e → writer.new ≡ writer.old) }
-    ensures error { IfErr result (FailsToAppend W.contents (decoded_input R.remaining R.stream_position R.stream_bytes (projection_of columns.entry) input) writer.old) }
+    ensures names { OnOk result (HasNames (projection_of columns.entry) (decoded_input R.remaining R.stream_position R.stream_bytes (projection_of columns.entry) input)) }
+    ensures error { let picks = projection_of columns.entry in
+        IfErr result (FailsToAppendColumns W.contents picks (decoded_input R.remaining R.stream_position R.stream_bytes picks input) writer.old) }
 {
     match open(alloc, columns, input) {
         Err(error) => Err(AppendError::Batch(BatchError { batch: None, error })),

@@ -8,7 +8,7 @@ ghost use Rattle.cli_rows.specs.RowOrder.{IsInRowOrder, remaining_selection};
 ghost use Rattle.cli_rows.specs.SelectedTables.{batch_rows};
 ghost use Rattle.cli_read.specs.Inputs.{decoded_input};
 ghost use Rattle.cli_read.specs.Readers.{decoded_reader, reader_schema};
-ghost use Rattle.cli_write.specs.Copies.{Copies};
+ghost use Rattle.cli_write.specs.Copies.{Copies, CopiesColumns};
 ghost use Rattle.cli_write.specs.CopyStates.{FailsToWriteSelection, WritesSelection};
 ghost use Rattle.cli_write.specs.CopySteps.{CopiesAll, CopiesNext, Ends, FailsToCopyAll, FailsToCopyNext};
 
@@ -193,8 +193,9 @@ fn copy_reader<R: SeekRead + Drop, W: Write + Drop, P: Progress>(
 /// rows. Only the projected columns are read.
 ///
 /// # Errors
-/// Before any record batch: `Read` with the first error of the bytes in reading order; `UnknownColumn` if there is no column of the name
-/// of `Where`, and `NotBoolean` if the first one is not boolean; `Write` if the schema cannot be written. In a record batch: `Read`;
+/// Before any record batch: `Read` with the first error of the bytes in reading order; `UnknownName` with the first projected name that no
+/// column has; `UnknownColumn` if there is no column of the name of `Where`, and `NotBoolean` if the first one is not boolean; `Write` if
+/// the schema cannot be written. In a record batch: `Read`;
 /// `MismatchedColumns` if its columns do not match the schema, unless all rows are selected; `Write` with the first reason why the
 /// selected rows up to it cannot be written, or the end after the last one. `Input` if a read fails, `Output` if a write fails. `Memory`,
 /// also in `Read` and `Write`, if an allocation fails. A prefix of the bytes may have been written then.
@@ -208,7 +209,8 @@ pub fn copy<R: SeekRead + Drop, W: Write + Drop, P: Progress>(
     progress: &mut P,
 ) -> Result<W, BatchError>
     requires { IsInRowOrder (selection_tree selection) }
-    ensures { Copies W.contents format (selection_tree selection) (decoded_input R.remaining R.stream_position R.stream_bytes (projection_of columns.entry) input) out result }
+    ensures { let picks = projection_of columns.entry in
+        CopiesColumns W.contents picks format (selection_tree selection) (decoded_input R.remaining R.stream_position R.stream_bytes picks input) out result }
 {
     match open(alloc, columns, input) {
         Err(error) => {

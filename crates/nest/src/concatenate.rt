@@ -103,6 +103,7 @@ fn concat_inputs<'a, W: Write + Drop>(
 
 fn report_concat(
     rt: &HostRuntime,
+    columns: Projection<'_>,
     first: &str,
     out: &str,
     done: Result<(), ConcatError<'_>>,
@@ -114,7 +115,7 @@ fn report_concat(
             failed()
         }
         Err(ConcatError::End(error)) => report(rt, out, &error),
-        Err(ConcatError::Input(file, error)) => report_written(rt, file, out, error),
+        Err(ConcatError::Input(file, error)) => report_written(rt, columns, file, out, error),
     }
 }
 
@@ -140,7 +141,7 @@ fn concat_to_file(
             };
             let done = concat_inputs(rt, columns, first, others, output);
             match settle(rt, out, place, done.is_ok()) {
-                Ok(()) => report_concat(rt, name, out, done),
+                Ok(()) => report_concat(rt, columns, name, out, done),
                 Err(code) => {
                     drop(done);
                     code
@@ -173,7 +174,7 @@ pub fn concat(rt: &HostRuntime, columns: Projection<'_>, files: &[&str], out: &s
                 drop(done);
                 return ExitCode::SUCCESS;
             }
-            report_concat(rt, first, out, done)
+            report_concat(rt, columns, first, out, done)
         }
     }
 }

@@ -43,13 +43,14 @@ fn copy_input<W: Write + Drop>(
 /// Reports the result of a copy.
 fn report_copy(
     rt: &HostRuntime,
+    columns: Projection<'_>,
     file: &str,
     out: &str,
     copied: Result<(), BatchError>,
 ) -> ExitCode {
     match copied {
         Ok(()) => ExitCode::SUCCESS,
-        Err(error) => report_written(rt, file, out, InputError::Batch(error)),
+        Err(error) => report_written(rt, columns, file, out, InputError::Batch(error)),
     }
 }
 
@@ -78,7 +79,7 @@ fn copy_to_file(
             };
             let copied = copy_input(rt, columns, selection, input, output);
             match settle(rt, out, place, copied.is_ok()) {
-                Ok(()) => report_copy(rt, file, out, copied),
+                Ok(()) => report_copy(rt, columns, file, out, copied),
                 Err(code) => code,
             }
         }
@@ -114,7 +115,7 @@ pub fn copy_file(
             if writer.is_closed() {
                 return ExitCode::SUCCESS;
             }
-            report_copy(rt, file, out, copied)
+            report_copy(rt, columns, file, out, copied)
         }
     }
 }

@@ -3,6 +3,7 @@ use crate::input::OpenError;
 use crate::output::StandardOutput;
 use cli_read::CompareError;
 use cli_rows::{BatchError, CliError, Difference, difference_text, write_output};
+use ipc_schema::Projection;
 use std::fmt::Display;
 use std::io;
 use std::io::ErrorKind;
@@ -46,23 +47,53 @@ pub fn report<E: Display>(rt: &HostRuntime, file: &str, error: &E) -> ExitCode {
     failed()
 }
 
+/// Reports an error in a record batch, or before the record batches. A projected name that no column has is printed.
+fn report_batch(
+    rt: &HostRuntime,
+    columns: Projection<'_>,
+    file: &str,
+    error: &BatchError,
+) -> ExitCode {
+    if let CliError::UnknownName(index) = error.error {
+        if let Projection::Names(names) = columns {
+            if index < names.len() {
+                let name = names[index];
+                let _ = eprintln!(rt; "nest: {file}: there is no column \"{name}\"");
+                return failed();
+            }
+        }
+    }
+    report(rt, file, error)
+}
+
 /// Reports an error of an input.
-pub fn report_input(rt: &HostRuntime, file: &str, error: InputError) -> ExitCode {
+pub fn report_input(
+    rt: &HostRuntime,
+    columns: Projection<'_>,
+    file: &str,
+    error: InputError,
+) -> ExitCode {
     match error {
         InputError::Open(error) => report(rt, file, &error),
-        InputError::Batch(error) => report(rt, file, &error),
+        InputError::Batch(error) => report_batch(rt, columns, file, &error),
     }
 }
 
 /// Reports an error of an input that is written to an output. The output is named if a write failed.
-pub fn report_written(rt: &HostRuntime, file: &str, out: &str, error: InputError) -> ExitCode {
+pub fn report_written(
+    rt: &HostRuntime,
+    columns: Projection<'_>,
+    file: &str,
+    out: &str,
+    error: InputError,
+) -> ExitCode {
     match error {
         InputError::Open(error) => report(rt, file, &error),
         InputError::Batch(error) => {
             if error.error == CliError::Output {
                 return report(rt, out, &CliError::Output);
             }
-            report(rt, file, &error)
+            report_batch(rt, columns, file, &error)
         }
     }
 }
@@ -94,14 +125,15 @@ fn print_difference(rt: &HostRuntime, file: &str, difference: Difference) -> Exi
 /// Prints the result of a comparison, or reports its error.
 pub fn print_comparison(
     rt: &HostRuntime,
+    columns: Projection<'_>,
     files: (&str, &str),
     compared: Result<Option<Difference>, CompareError>,
 ) -> ExitCode {
     match compared {
         Ok(None) => ExitCode::SUCCESS,
         Ok(Some(difference)) => print_difference(rt, files.0, difference),
-        Err(CompareError::First(error)) => report(rt, files.0, &error),
-        Err(CompareError::Second(error)) => report(rt, files.1, &error),
+        Err(CompareError::First(error)) => report_batch(rt, columns, files.0, &error),
+        Err(CompareError::Second(error)) => report_batch(rt, columns, files.1, &error),
         Err(CompareError::TooManyRows) => {
             let file = files.0;
             let _ = eprintln!(rt; "nest: {file}: more than 2^64 rows are equal");

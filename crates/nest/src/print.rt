@@ -49,12 +49,13 @@ fn print_fields<W: Write>(
 /// Reports the result of printing. If nothing reads standard output any more, that is no error.
 fn report_printed<W>(
     rt: &HostRuntime,
+    columns: Projection<'_>,
     file: &str,
     printed: Result<(), InputError>,
     out: &StandardOutput<W>,
 ) -> ExitCode {
     match printed {
-        Err(error) if !out.is_closed() => report_input(rt, file, error),
+        Err(error) if !out.is_closed() => report_input(rt, columns, file, error),
         _ => ExitCode::SUCCESS,
     }
 }
@@ -68,14 +69,14 @@ pub fn print_rows(
 ) -> ExitCode {
     let mut out = StandardOutput::new(io::writer(rt));
     let printed = print_selection(rt, columns, file, selection, &mut out);
-    report_printed(rt, file, printed, &out)
+    report_printed(rt, columns, file, printed, &out)
 }
 
 /// Prints the schema of a file.
 pub fn print_schema(rt: &HostRuntime, columns: Projection<'_>, file: &str) -> ExitCode {
     let mut out = StandardOutput::new(io::writer(rt));
     let printed = print_fields(rt, columns, file, &mut out);
-    report_printed(rt, file, printed, &out)
+    report_printed(rt, columns, file, printed, &out)
 }
 
 /// Compares two files.
@@ -89,7 +90,7 @@ pub fn equal(rt: &HostRuntime, columns: Projection<'_>, file: &str, other: &str)
             }
             Ok(right) => {
                 let compared = compare(rt.alloc(), columns, left, right);
-                print_comparison(rt, (file, other), compared)
+                print_comparison(rt, columns, (file, other), compared)
             }
         },
     }

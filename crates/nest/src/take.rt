@@ -81,7 +81,7 @@ pub fn write_taken(
     out: &str,
 ) -> ExitCode {
     match taken_bytes(rt, columns, file, indices, out) {
-        Err(error) => report_input(rt, file, error),
+        Err(error) => report_input(rt, columns, file, error),
         Ok(bytes) if out == "-" => write_stdout(rt, out, &bytes),
         Ok(bytes) => write_file(rt, out, &bytes),
     }

@@ -42,7 +42,10 @@ fn rows_are_selected(rt: HostRuntime) -> Result<(), Fail> {
         (["rows", "f", "--start", "0"].as_slice(), all),
         (["rows", "--start=3", "f"].as_slice(), Some((3, usize::MAX))),
         (["rows", "f", "--count", "4"].as_slice(), Some((0, 4))),
-        (["rows", "--count=4", "f", "--start=3"].as_slice(), Some((3, 4))),
+        (
+            ["rows", "--count=4", "f", "--start=3"].as_slice(),
+            Some((3, 4)),
+        ),
         (["head", "f"].as_slice(), Some((0, 10))),
         (["head", "f", "3"].as_slice(), Some((0, 3))),
         (["slice", "f", "1", "2"].as_slice(), Some((1, 2))),
@@ -86,7 +89,10 @@ fn files_of(alloc: Global, arguments: &[&str]) -> Result<String, Fail> {
 fn commands_have_files(rt: HostRuntime) -> Result<(), Fail> {
     for (arguments, want) in [
         (["schema", "f"].as_slice(), "schema f"),
-        (["take", "f", "7", "0", "7", "-o", "g"].as_slice(), "3 indices f g"),
+        (
+            ["take", "f", "7", "0", "7", "-o", "g"].as_slice(),
+            "3 indices f g",
+        ),
         (["where", "f", "ok"].as_slice(), "where f "),
         (["equal", "f", "g"].as_slice(), "equal f g"),
         (["concat", "-o", "g", "f", "h"].as_slice(), "concat f 2 g"),
@@ -105,27 +111,65 @@ fn invalid_arguments_are_errors(rt: HostRuntime) -> Result<(), Fail> {
         (["show"].as_slice(), ErrorKind::InvalidSubcommand),
         (["schema"].as_slice(), ErrorKind::MissingRequiredArgument),
         (["schema", "f", "0"].as_slice(), ErrorKind::UnknownArgument),
-        (["--columns", "a", "rows", "f"].as_slice(), ErrorKind::UnknownArgument),
-        (["rows", "f", "1", "1"].as_slice(), ErrorKind::UnknownArgument),
-        (["rows", "f", "--count", "-1"].as_slice(), ErrorKind::UnknownArgument),
-        (["rows", "f", "--count", "x"].as_slice(), ErrorKind::ValueValidation),
+        (
+            ["--columns", "a", "rows", "f"].as_slice(),
+            ErrorKind::UnknownArgument,
+        ),
+        (
+            ["rows", "f", "1", "1"].as_slice(),
+            ErrorKind::UnknownArgument,
+        ),
+        (
+            ["rows", "f", "--count", "-1"].as_slice(),
+            ErrorKind::UnknownArgument,
+        ),
+        (
+            ["rows", "f", "--count", "x"].as_slice(),
+            ErrorKind::ValueValidation,
+        ),
         (["rows", "f", "--count"].as_slice(), ErrorKind::InvalidValue),
-        (["head", "f", "18446744073709551616"].as_slice(), ErrorKind::ValueValidation),
+        (
+            ["head", "f", "18446744073709551616"].as_slice(),
+            ErrorKind::ValueValidation,
+        ),
         (["take", "f"].as_slice(), ErrorKind::MissingRequiredArgument),
         (["take", "f", ""].as_slice(), ErrorKind::ValueValidation),
-        (["cut", "f", "1"].as_slice(), ErrorKind::MissingRequiredArgument),
-        (["where", "f", "a", "b"].as_slice(), ErrorKind::UnknownArgument),
-        (["equal", "f"].as_slice(), ErrorKind::MissingRequiredArgument),
-        (["concat", "f"].as_slice(), ErrorKind::MissingRequiredArgument),
-        (["convert", "f", "g", "-o", "h"].as_slice(), ErrorKind::UnknownArgument),
-        (["slice", "f", "1", "2", "-o", "g", "-o", "h"].as_slice(), ErrorKind::ArgumentConflict),
+        (
+            ["cut", "f", "1"].as_slice(),
+            ErrorKind::MissingRequiredArgument,
+        ),
+        (
+            ["where", "f", "a", "b"].as_slice(),
+            ErrorKind::UnknownArgument,
+        ),
+        (
+            ["equal", "f"].as_slice(),
+            ErrorKind::MissingRequiredArgument,
+        ),
+        (
+            ["concat", "f"].as_slice(),
+            ErrorKind::MissingRequiredArgument,
+        ),
+        (
+            ["convert", "f", "g", "-o", "h"].as_slice(),
+            ErrorKind::UnknownArgument,
+        ),
+        (
+            ["slice", "f", "1", "2", "-o", "g", "-o", "h"].as_slice(),
+            ErrorKind::ArgumentConflict,
+        ),
         (["--help"].as_slice(), ErrorKind::DisplayHelp),
         (["help", "rows"].as_slice(), ErrorKind::DisplayHelp),
         (["rows", "--help"].as_slice(), ErrorKind::DisplayHelp),
         (["--version"].as_slice(), ErrorKind::DisplayVersion),
     ] {
         let error = error_of(rt.alloc(), arguments)?;
-        assert!(rt; error.kind() == want, "{} {}: {error}", arguments[0], arguments.len());
+        assert!(rt;
+            error.kind() == want,
+            "{} {}: {error}",
+            arguments[0],
+            arguments.len()
+        );
     }
     let none = ErrorKind::DisplayHelpOnMissingArgumentOrSubcommand;
     assert!(rt; error_of(rt.alloc(), &[])?.kind() == none);

@@ -8,6 +8,7 @@
 //! | `comparing` | The first difference of two inputs; which input has an error, and when |
 //! | `copying` | Copies of all rows, of slices, and of rows where a column is true, in either format |
 //! | `concatenating` | Inputs appended to an output; which input has an error |
+//! | `names` | Projected names that no column has |
 //! | `taking` | Rows by index, as lines and in either format |
 //!
 //! `oracle` makes the expected results of a whole table in memory. `devices` fail in any call.
@@ -23,6 +24,8 @@ mod concatenating;
 mod copying;
 #[cfg(test)]
 mod devices;
+#[cfg(test)]
+mod names;
 #[cfg(test)]
 mod oracle;
 #[cfg(test)]

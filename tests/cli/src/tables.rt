@@ -332,6 +332,10 @@ fn errors_are_printed(rt: HostRuntime) -> Result<(), Fail> {
         ),
         (CliError::IndexOutOfRange, "a row index is out of range"),
         (CliError::UnknownColumn, "there is no column of that name"),
+        (
+            CliError::UnknownName(2),
+            "there is no column of projected name 2",
+        ),
         (CliError::NotBoolean, "the column is not boolean"),
         (CliError::Output, "output cannot be written"),
         (CliError::Memory, "out of memory"),
@@ -469,7 +473,7 @@ fn projected_columns_are_printed(rt: HostRuntime) -> Result<(), Fail> {
     for (names, schema, first) in [
         (["b"].as_slice(), "b: string\n", "{\"b\":\"a\"}\n"),
         (
-            ["b", "a", "c"].as_slice(),
+            ["b", "a"].as_slice(),
             "a: int32\nb: string\n",
             "{\"a\":1,\"b\":\"a\"}\n",
         ),
@@ -485,7 +489,7 @@ fn projected_columns_are_printed(rt: HostRuntime) -> Result<(), Fail> {
         }
     }
     let bytes = bytes_of(alloc, STREAM)?;
-    let none = Projection::Names(&["c"]);
+    let none = Projection::Indices(&[]);
     let text = text_of(alloc, none, &Request::Columns, &bytes)?;
     assert!(rt; text.is_empty(), "{text}");
     let error = text_of(alloc, none, &Request::Rows(Selection::All), &bytes).err();

@@ -1,7 +1,8 @@
 //! Rows by index as lines, and encoded as a stream or a file.
-ghost use Rattle.std.specs.Prelude.{IfErr, IfOk, string_bytes};
+ghost use Rattle.std.specs.Prelude.{IfErr, IfOk, OnOk, string_bytes};
 ghost use Rattle.ipc_schema.specs.Projections.{projection_of};
 ghost use Rattle.cli_read.specs.Inputs.{decoded_input};
+ghost use Rattle.cli_read.specs.ProjectedNames.{HasNames};
 ghost use Rattle.cli_read.specs.Takes.{FailsToTakeBytes, FailsToTakeText, TakesBytes, TakesText};
 
 use crate::by_index::rows::take;
@@ -23,7 +24,9 @@ pub fn take_lines<R: SeekRead + Drop>(
     input: Input<R>,
 ) -> Result<String, BatchError>
     ensures text { IfOk result (λ text. TakesText wanted.now (decoded_input R.remaining R.stream_position R.stream_bytes (projection_of columns.entry) input) (string_bytes text)) }
-    ensures error { IfErr result (FailsToTakeText wanted.now (decoded_input R.remaining R.stream_position R.stream_bytes (projection_of columns.entry) input)) }
+    ensures names { OnOk result (HasNames (projection_of columns.entry) (decoded_input R.remaining R.stream_position R.stream_bytes (projection_of columns.entry) input)) }
+    ensures error { let picks = projection_of columns.entry in
+        IfErr result (FailsToTakeText picks wanted.now (decoded_input R.remaining R.stream_position R.stream_bytes picks input)) }
 {
     match take(alloc, columns, wanted, input) {
         Err(error) => Err(error),
@@ -48,7 +51,9 @@ pub fn take_encoded<R: SeekRead + Drop>(
     input: Input<R>,
 ) -> Result<Vec<u8>, BatchError>
     ensures bytes { IfOk result (λ out. TakesBytes format wanted.now (decoded_input R.remaining R.stream_position R.stream_bytes (projection_of columns.entry) input) out.items) }
-    ensures error { IfErr result (FailsToTakeBytes format wanted.now (decoded_input R.remaining R.stream_position R.stream_bytes (projection_of columns.entry) input)) }
+    ensures names { OnOk result (HasNames (projection_of columns.entry) (decoded_input R.remaining R.stream_position R.stream_bytes (projection_of columns.entry) input)) }
+    ensures error { let picks = projection_of columns.entry in
+        IfErr result (FailsToTakeBytes picks format wanted.now (decoded_input R.remaining R.stream_position R.stream_bytes picks input)) }
 {
     match take(alloc, columns, wanted, input) {
         Err(error) => Err(error),

@@ -15,7 +15,8 @@ ghost use Rattle.cli_rows.specs.Tables.{table_of};
 ghost use Rattle.cli_rows.specs.declared.error.CliError.TheVariants.{Memory};
 ghost use Rattle.cli_read.specs.Inputs.{decoded_input};
 ghost use Rattle.cli_read.specs.Readers.{decoded_reader, reader_schema};
-ghost use Rattle.cli_read.specs.Takes.{FailsToTake, Takes};
+ghost use Rattle.cli_read.specs.ProjectedNames.{HasNames};
+ghost use Rattle.cli_read.specs.Takes.{FailsToTake, FailsToTakeColumns, Takes};
 ghost use Rattle.cli_read.specs.TakeStates.{AreTakenRows, HasMoreIndices, HasTakenFrom, IsFinishError, TakesRows};
 ghost use Rattle.cli_read.specs.TakeSteps.{FailsToTakeAll, FailsToTakeNext, TakesAll, TakesNext};
 
@@ -247,7 +248,8 @@ fn take_from_reader<R: SeekRead + Drop>(
 /// next one is read. The rows are one record batch, or several if they exceed the limits of one array.
 ///
 /// # Errors
-/// Before any record batch: `Read` with the first error of the bytes in reading order; `Input` if a read fails. In a record batch, if an
+/// Before any record batch: `Read` with the first error of the bytes in reading order; `Input` if a read fails; `UnknownName` with the first
+/// projected name that no column has. In a record batch, if an
 /// index is not in the batches before it: `Read`; `MismatchedColumns` if its columns do not match the schema; `Input`. After all record
 /// batches: `IndexOutOfRange` if there is no row at an index. `Memory`, also in `Read`, if an allocation fails.
 pub fn take<R: SeekRead + Drop>(
@@ -257,7 +259,9 @@ pub fn take<R: SeekRead + Drop>(
     input: Input<R>,
 ) -> Result<Table, BatchError>
     ensures rows { IfOk result (λ table. Takes wanted.now (decoded_input R.remaining R.stream_position R.stream_bytes (projection_of columns.entry) input) (table_of table)) }
-    ensures error { IfErr result (FailsToTake wanted.now (decoded_input R.remaining R.stream_position R.stream_bytes (projection_of columns.entry) input)) }
+    ensures names { OnOk result (HasNames (projection_of columns.entry) (decoded_input R.remaining R.stream_position R.stream_bytes (projection_of columns.entry) input)) }
+    ensures error { let picks = projection_of columns.entry in
+        IfErr result (FailsToTakeColumns picks wanted.now (decoded_input R.remaining R.stream_position R.stream_bytes picks input)) }
 {
     match open(alloc, columns, input) {
         Err(error) => Err(BatchError { batch: None, error }),

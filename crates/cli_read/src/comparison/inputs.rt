@@ -264,7 +264,8 @@ fn compare_files<R: SeekRead + Drop, S: SeekRead + Drop>(
 ///
 /// # Errors
 /// `First` and `Second` with the error of an input and its record batch. Before any record batch, `Second` only if the first input was
-/// opened: `Read` with the first error of the bytes in reading order. In a record batch, if the rows before it begin the other input:
+/// opened: `Read` with the first error of the bytes in reading order; `UnknownName` with the first projected name that no column has. In a
+/// record batch, if the rows before it begin the other input:
 /// `Read`; `MismatchedColumns` if its columns do not match the schema. `Input` if a read fails. `Memory`, also in `Read`, if an
 /// allocation fails. `TooManyRows` if 2^64 rows are equal.
 pub fn compare<R: SeekRead + Drop, S: SeekRead + Drop>(

@@ -25,6 +25,13 @@ pub fn is_named(field: &Field, name: &String) -> bool
     name_of(field).as_bytes() == name.as_bytes()
 }
 
+/// Returns whether a field has the name of a text.
+pub fn is_called(field: &Field, name: &str) -> bool
+    ensures { result ≡ bytes_eq (field_name (field_of field.now)) name.now }
+{
+    name_of(field).as_bytes() == name.as_bytes()
+}
+
 /// Returns the child of the first field of a name.
 fn child_named<'a>(
     name: &String,

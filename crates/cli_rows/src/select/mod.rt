@@ -6,7 +6,7 @@ mod offsets;
 mod order;
 mod windows;
 
-pub use booleans::{boolean_column, is_named};
+pub use booleans::{boolean_column, is_called, is_named};
 pub use difference::window_difference;
 pub use order::{in_row_order, is_complete, skip_rows};
 pub use windows::select_rows;

@@ -58,6 +58,7 @@ impl From<CliError> for ImportError {
             | CliError::IndexOutOfRange
             | CliError::UnknownColumn
             | CliError::NotBoolean
+            | CliError::UnknownName(_)
             | CliError::Output => ImportError::Output,
         }
     }
