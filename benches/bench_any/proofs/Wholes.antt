@@ -1,4 +1,4 @@
--- Builders whose children are whole stay so where children are written over, and where a row is told.
+-- Builders whose children are whole stay so where children are written over, and where a row is added.
 use Rattle.std.specs.Prelude.{Err, Ok, OnErr, OnOk, Result, true}
 use Rattle.std.proofs.Common.{◌≡◌, ℕ, sym, subst}
 use Rattle.nest_model.specs.BuilderAddRow.{RowAdded, AreEachComplete, HasCompleteChildren}
@@ -29,7 +29,7 @@ whole_children (fixed_size_list t bits c) h = h.0
 whole_children (dictionary k t keys c) h = h.0
 whole_children (struct t bits cs) h = each_of cs _ h.0
 
--- a row told, or refused
+-- a row added, or refused
 pub stays : {A E : Type 0} (r : Result A E) (b d : BuilderTree) → HasCompleteChildren b → OnOk r (RowAdded true b d) → OnErr r (d ≡ b) → HasCompleteChildren d
 stays (Ok x) b d h k e = whole_children d k.whole
 stays (Err x) b d h k e = subst HasCompleteChildren (sym e) h

@@ -26,7 +26,7 @@ fn tenth_unset(alloc: Global, n: usize) -> Result<Bitmap, Error> {
     bits.freeze()
 }
 
-/// The validity of n slots, of which every tenth is null or none.
+/// The validity of n slots: every tenth is null, or none.
 fn validity(alloc: Global, n: usize, nulls: bool) -> Result<Option<Bitmap>, Error> {
     if nulls {
         return Ok(Some(tenth_unset(alloc, n)?));

@@ -1,4 +1,4 @@
-//! Rows gone through one after another: lists, records, strings by keys, picks.
+//! Iteration over rows: lists, records, strings by keys, picks.
 use crate::arrays;
 use anyhow::Result;
 use bench_tools::{begin, report};
@@ -116,7 +116,7 @@ fn report_keyed<R: Clock + Print + AllocGlobal>(
     Ok(())
 }
 
-/// Goes through the slots of an array of one of the four kinds.
+/// Iterates over the slots of an array of one of the four kinds.
 fn report_rows<R: Clock + Print + AllocGlobal>(
     rt: &R,
     array: &AnyArray,
@@ -156,7 +156,7 @@ fn lists(alloc: Global, n: usize) -> Result<AnyArray, Error> {
     arrays::lists(alloc, n, 8, true, items)
 }
 
-/// Goes through lists, records, strings by keys and picks.
+/// Iterates over lists, records, strings by keys and picks.
 pub fn run<R: Clock + Print + AllocGlobal>(rt: &R, measured: bool) -> Result<()> {
     let n = if measured { ROWS } else { FEW };
     let alloc = rt.alloc();

@@ -1,4 +1,4 @@
--- Deltas: a string appended to two strings, by a message of another writer; and records of dictionary words, the words of which are replaced.
+-- Deltas: a string appended to two strings, by a message of another writer; and records of strings by keys, whose strings are replaced.
 use Rattle.std.specs.Prelude.{◌≡◌, ℕ, true, false, pos, [], ◌∷◌, None, Ok, Err, refl}
 use Rattle.std.specs.Str.{is_utf8}
 use Rattle.std.proofs.Common.{rules, arith}
@@ -69,7 +69,7 @@ with_words = with_new (start shelves) (pos 1) (word 97)
 abbrev with_both : StateTree
 with_both = with_new with_words (pos 0) (shelf 97)
 
--- the words that replace them
+-- the strings that replace them
 abbrev with_others : StateTree
 with_others = with_new with_both (pos 1) (word 98)
 

@@ -55,7 +55,7 @@ no_blocks = record { dictionaries = []; batches = [] }
 abbrev pub before_blocks : List Block → Block → Blocks → Blocks
 before_blocks dictionaries batch blocks = record { dictionaries = dictionaries ++ blocks.dictionaries; batches = batch ∷ blocks.batches }
 
--- the position of a record batch, the dictionary batches of which begin at another
+-- the position of a record batch, whose dictionary batches begin at another
 abbrev pub batch_offset : ℕ → DictionaryEntries → RecordBatchTree → ℕ
 batch_offset position emitted b = position + length (flat_map dictionary_bytes (file_dictionary_batches emitted b))
 

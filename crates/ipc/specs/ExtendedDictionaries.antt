@@ -33,7 +33,7 @@ HoldsArray (Some c) = IsArray c
 abbrev pub AreAllArrays : List (Option Layout) → Type 0
 AreAllArrays xs = AllByRecursion HoldsArray xs
 
--- where the first decodes, so does the second, and their results are related
+-- where the first decodes, the second decodes too, and their results are related
 abbrev pub ReadTogether : {A B : Type 0} → (A → B → Type 0) → Result A IpcReadError → Result B IpcReadError → Type 0
 ReadTogether R (Ok x) (Ok y) = R x y
 ReadTogether R (Ok x) (Err e) = ⊥

@@ -1,4 +1,4 @@
--- The pending dictionaries of two columns. One has records of two fields, each of which has a dictionary; the other has numbers.
+-- The pending dictionaries of two columns. One has records of two fields, each with a dictionary; the other has numbers.
 use Rattle.std.specs.Prelude.{◌≡◌, ℤ, pos, Bool, true, false, List, [], ◌∷◌, map, None, refl}
 use Rattle.nest_memory.specs.TypeTree as types
 use Rattle.nest_memory.specs.TypeTree.{FieldTree, no_fields, more_fields}

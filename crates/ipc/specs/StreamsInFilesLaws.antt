@@ -254,7 +254,7 @@ brings_by s ms bs after left (Ok x) is e =
     let pair : ◌≡◌ {A = List RecordBatchTree × List ℕ} (x.0, after) (bs, left) = ok_same {A = List RecordBatchTree × List ℕ} (x.0, after) (bs, left) e in
     record { end = x.1; read = is ∙ (λ w. Ok ((pair w).0, x.1)) }
 
--- a file, the dictionary and record batches of which are read
+-- a file whose dictionary and record batches are read
 file_reads : (picks : ProjectionModel) (file : List ℕ) (footer : ProjectedFooterModel) (t : StateTree) (cs : List RecordBatchTree) → projected_footer_in picks file ≡ Ok footer → dictionaries_at (start footer.picked) file footer.dictionaries ≡ Ok t → batches_at t file footer.batches ≡ Ok cs
     → projected_file_in picks file ≡ Ok (record { schema = t.picked.schema; batches = cs })
 unfolding projected_file_in file_reader_in

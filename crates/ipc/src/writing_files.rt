@@ -54,7 +54,7 @@ impl FileBlocks {
     }
 }
 
-// Returns the block of a message between these positions, the body of which has this length.
+// Returns the block of a message between these positions, whose body has this length.
 fn block_between(start: usize, end: usize, body_length: usize) -> Result<Block, IpcWriteError>
     requires within { start + body_length ≤ end }
     requires small { end < 2 ^ 63 }

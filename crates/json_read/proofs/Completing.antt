@@ -25,7 +25,7 @@ module _ {A : Type 0} (f : A → BuilderTree) where
   completed-all n (x ∷ xs) [] e h = absurd (omega (arith, e))
   completed-all n (x ∷ xs) (y ∷ ys) e h = (h zero x (omega arith), completed-all n xs ys (omega (arith, e)) (λ k d l. h (suc k) d (omega (arith, l))))
 
-  -- the child at place i was written over, those behind it are as they were
+  -- the child at index i was replaced, those after it are as they were
   pub next-done : (n : ℕ) (xs ys : List A) (i : ℕ) (y e : A) → length ys ≡ length xs → i < length xs
       → ((k : ℕ) (d : A) → k < i → AddedIf (builder_len (f (get_or xs k d)) == n) slots.null (f (get_or xs k d)) (f (get_or ys k d)))
       → AddedIf (builder_len (f (get_or xs i e)) == n) slots.null (f (get_or xs i e)) (f y)

@@ -1,4 +1,4 @@
--- Members that come to the children of a record, one after another.
+-- Members that are pushed to the children of a record, one after another.
 use Rattle.std.specs.Prelude.{◌==◌, ◌||◌, not, bytes_eq, Option, Some, None, ◌≢◌, if◌then◌else◌}
 use Rattle.std.specs.List.{list_any}
 use Rattle.std.proofs.Common.{◌≡◌, ℕ, zero, suc, ◌+◌, ◌<◌, ◌≤◌, Bool, true, false, List, [], ◌∷◌, ◌++◌, length, map, get_or, refl, sym, ap, ◌∙◌, subst, arith, inl, inr}
@@ -297,7 +297,7 @@ filled-records : (fs : FieldTrees) (ps : List (Letters × Slot)) (cs es : Builde
 filled-records fs ps cs es n i [] l h w = refl
 filled-records fs ps cs es n i (b ∷ bs) l h w = rw (filled-record fs ps cs es n i (omega arith) h w, filled-records fs ps cs es n (suc i) bs (omega arith) h w) refl
 
--- a told record over them
+-- a record added over them
 pub record-added : (t : TypeTree) (bits : List Bool) (fs : FieldTrees) (ps : List (Letters × Slot)) (cs es : BuilderTrees) (new : BuilderTree) → AllFieldsAdded fs ps cs es → AreComplete cs (length bits) → RowAdded true (struct t bits es) new
     → SlotAdded (slots.record_of (field_slots fs ps)) (struct t bits cs) new
 record-added t bits fs ps cs es new h w k =

@@ -13,7 +13,7 @@ mod ReadBack
 mod RoundTrip
 pub mod RowLaws
 mod Stepping
-mod ToldLists
+mod AddedLists
 pub mod TextBack
 pub mod TextResults
 mod ValuesBack

@@ -1,4 +1,4 @@
--- Lines behind others, and what they are.
+-- Lines after others, and what they are.
 use Rattle.std.proofs.Common.{◌≡◌, ◌∙◌, ℕ, zero, suc, ◌+◌, ◌<◌, ◌≤◌, List, [], ◌∷◌, ◌++◌, length, take, Bool, true, false, Result, Ok, Err, ◌==◌, if◌then◌else◌, refl, ap, sym, subst, arith}
 use Rattle.std.specs.List.{onto_first}
 use Rattle.nest_model.specs.Slot.{Slot}
@@ -6,7 +6,7 @@ use Rattle.json_read.specs.LineRows.{LineRow, Rows, rows_from, prepend_row, prep
 use Rattle.json_read.specs.LineSplit.{lines_of}
 use Rattle.json_read.specs.declared.error.LineError.{LineError}
 
--- the places of lines, counted behind so many others
+-- the indices of lines, counted after so many others
 shift : ℕ → Rows → Rows
 shift d (Ok ss) = Ok ss
 shift d (Err f) = Err (d + f.0, f.1)

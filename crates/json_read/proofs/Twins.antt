@@ -48,7 +48,7 @@ names-grow fs i j x key old new lt e at name had up q =
     ∙ ap (λ n. bytes_eq n q.now || is_named q.now rest) name
     ∙ sym (ap (is_named q.now) (one-more fs i j x lt e at))
 
--- what the set answers of a name that is put in
+-- what the set returns for a name that is inserted
 pub was-named : (had new : Bool) → new ≡ not had → new ≡ false → had ≡ true
 was-named true new e h = refl
 was-named false new e h = cc

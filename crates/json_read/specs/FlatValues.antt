@@ -85,7 +85,7 @@ abbrev pub item_numbers : Items → List ℤ
 item_numbers no_items = []
 item_numbers (item j js) = number_in j ∷ item_numbers js
 
--- ---- texts
+-- ---- strings
 
 -- a number in each range
 abbrev pub are_in : List Range → List ℤ → Bool

@@ -19,7 +19,7 @@ abbrev pub prepend_row : LineRow → ℕ → Rows → Rows
 prepend_row (Ok s) above rest = prepend_slot s rest
 prepend_row (Err e) above rest = Err (above, e)
 
--- the rows of lines of which the first has index `above`
+-- the rows of lines, the first with index `above`
 abbrev pub rows_from : (List ℕ → LineRow) → ℕ → List (List ℕ) → Rows
 rows_from row above [] = Ok []
 rows_from row above (line ∷ lines) = prepend_row (row line) above (rows_from row (above + 1) lines)

@@ -1,4 +1,4 @@
-//! Properties of reading JSON, as functions with empty bodies: what `json_write` writes is read back.
+//! Properties of reading JSON, as functions with empty bodies: what `json_write` writes is read as the same slots.
 ghost use Rattle.std.specs.Prelude.{◌≡◌, ℕ, ℤ, List, [], ◌∷◌, None, Some, codes, negsuc, pos, true};
 ghost use Rattle.json.specs.Json.{array, item, member, no_items, no_members, null, number, object, string};
 ghost use Rattle.json_read.specs.FlatValues.{bytes_of_hex, hex_error, native_error, number_in, ranges_of};
@@ -27,7 +27,7 @@ pub fn bytes_round_trip()
     ensures { (bs : List ℕ) → AreBytes bs → BytesRoundTrip bs }
 {}
 
-/// A slot is read back from the JSON value that is written for it.
+/// The JSON value that is written for a slot is read as that slot.
 pub fn slots_round_trip()
     ensures { (t : TypeTree) (s : Slot) → HasDistinctFieldNames t → IsSlotOf t s → CanRoundTrip s → slot_of t (tree_of_slot t s) ≡ s }
 {}

@@ -174,7 +174,7 @@ last_digits_pad (suc k) n some h =
           rw one (omega arith, last_digits_next k n ∙ rw (q, r, last_zeros k, gap))
     ]
 
--- ---- texts in two parts, the second of a known length
+-- ---- text in two parts, the second of a known length
 
 pub same_parts : (xs us ys vs : List ℕ) → length ys ≡ length vs → xs ++ ys ≡ us ++ vs → (xs ≡ us) × (ys ≡ vs)
 same_parts xs us ys vs l e =

@@ -1,4 +1,4 @@
--- Two slots of one data type are equal if their texts are equal.
+-- Two slots of one data type are equal if their text is equal.
 use Rattle.std.proofs.Common.{◌≡◌, ℕ, zero, suc, Bool, true, false, List, [], ◌∷◌, ◌++◌, drop, Option, Some, None, ◌⊎◌, inl, inr, refl, sym, ap, ap₂, ◌∙◌, subst, arith, append_assoc, append-nil}
 use Rattle.std.proofs.lemmas.Bool.{false≢true}
 use Rattle.std.proofs.lemmas.List.{append_cancel_left}
@@ -118,7 +118,7 @@ one-field (more_fields f fs) zero (suc j) u v h d e same = absurd (none-there (f
 one-field (more_fields f fs) (suc k) zero u v h d e same = absurd (none-there (field_name f) fs k u h.0 d (sym same))
 one-field (more_fields f fs) (suc k) (suc j) u v h d e same = ap suc (one-field fs k j u v h.1 d e same)
 
--- ---- texts with what follows them
+-- ---- text with what follows it
 
 first-item : (t : TypeTree) (after : Bool) (s : Slot) (ss : Slots) (r : List ℕ)
     → json_items t after (more_slots s ss) ++ 93 ∷ r ≡ comma after ++ (json_of_slot t s ++ (json_items t true ss ++ 93 ∷ r))

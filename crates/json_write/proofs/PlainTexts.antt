@@ -1,4 +1,4 @@
--- The texts of native values need no escapes: their bytes are digits, signs, the point, the colon and capital letters.
+-- The text of native values needs no escapes: its bytes are digits, signs, the point, the colon and capital letters.
 use Rattle.std.specs.Prelude.{nat_lt, int_lt, unsigned_abs, ◌^◌, if◌then◌else◌, is_some, unwrap_or}
 use Rattle.std.proofs.Common.{◌≡◌, ℕ, zero, suc, ◌+◌, ◌/◌, ◌%◌, ◌≤◌, ◌==◌, ℤ, pos, Bool, true, false, List, [], ◌∷◌, ◌++◌, map, Option, Some, None, refl, sym, ap, ap₂, ◌∙◌, subst, arith}
 use Rattle.std.proofs.lemmas.Bool.{false≢true}

@@ -159,7 +159,7 @@ pub six_from_number : (ds : List ℕ) → 6 < length ds → (r : Option ℕ) →
 six_from_number ds l None h = λ n fits e. h n fits (six_long_back ds n l e)
 six_from_number ds l (Some n) h = (h.0, six_long ds n l h.1)
 
--- ---- signs, before texts that begin with a digit
+-- ---- signs, before text that begins with a digit
 
 abbrev pub signed_text : (ℕ → List ℕ) → ℤ → List ℕ
 signed_text T z = sign_text (int_lt z (pos 0)) ++ T (unsigned_abs z)

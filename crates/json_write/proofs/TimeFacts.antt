@@ -83,7 +83,7 @@ no_letters_date n =
     no_letters_append (year_text d.year) (45 ∷ (last_digits 2 d.month ++ (45 ∷ last_digits 2 d.day))) (no_letters_year (unsigned_abs d.year) (int_lt d.year (pos 0)) (nat_lt (unsigned_abs d.year) 10_000))
     (no_letters_cons 45 (last_digits 2 d.month ++ (45 ∷ last_digits 2 d.day)) (omega arith) (no_letters_append (last_digits 2 d.month) (45 ∷ last_digits 2 d.day) (no_letters_last 2 d.month) (no_letters_cons 45 (last_digits 2 d.day) (omega arith) (no_letters_last 2 d.day))))
 
--- the first letter of two equal texts
+-- the first letter of equal text
 pub same_until_letter : (xs us : List ℕ) (c : ℕ) (ys vs : List ℕ) → 58 ≤ c → NoLetters xs → NoLetters us → xs ++ c ∷ ys ≡ us ++ c ∷ vs → (xs ≡ us) × (ys ≡ vs)
 same_until_letter [] [] c ys vs h p q e = (refl, ap (λ zs. drop 1 zs) e)
 same_until_letter [] (u ∷ us) c ys vs h p q e = absurd (omega (arith, ap (λ zs. get_or zs 0 0) e, q 0))

@@ -1,4 +1,4 @@
--- The text of a JSON array is the texts of its items, joined by commas.
+-- The text of a JSON array is the text of its items, joined by commas.
 use Rattle.std.specs.Prelude.{false, List, [], ◌∷◌, ◌++◌, map}
 use Rattle.std.specs.List.{join_with_byte}
 use Rattle.std.proofs.Common.{◌≡◌, refl, ap, append-nil}

@@ -1,4 +1,4 @@
--- Texts read as values.
+-- Text read as values.
 use Rattle.std.specs.Prelude.{◌≡◌, ℕ, ℤ, List, Option, None, Some, FitsSigned}
 use Rattle.std.specs.Int.{w64}
 use Rattle.json_write.specs.Times.{whole_seconds, subseconds}

@@ -7,7 +7,7 @@ use Rattle.nest_model.specs.Slot.{seal}
 use Rattle.json_write.specs.JsonText.{json_of_window}
 use Rattle.json_write.specs.TypedSlots.{HasDistinctUnionNames, FitIn128Bits}
 
--- windows over valid arrays of one data type have equal slots if their texts are equal
+-- windows over valid arrays of one data type have equal slots if their text is equal
 abbrev pub TextDeterminesSlots : WindowParts → WindowParts → Type 0
 TextDeterminesSlots v w =
     IsArray v.array → IsArray w.array → layout_type v.array ≡ layout_type w.array

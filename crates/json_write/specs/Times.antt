@@ -1,5 +1,5 @@
 -- Dates, times of day, timestamps, durations and intervals as text (ISO 8601-1:2019). Their values count units of 1 s, 10^-3 s, 10^-6 s or
--- 10^-9 s (Arrow columnar format, Schema.fbs, `TimeUnit`), and their texts have 0, 3, 6 or 9 digits of a second after the point.
+-- 10^-9 s (Arrow columnar format, Schema.fbs, `TimeUnit`), and their text has 0, 3, 6 or 9 digits of a second after the point.
 use Rattle.std.specs.Prelude.{ℕ, suc, ◌+◌, ◌/◌, ◌%◌, ◌^◌, ◌==◌, nat_lt, ℤ, pos, unsigned_abs, int_lt, Bool, false, not, ◌&&◌, List, [], ◌∷◌, ◌++◌, codes, if◌then◌else◌}
 use Rattle.std.specs.Int.{int_div_euclid, int_rem_euclid}
 use Rattle.json_write.specs.Calendar.{date_of}

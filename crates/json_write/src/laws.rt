@@ -29,7 +29,7 @@ pub fn slots_are_comma_separated(window: &Window)
     ensures { json_of_window window.now ≡ 91 ∷ (join_with_byte 44 (map (json_of_slot (layout_type window.now.array)) (window_slots window.now)) ++ 93 ∷ []) }
 {}
 
-/// Two slots of one data type are equal if their texts are equal. The fields of each union must have distinct names, since a union slot is
+/// Two slots of one data type are equal if their text is equal. The fields of each union must have distinct names, since a union slot is
 /// written with the name of its field alone. Integers must fit in 128 bits, as those of all native values do.
 pub fn equal_texts_have_equal_slots()
     ensures { (t : TypeTree) (s z : Slot) → HasDistinctUnionNames t → IsSlotOf t s → IsSlotOf t z → FitsIn128Bits s → FitsIn128Bits z → json_of_slot t s ≡ json_of_slot t z → s ≡ z }
@@ -40,7 +40,7 @@ pub fn slots_have_the_data_type(window: &Window)
     ensures { IsArray window.now.array → AreItems (layout_type window.now.array) (seal (window_slots window.now)) }
 {}
 
-/// Two windows over arrays of one data type have equal slots if their texts are equal, under the conditions of
+/// Two windows over arrays of one data type have equal slots if their text is equal, under the conditions of
 /// `equal_texts_have_equal_slots`.
 pub fn equal_texts_have_equal_windows(window: &Window, other: &Window)
     ensures { TextDeterminesSlots window.now other.now }

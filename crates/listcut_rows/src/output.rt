@@ -25,7 +25,7 @@ fn push_item(out: &mut Vec<u8>, item: Option<i64>) -> Result<(), AllocError>
     }
 }
 
-/// Appends the texts of `count` items from index `start`, separated by commas.
+/// Appends the text of `count` items from index `start`, separated by commas.
 fn push_items(
     out: &mut Vec<u8>,
     items: &PrimitiveArray<i64>,

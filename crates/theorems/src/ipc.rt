@@ -1,4 +1,4 @@
-//! Arrow IPC: a reader returns what the bytes encode, or their first error, and what is written is read back.
+//! Arrow IPC: a reader returns what the bytes encode, or their first error, and what is written round-trips.
 ghost use Rattle.std.specs.Prelude.{◌≡◌, [], Ok, map, IfErr, IfOk, OnOk, ◌⊎◌};
 ghost use Rattle.ipc.specs.EncodedFiles.{file_error, decoded_file, HasNoDeltas};
 ghost use Rattle.ipc.specs.EncodedStreams.{AreSameBatches, IsErrorOrMemory, decoded_batches, stream_error};

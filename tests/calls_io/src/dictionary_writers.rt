@@ -144,7 +144,7 @@ fn what_would_be_replaced(rt: HostRuntime) {
     assert!(rt; sink.bytes == bytes);
 }
 
-// Whether a stream that fails at a byte is reported, and has just what went out before.
+// Whether a stream that fails at a byte is reported, and has the bytes written before.
 fn fails_at(ended: Result<(), WriteError>, sink: &Sink, bytes: &[u8], at: usize) -> bool {
     match ended {
         Err(WriteError::Io(e)) => {

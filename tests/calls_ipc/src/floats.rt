@@ -70,7 +70,7 @@ fn schema_of(alloc: Global, data_type: DataType) -> Result<Schema, IpcReadError>
     })
 }
 
-// Why a schema of the type is not written; `None` where it is read back.
+// Why a schema of the type is not written; `None` where it round-trips.
 fn reason(alloc: Global, data_type: DataType) -> Result<Option<IpcWriteError>, IpcReadError> {
     let schema = schema_of(alloc, data_type)?;
     match write_schema_with_dictionaries(alloc, &schema) {

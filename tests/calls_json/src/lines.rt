@@ -81,7 +81,7 @@ fn values_are_read(rt: HostRuntime) -> Result<(), Fail> {
     )
 }
 
-/// Decimals, dates, times, timestamps, durations and intervals are read from the texts that are written.
+/// Decimals, dates, times, timestamps, durations and intervals are read from the text that is written.
 #[test]
 fn texts_are_read(rt: HostRuntime) -> Result<(), Fail> {
     for (row_type, text) in [
@@ -133,7 +133,7 @@ fn texts_are_read(rt: HostRuntime) -> Result<(), Fail> {
 const INVALID_TEXT: &str =
     "line 0 (counted from 0): string is not the text of a value of the type";
 
-/// Texts that are no values, decimals past their precision, and JSON values of other types.
+/// Strings that are no values, decimals past their precision, and JSON values of other types.
 #[test]
 fn invalid_texts_are_refused(rt: HostRuntime) -> Result<(), Fail> {
     check(

@@ -1,4 +1,4 @@
-//! Calls of which at most one returns `Memory`.
+//! Calls, at most one of them `Memory`.
 
 use nest_memory::error::Error;
 

@@ -1,4 +1,4 @@
-//! Scenarios of which each allocation fails once.
+//! Scenarios whose allocations fail, each once.
 //!
 //! `rt try --test --fail-alloc FAILED` fails one allocation of each test, the one of the number `FAILED`. The test of allocation
 //! n of a scenario first allocates and frees `FAILED - n` blocks, so that allocation n of the scenario fails. The call that made

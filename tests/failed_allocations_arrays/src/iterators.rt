@@ -6,7 +6,7 @@ use nest_memory::error::Error;
 use nest_scan::{Scan, ScanValues};
 use std::alloc::Global;
 
-/// Goes through two iterators over one array from both ends.
+/// Runs two iterators over one array from both ends.
 fn walk<T: PartialEq + Drop, I: ExactSizeIterator<Item = Result<T, Error>> + DoubleEndedIterator>(
     failures: &mut Failures,
     mut first: I,

@@ -78,7 +78,7 @@ fn perturbed_number(rng: &mut Generator, own: &DataType, numbers: [i128; 3]) -> 
     Slot::Number(changed)
 }
 
-/// Items of which one is changed, or the last one omitted.
+/// Items, with one changed or the last one omitted.
 fn perturbed_items(
     alloc: Global,
     rng: &mut Generator,

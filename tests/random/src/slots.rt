@@ -34,7 +34,7 @@ pub fn random_slots(
     }
 }
 
-/// So many slots, of which so many in five are null.
+/// So many slots, so many in five of them null.
 fn random_each<F: FnMut(&mut Generator) -> Result<Slot, Error>>(
     alloc: Global,
     rng: &mut Generator,

@@ -191,7 +191,7 @@ fn walk_values(alloc: Global, walk: &mut Walk, array: &AnyArray) -> Result<bool,
     }
 }
 
-/// A union is gone through from the front alone.
+/// A union is iterated from the front alone.
 fn walk_unions(alloc: Global, slots: &[Slot], a: &UnionArray) -> Result<bool, Error> {
     let mut items = a.iter(alloc);
     for (k, slot) in slots.iter().enumerate() {

@@ -1,4 +1,4 @@
-//! Tests of texts of single values.
+//! Tests of the text of single values.
 #![tactic(auto)]
 
 #[cfg(test)]

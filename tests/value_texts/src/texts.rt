@@ -1,4 +1,4 @@
-//! Texts of single values, and values read from texts. The dates and timestamps are those of Python's `datetime` and of NumPy.
+//! The text of single values, and values read from text. The dates and timestamps are those of Python's `datetime` and of NumPy.
 use json_write::value_text::{
     is_time, parse_date, parse_millisecond_date, parse_time, parse_timestamp, write_date,
     write_days_ms, write_decimal, write_decimal_digits, write_duration, write_millisecond_date,

@@ -34,7 +34,7 @@ fn is_emitted(emitted: &BTreeMap<i64, AnyArray>, id: i64, values: &AnyArray) -> 
     }
 }
 
-/// Does nothing: its contract tells the prover what the variant of an array says of its child arrays.
+/// Does nothing: its contract shows the prover what the variant of an array says of its child arrays.
 pub(crate) fn show_kind(array: &AnyArray)
     ensures fit { TopFits (layout_of array.now) }
     ensures leaf { is_leaf (layout_of array.now) ≡ has_leaves array.now }

@@ -1,4 +1,4 @@
-//! Texts of single values, as people and tools read them: dates, times, timestamps, durations, intervals and decimals.
+//! The text of single values, as people and tools read them: dates, times, timestamps, durations, intervals and decimals.
 
 pub mod calendar;
 pub mod calendar_laws;

@@ -1,4 +1,4 @@
-//! Dates, times of day and timestamps from their texts. Each function returns the value whose text it is given.
+//! Dates, times of day and timestamps from text. Each function returns the value whose text it is given.
 ghost use Rattle.std.specs.Prelude.{◌≡◌, ◌≢◌, ◌<◌, ◌+◌, ◌*◌, ◌^◌, FitsSigned, IfNone, IfSome, false, pos, unsigned_abs};
 ghost use Rattle.std.specs.Int.{int_rem_euclid, w64};
 ghost use Rattle.json_write.specs.Calendar.{IsDate};

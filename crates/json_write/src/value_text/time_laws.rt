@@ -1,9 +1,9 @@
-//! Properties of the texts, as functions with empty bodies: two values of one type are equal if their texts are.
+//! Properties of the text, as functions with empty bodies: two values of one type are equal if their text is.
 ghost use Rattle.std.specs.Prelude.{◌≡◌, ℕ, ℤ, Bool, codes, false, negsuc, pos, true};
 ghost use Rattle.json_write.specs.Decimals.{decimal_text};
 ghost use Rattle.json_write.specs.Times.{date_text, days_ms_text, duration_text, millisecond_date_text, month_day_nano_text, months_text, time_text, timestamp_text};
 
-/// Two dates, times or timestamps of one unit are equal if their texts are equal.
+/// Two dates, times or timestamps of one unit are equal if their text is equal.
 pub fn equal_texts_are_equal_times()
     ensures date { (m n : ℤ) → date_text m ≡ date_text n → m ≡ n }
     ensures millisecond_date { (m n : ℤ) → millisecond_date_text m ≡ millisecond_date_text n → m ≡ n }
@@ -11,7 +11,7 @@ pub fn equal_texts_are_equal_times()
     ensures timestamp { (k : ℕ) (utc : Bool) (m n : ℤ) → timestamp_text k utc m ≡ timestamp_text k utc n → m ≡ n }
 {}
 
-/// Two durations of one unit, intervals or decimals of one scale are equal if their texts are equal.
+/// Two durations of one unit, intervals or decimals of one scale are equal if their text is equal.
 pub fn equal_texts_are_equal_durations()
     ensures duration { (k : ℕ) (m n : ℤ) → duration_text k m ≡ duration_text k n → m ≡ n }
     ensures months { (m n : ℤ) → months_text m ≡ months_text n → m ≡ n }

@@ -11,7 +11,7 @@ use nest_flat::utf8::mutable::MutableUtf8Array;
 use nest_memory::error::{ArgumentError, Error};
 use std::alloc::Global;
 
-/// Values of any kind without children by keys of which there are 256.
+/// Values of any kind without children, by keys of 8 bits.
 type Dictionaries = MutableDictionaryArray<u8, AnyMutableFlat>;
 
 fn no_texts(alloc: Global) -> Result<Dictionaries, Error> {

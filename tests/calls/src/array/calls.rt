@@ -60,7 +60,7 @@ fn has_type(array: Result<AnyArray, Error>, data_type: &DataType) -> bool {
     }
 }
 
-/// The calls that return an array result one, of the same type, and not want of memory.
+/// The calls that return an array return one of the same type, and not `Memory`.
 fn expect_given<A: Array>(rt: &impl Abort, alloc: Global, array: &A, found: (usize, usize)) {
     assert!(rt; counts_of(array.to_boxed(alloc)) == Some(found));
     assert!(rt; has_type(array.to_boxed(alloc), array.data_type()));

@@ -114,7 +114,7 @@ fn lists_of_other_lengths_over_the_same_items(rt: HostRuntime) {
     assert!(rt; counted(lists, others) == Ok((false, 1)));
 }
 
-/// Two lists of numbers, of which the second is null.
+/// Two lists of numbers; the second is null.
 fn with_a_null_item(alloc: Global, items: &[i32]) -> Result<AnyArray, Error> {
     let bits = [true, false, true].as_slice();
     let items = int32s(alloc, items, Some(bits));
@@ -136,7 +136,7 @@ fn each_node_of_lists_of_lists(rt: HostRuntime) {
     assert!(rt; counted(lists, any_list(rebuilt_lists_of_lists(alloc))) == Ok((true, 19)));
 }
 
-/// Four records, of which the third is null.
+/// Four records; the third is null.
 fn any_records(alloc: Global, items: &[i32]) -> Result<AnyArray, Error> {
     four(alloc, items).map(|array| array.boxed())
 }
@@ -212,7 +212,7 @@ fn a_null_at_index_0(rt: HostRuntime) {
     assert!(rt; counted(sevens(alloc, false), sevens(alloc, true)) == Ok((false, 1)));
 }
 
-/// Lists of lists, of which the first is null.
+/// Lists of lists; the first is null.
 fn first_list_is_null(alloc: Global) -> Result<AnyArray, Error> {
     let items = numbers(alloc, &[1, 2, 3, 4, 5, 6, 7, 8, 9, 10]);
     let inner = list_array(alloc, items, &[0, 2, 4, 7, 7, 8, 10], None);

@@ -100,7 +100,7 @@ fn text_at(array: &DictionaryArray, i: usize) -> &str {
     }
 }
 
-/// Spells the slots, a blank before each.
+/// Appends the slots as text, a blank before each.
 fn spell(array: &DictionaryArray, text: &mut String) -> Result<(), Error> {
     for i in 0..array.len() {
         text.push_str(" ")?;

@@ -19,7 +19,7 @@ fn sizes<A: FixedSizeBinaryValues>(array: &A) -> (usize, usize) {
     (array.values().len(), array.size())
 }
 
-/// Offsets of the slots ab and c, and their bytes, of which d is no slot's.
+/// Offsets of the slots ab and c, and their bytes; d belongs to no slot.
 fn parts(alloc: Global) -> Result<(OffsetsBuffer<i32>, Buffer<u8>), Error> {
     let offsets = OffsetsBuffer::try_new(alloc, Vec::from_slice(alloc, [0i32, 2, 3].as_slice())?)?;
     let bytes = Buffer::from_vec(alloc, Vec::from_slice(alloc, b"abcd")?)?;

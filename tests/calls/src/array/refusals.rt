@@ -1,4 +1,4 @@
-//! What constructors of nested arrays reject, and what types tell of their lists.
+//! What constructors of nested arrays reject, and the field and size of list types.
 use crate::array::arrays::{
     both, buffer, list_type, lists_under, numbers, offsets_of, two, validity,
 };
@@ -115,7 +115,7 @@ fn children_of_two_lengths_before_the_validity(rt: HostRuntime) {
     assert!(rt; refused == Some(Error::OutOfSpec(SpecError::ChildLength)));
 }
 
-/// What list types tell of their fields.
+/// The fields of list types.
 #[test]
 fn fields_of_list_types(rt: HostRuntime) {
     let lists = ListArray::default_datatype(rt.alloc(), DataType::Int32);

@@ -6,7 +6,7 @@ use nest_flat::any_primitive::AnyPrimitive;
 use nest_memory::error::Error;
 use std::alloc::Global;
 
-/// Spells slot i of a flat array of numbers or booleans.
+/// Appends slot i of a flat array of numbers or booleans as text.
 fn spell_item(array: &AnyArray, i: usize, text: &mut String) -> Result<(), Error> {
     if i >= array.len() {
         text.push_str("past the end")?;
@@ -33,7 +33,7 @@ fn spell_value(array: &AnyArray, i: usize, text: &mut String) -> Result<(), Erro
     Ok(())
 }
 
-/// Spells a flat array in brackets.
+/// Appends a flat array as text, in brackets.
 fn spell_items(array: &AnyArray, text: &mut String) -> Result<(), Error> {
     text.push_str("[")?;
     for i in 0..array.len() {
@@ -46,7 +46,7 @@ fn spell_items(array: &AnyArray, text: &mut String) -> Result<(), Error> {
     Ok(())
 }
 
-/// Spells lists of flat items.
+/// Appends lists of flat items as text.
 fn spell_lists(alloc: Global, lists: &ListArray, text: &mut String) -> Result<(), Error> {
     text.push_str("[")?;
     for i in 0..lists.len() {
@@ -73,7 +73,7 @@ fn spell_any_lists(alloc: Global, array: &AnyArray, text: &mut String) -> Result
     }
 }
 
-/// Spells lists of lists of flat items.
+/// Appends lists of lists of flat items as text.
 fn spell_lists_of_lists(alloc: Global, lists: &ListArray, text: &mut String) -> Result<(), Error> {
     for i in 0..lists.len() {
         let items = lists.value(alloc, i)?;
@@ -84,7 +84,7 @@ fn spell_lists_of_lists(alloc: Global, lists: &ListArray, text: &mut String) -> 
     Ok(())
 }
 
-/// Spells records of two flat fields.
+/// Appends records of two flat fields as text.
 fn spell_records(records: &StructArray, text: &mut String) -> Result<(), Error> {
     let children = records.values();
     for i in 0..records.len() {

@@ -47,7 +47,7 @@ pub(crate) fn scalar_of<A: Array + Drop>(
     }
 }
 
-/// Spells numbers of 32 bits in brackets.
+/// Appends numbers of 32 bits as text, in brackets.
 fn spell_items(items: &AnyArray, text: &mut String) -> Result<(), Error> {
     match items {
         AnyArray::Primitive(AnyPrimitive::Int32(numbers)) => {

@@ -439,7 +439,7 @@ fn is_given<A: PartialEq + Drop>(given: Result<A, Error>, array: &A) -> bool {
     }
 }
 
-/// Copies and slices of unions with memory; what their types tell.
+/// Copies and slices of unions with memory; their types.
 #[test]
 fn copies_with_memory(rt: HostRuntime) {
     let alloc = rt.alloc();

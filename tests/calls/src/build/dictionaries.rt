@@ -10,7 +10,7 @@ use nest_memory::error::{ArgumentError, Error};
 use std::alloc::Global;
 use std::rc::Rc;
 
-/// Byte strings of two bytes by keys of which there are 128.
+/// Byte strings of two bytes by keys of 8 bits.
 type Pairs = MutableDictionaryArray<i8, MutableFixedSizeBinaryArray>;
 
 fn push_plain<B: MutableArray>(builder: &mut B, value: Plain<'_>) -> Result<(), Error> {

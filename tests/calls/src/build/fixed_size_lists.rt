@@ -118,7 +118,7 @@ fn push_valid_and_null(rows: &mut Lists) -> Result<(bool, bool), Error> {
     Ok((before, rows.validity().is_some()))
 }
 
-/// Keeps the first of two rows, the second of which is null.
+/// Keeps the first of two rows; the second is null.
 fn keep_first(rows: &mut Lists) -> bool {
     if !rows.is_complete() || rows.len() != 2 || rows.is_valid(1) {
         return false;

@@ -26,7 +26,7 @@ fn are_lists(array: &AnyArray, offsets: &[i32]) -> bool {
     lists.offsets().as_slice() == offsets && has_int32s(lists.values(), &all)
 }
 
-/// That these lists came, or want of memory alone: then 1 is decoded.
+/// Expects these lists, or `Memory`: then returns 1.
 fn expect_lists(rt: &impl Abort, item: Option<Result<AnyArray, Error>>, offsets: &[i32]) -> usize {
     match item {
         Some(Ok(array)) => {

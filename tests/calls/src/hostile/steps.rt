@@ -66,7 +66,7 @@ fn has_rows<B: MutableArray + Stepped>(builder: &B, rows: &[Option<u32>]) -> boo
     true
 }
 
-/// Adds a row to the plain list where it was added to the builder: only want of memory keeps it out.
+/// Adds a row to the plain list if it was added to the builder, which may fail only with `Memory`.
 fn follow(rows: &mut Vec<Option<u32>>, row: Option<u32>, done: Result<(), Error>) -> bool {
     match done {
         Ok(()) => rows.push(row).is_ok(),

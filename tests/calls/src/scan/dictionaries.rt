@@ -1,4 +1,4 @@
-//! Dictionaries gone through from both ends, by their keys and by their strings.
+//! Iterators over dictionaries from both ends, by keys and by strings.
 use crate::scan::maps::texts;
 use crate::scan::parts::{both, buffer, numbers, offsets_of, validity};
 use crate::scan::walks::{expect_decoded, walk, walked};

@@ -1,4 +1,4 @@
-//! Lists gone through from both ends.
+//! Iterators over lists from both ends.
 use crate::scan::parts::{list_array, numbers};
 use crate::scan::walks::{expect_decoded, spell, walked};
 use nest_array::ListArray;

@@ -1,4 +1,4 @@
-//! Maps gone through from both ends.
+//! Iterators over maps from both ends.
 use crate::scan::parts::{both, buffer, offsets_of, two, validity};
 use crate::scan::walks::{expect_decoded, walk, walked};
 use nest_array::{AnyArray, MapArray, StructArray};

@@ -26,7 +26,7 @@ fn lists_of_lists(alloc: Global) -> Result<ListArray, Error> {
     list_array(alloc, items, &[0, 2, 2, 3, 4], None)
 }
 
-/// That so many lists came, or want of memory alone.
+/// Expects so many lists, or `Memory`.
 fn expect_lists(rt: &impl Abort, item: Option<Result<AnyArray, Error>>, n: usize) {
     assert!(rt; item.is_some());
     if let Some(item) = item {
@@ -56,7 +56,7 @@ fn a_list_without_memory_is_skipped(rt: HostRuntime) {
     assert!(rt; values.next().is_none());
 }
 
-/// That an index came, or want of memory alone.
+/// Expects an item, or `Memory`.
 fn expect_item<T: Drop>(rt: &impl Abort, item: Option<Result<T, Error>>) {
     assert!(rt; item.is_some());
     if let Some(item) = item {

@@ -1,4 +1,4 @@
-//! Records gone through from both ends.
+//! Iterators over records from both ends.
 use crate::scan::parts::{both, numbers, two, validity};
 use crate::scan::walks::{expect_decoded, walked};
 use nest_array::{AnyArray, StructArray};

@@ -1,4 +1,4 @@
-//! Fixed-size lists, and fixed-size binary values, gone through from both ends.
+//! Iterators over fixed-size lists and fixed-size binary values from both ends.
 use crate::scan::parts::{both, buffer, numbers, validity};
 use crate::scan::walks::{expect_decoded, walked};
 use nest_array::{AnyArray, FixedSizeBinaryArray, FixedSizeListArray};

@@ -1,4 +1,4 @@
-//! Walks over what is gone through from both ends, decoded as text.
+//! Steps of iterators from both ends, as text.
 use nest_array::{AnyArray, AnyScalar, ScalarValue};
 use nest_flat::any_primitive::AnyPrimitive;
 use nest_memory::error::Error;
@@ -134,7 +134,7 @@ fn spell_array(array: &AnyArray, text: &mut String) -> Result<(), Error> {
     }
 }
 
-/// Spells the item that came, and a space; none is a dash.
+/// Appends the item as text, and a space; none is a dash.
 pub(crate) fn spell<T: Given>(item: Option<T>, text: &mut String) -> Result<(), Error> {
     match item {
         Some(item) => item.spell(text)?,

@@ -86,7 +86,7 @@ pub fn numbers(alloc: Global, items: &[i32], bits: Option<&[bool]>) -> Made {
     int32s(alloc, items, bits).map(|array| AnyArray::Primitive(i32::wrap(array)))
 }
 
-/// Truths, as a mask.
+/// Booleans, as a mask.
 pub fn mask(alloc: Global, items: &[bool], bits: Option<&[bool]>) -> Result<BooleanArray, Error> {
     match both(Bitmap::from_bools(alloc, items), validity(alloc, bits)) {
         Ok((values, validity)) => BooleanArray::try_new(DataType::Boolean, values, validity),
@@ -94,7 +94,7 @@ pub fn mask(alloc: Global, items: &[bool], bits: Option<&[bool]>) -> Result<Bool
     }
 }
 
-/// Truths.
+/// Booleans.
 pub fn booleans(alloc: Global, items: &[bool], bits: Option<&[bool]>) -> Made {
     mask(alloc, items, bits).map(|array| AnyArray::Boolean(array))
 }

@@ -13,7 +13,7 @@ use nest_memory::error::Error;
 use nest_memory::types::NativeType;
 use std::alloc::Global;
 
-/// Keys as numbers, of which each is valid or not.
+/// Keys as numbers, each valid or not.
 #[derive(Drop)]
 struct Keys {
     raw: Vec<i128>,

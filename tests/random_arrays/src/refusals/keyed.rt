@@ -72,7 +72,7 @@ pub fn keyed(alloc: Global, rng: &mut Generator, a: &DictionaryArray) -> Result<
     Ok(trial(answer, expected))
 }
 
-/// Keys of which the last, which is valid, is negative.
+/// Keys; the last one is valid and negative.
 fn negative_key(alloc: Global, a: &DictionaryArray) -> Result<Trial, Error> {
     let AnyKeys::Int8(keys) = a.keys() else {
         return Ok(trial(Ok(()), None));

@@ -1,4 +1,4 @@
-//! Arrays of parts of which one is invalid: the check that fails, by its error.
+//! Arrays of parts, one of them invalid: the check that fails, by its error.
 
 mod flat;
 mod keyed;

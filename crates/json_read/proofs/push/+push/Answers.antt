@@ -14,7 +14,7 @@ use Rattle.json_read.specs.JsonSlots.{value_error, field_slots, items_error, mem
 use Rattle.json_read.specs.SlotAdded.{IsPushError, SlotAdded, SlotsAdded}
 use Rattle.json_read.proofs.Feeding.{fed-none, named-at, named-none}
 use Rattle.json_read.proofs.Stepping.{refuses-first}
-use Rattle.json_read.proofs.ToldLists.{list-added}
+use Rattle.json_read.proofs.AddedLists.{list-added}
 use Rattle.json_read.proofs.TypeParts.{child-apart, child-parts, struct-apart, struct-members}
 use Rattle.json_read.proofs.Pushed.{on-ok, value-list, error-list, size-wrong, size-right, first-later, trees-count, types-count, tree-at, whole-child, child-repeated, child-reason, some-len, error-object, Coming, children-whole, records-typed, over-same, coming-children, coming-ready, coming-next, coming-stop, coming-with_row}
 use Rattle.nest_memory.specs.TypeTree.{Letters, count_fields, fields_of, fixed_size}

@@ -1,4 +1,4 @@
-//! What lists lend, what is under a null, and what types and offsets tell.
+//! What lists lend, what is under a null, and the properties of types and offsets.
 use super::lists::by_large_offsets;
 use super::sizes::pairs;
 use super::structs::four;

@@ -13,7 +13,7 @@ fn record_type(alloc: Global) -> Result<DataType, Error> {
     two(alloc, boolean, number).map(|fields| DataType::Struct(fields))
 }
 
-/// Truths as an array of any kind.
+/// Booleans as an array of any kind.
 fn any_booleans(alloc: Global, items: &[bool]) -> Result<AnyArray, Error> {
     booleans(alloc, items).map(|array| AnyArray::Boolean(array))
 }
@@ -43,7 +43,7 @@ fn records(
     records_under(alloc, record_type(alloc), children, bits)
 }
 
-/// Four records, of which the third is null.
+/// Four records; the third is null.
 pub(crate) fn four(alloc: Global, items: &[i32]) -> Result<StructArray, Error> {
     let bits = [true, true, false, true].as_slice();
     records(alloc, &[false, false, true, true], items, Some(bits))

@@ -1,4 +1,4 @@
--- Rows of items that were told over the items that waited.
+-- Rows of items that were added over the pending items.
 use Rattle.std.proofs.Common.{◌≡◌, ℕ, zero, suc, ◌+◌, ◌*◌, ◌<◌, ◌≤◌, Bool, true, false, List, [], ◌∷◌, ◌++◌, length, drop, refl, sym, ap, ◌∙◌, subst, arith}
 use Rattle.json_read.specs.SlotAdded.{SlotAdded, SlotsAdded}
 use Rattle.nest_build.specs.Children.{list_child, with_items}
@@ -26,7 +26,7 @@ tells (fixed_size_list t bits c) d k w v = v
 tells (dictionary i t keys c) d k w v = absurd k
 tells (struct t bits cs) d k w v = absurd k
 
--- a told list over more items is the list of these
+-- a list added over more items is the list of these
 pub list-added : (ss : List Slot) (b d new : BuilderTree) → IsListBuilder b → IsComplete b → SlotsAdded ss (list_child b) d → RowAdded true (with_items b d) new → SlotAdded (slots.list (seal ss)) b new
 list-added ss (flat t xs) d new k w h q = absurd k
 list-added ss (list large t rows c) d new k w h q =
