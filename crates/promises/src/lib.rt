@@ -4,5 +4,5 @@
 #![tactic(auto)]
 
 pub mod arrays;
+pub mod arrow_ipc;
 pub mod builders;
-pub mod ipc;

@@ -9,8 +9,8 @@
 #![tactic(auto)]
 
 pub mod arrays;
+pub mod arrow_ipc;
 pub mod builders;
 pub mod equality;
-pub mod ipc;
 pub mod kernels;
 pub mod text;

@@ -4,7 +4,7 @@ use Rattle.ipc.specs.Streams.{record_batch_of}
 use Rattle.ipc.specs.Files.{FileTree, file_in, file_of}
 use Rattle.ipc.specs.EncodedFiles.{decoded_file}
 use Rattle.theorems.proofs.RoundTrips.{one_file}
-use Rattle.theorems.proofs.ipc.file_round_trips.Goals as goal
+use Rattle.theorems.proofs.arrow_ipc.file_round_trips.Goals as goal
 
 pub returns-in-Ok-clause-schema : goal.returns-in-Ok-clause-schema
 returns-in-Ok-clause-schema c =

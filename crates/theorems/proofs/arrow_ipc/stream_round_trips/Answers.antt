@@ -3,7 +3,7 @@ use Rattle.ipc_schema.specs.Schemas.{schema_of}
 use Rattle.ipc.specs.Streams.{StreamTree, record_batch_of, stream_in, stream_of}
 use Rattle.ipc.specs.EncodedStreams.{decoded_stream}
 use Rattle.theorems.proofs.RoundTrips.{one_stream}
-use Rattle.theorems.proofs.ipc.stream_round_trips.Goals as goal
+use Rattle.theorems.proofs.arrow_ipc.stream_round_trips.Goals as goal
 
 pub returns-in-Ok-clause-schema : goal.returns-in-Ok-clause-schema
 returns-in-Ok-clause-schema c =

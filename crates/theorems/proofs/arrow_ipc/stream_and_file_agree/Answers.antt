@@ -4,7 +4,7 @@ use Rattle.ipc.specs.Streams.{record_batch_of}
 use Rattle.ipc.specs.EncodedStreams.{decoded_batches}
 use Rattle.ipc.specs.EncodedFiles.{decoded_file}
 use Rattle.theorems.proofs.SameBatches.{same_both}
-use Rattle.theorems.proofs.ipc.stream_and_file_agree.Goals as goal
+use Rattle.theorems.proofs.arrow_ipc.stream_and_file_agree.Goals as goal
 
 pub returns-clause-batches : goal.returns-clause-batches
 returns-clause-batches c =
