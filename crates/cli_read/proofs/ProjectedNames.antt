@@ -18,11 +18,11 @@ use Rattle.cli_rows.specs.declared.error.CliError.TheVariants.{UnknownName}
 use Rattle.cli_read.specs.Comparisons.{ComparesColumns, ComparesInputs}
 use Rattle.cli_read.specs.Decoded.{Decoded, table_with}
 use Rattle.cli_read.specs.Printed.{Prints, PrintsColumns}
-use Rattle.cli_read.specs.ProjectedNames.{FailsToOpenColumns, HasNames, HasUnknown, StopsForName}
+use Rattle.cli_read.specs.ProjectedNames.{FailsToOpenColumns, FollowsNames, HasNames, HasUnknown, StopsForName}
 use Rattle.cli_read.specs.Remaining.{FailsToOpen, IsOpened, Remaining, StartsEmpty, with_schema}
 use Rattle.cli_read.specs.Takes.{FailsToTake, FailsToTakeColumns, Takes}
 use Rattle.cli_read.specs.declared.comparison.inputs.CompareError.{CompareError}
-use Rattle.cli_read.specs.declared.comparison.inputs.CompareError.TheVariants.{First, Second}
+use Rattle.cli_read.specs.declared.comparison.inputs.CompareError.TheVariants.{First, Second, TooManyRows}
 use Rattle.cli_read.proofs.BufferSteps.{second-unopened}
 use Rattle.cli_read.proofs.EqualFiles.{first-unopened}
 use Rattle.cli_read.proofs.PrintSteps as printing
@@ -49,16 +49,20 @@ pub unread : (picks : ProjectionModel) (error : CliError) (x : Option Decoded) �
 unread picks error None h = tt
 unread picks error (Some x) h = inl h
 
+pub names-follow : (picks : ProjectionModel) (x : Option Decoded) (e : BatchError) → HasNames picks x → FollowsNames picks x e
+names-follow picks None e h = tt
+names-follow picks (Some x) e h = inl h
+
 -- ---- printing
 
 pub prints-columns : (picks : ProjectionModel) (q : RequestTree) (x : Option Decoded) (result : Result ⊤ BatchError) (old new : Option (List ℕ)) → Prints q x result old new → HasNames picks x → PrintsColumns picks q x result old new
 prints-columns picks q None result old new p h = tt
 prints-columns picks q (Some x) (Ok done) old new p h = (p, h)
-prints-columns picks q (Some x) (Err e) old new p h = inl p
+prints-columns picks q (Some x) (Err e) old new p h = inl (p, inl h)
 
 pub unprinted : (picks : ProjectionModel) (q : RequestTree) (x : Option Decoded) (old : Option (List ℕ)) (error : CliError) → FailsToOpenColumns picks error x → PrintsColumns picks q x (Err (record { batch = None; error = error })) old old
 unprinted picks q None old error h = tt
-unprinted picks q (Some x) old error (inl h) = inl (printing.unopened q (Some x) old error h)
+unprinted picks q (Some x) old error (inl h) = inl (printing.unopened q (Some x) old error h, inr (refl, h))
 unprinted picks q (Some x) old error (inr h) = inr ((refl, h), Keeps-refl old)
 
 -- ---- taking
@@ -74,8 +78,8 @@ take-fails-opened wanted (Some x) s None e o h = absurd o
 take-fails-opened wanted (Some x) s (Some l) e o h = subst (λ (z : Decoded). FailsToTake wanted (Some z) e) (sym o) h
 
 pub untaken : (picks : ProjectionModel) (wanted : List ℕ) (x : Option Decoded) (error : CliError) → FailsToOpenColumns picks error x → FailsToTakeColumns picks wanted x (record { batch = None; error = error })
-untaken picks wanted None error h = inl tt
-untaken picks wanted (Some x) error (inl h) = inl (taking.unopened wanted (Some x) error h)
+untaken picks wanted None error h = inl (tt, tt)
+untaken picks wanted (Some x) error (inl h) = inl (taking.unopened wanted (Some x) error h, inr (refl, h))
 untaken picks wanted (Some x) error (inr h) = inr (refl, h)
 
 -- ---- comparing
@@ -95,17 +99,19 @@ pub compares-columns : (picks : ProjectionModel) (x y : Option Decoded) (result 
 compares-columns picks None y result h has other = tt
 compares-columns picks (Some x) None result h has other = tt
 compares-columns picks (Some x) (Some y) (Ok difference) h has other = (h, has, other)
-compares-columns picks (Some x) (Some y) (Err e) h has other = inl h
+compares-columns picks (Some x) (Some y) (Err (First stop)) h has other = inl (h, inl (has, other))
+compares-columns picks (Some x) (Some y) (Err (Second stop)) h has other = inl (h, (has, inl other))
+compares-columns picks (Some x) (Some y) (Err TooManyRows) h has other = inl (h, (has, other))
 
 pub first-uncompared : (picks : ProjectionModel) (x y : Option Decoded) (error : CliError) → FailsToOpenColumns picks error x → ComparesColumns picks x y (Err (First (record { batch = None; error = error })))
 first-uncompared picks None y error h = tt
 first-uncompared picks (Some x) None error h = tt
-first-uncompared picks (Some x) (Some y) error (inl h) = inl (first-unopened (Some x) (Some y) error h)
+first-uncompared picks (Some x) (Some y) error (inl h) = inl (first-unopened (Some x) (Some y) error h, inr (refl, h))
 first-uncompared picks (Some x) (Some y) error (inr h) = inr (refl, h)
 
 pub second-uncompared : (picks : ProjectionModel) (x y : Option Decoded) (s : SchemaModel) (l : Option Remaining) (error : CliError) → IsOpened x s l → StartsEmpty l → HasNames picks x → FailsToOpenColumns picks error y
     → ComparesColumns picks x y (Err (Second (record { batch = None; error = error })))
 second-uncompared picks None y s l error o fresh has h = tt
 second-uncompared picks (Some x) None s l error o fresh has h = tt
-second-uncompared picks (Some x) (Some y) s l error o fresh has (inl h) = inl (second-unopened (Some x) (Some y) s l error o fresh h)
+second-uncompared picks (Some x) (Some y) s l error o fresh has (inl h) = inl (second-unopened (Some x) (Some y) s l error o fresh h, (has, inr (refl, h)))
 second-uncompared picks (Some x) (Some y) s l error o fresh has (inr h) = inr (has, (refl, h))

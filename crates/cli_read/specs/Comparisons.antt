@@ -6,7 +6,8 @@ use Rattle.cli_rows.specs.Difference.{AreEqualUpTo}
 use Rattle.cli_rows.specs.Rows.{RowSlot}
 use Rattle.cli_read.specs.Decoded.{Decoded}
 use Rattle.cli_read.specs.Inputs.{decoded_input}
-use Rattle.cli_read.specs.ProjectedNames.{HasUnknown, StopsForName}
+use Rattle.cli_read.specs.ProjectedNames.{FollowsNames, HasUnknown, StopsForName}
+use Rattle.cli_read.specs.Remaining.{IsReadErrorOf}
 use Rattle.cli_read.specs.declared.input.Input as inputs
 use Rattle.cli_rows.specs.Compared.{ComparesTables, IsRowsError, IsTableDifference, table_rows}
 use Rattle.cli_rows.specs.Tables.{TableTree}
@@ -72,6 +73,13 @@ ComparesInputs (Some s) (Some t) (Err (First stop)) = FailsIn stop.batch stop.er
 ComparesInputs (Some s) (Some t) (Err (Second stop)) = FailsInSecond stop.batch stop.error s t
 ComparesInputs (Some s) (Some t) (Err TooManyRows) = HaveTooManyRows s t
 
+-- The error occurred with names that all have a column in both inputs. Where one has none, it is an error of reading before any record
+-- batch; of the second input only if the first one has all names.
+abbrev pub FollowsComparedNames : ProjectionModel → Decoded → Decoded → CompareError → Type 0
+FollowsComparedNames picks s t (First stop) = (HasUnknown picks None s × HasUnknown picks None t) ⊎ ((stop.batch ≡ None) × IsReadErrorOf stop.error (s.first 0))
+FollowsComparedNames picks s t (Second stop) = HasUnknown picks None s × FollowsNames picks (Some t) stop
+FollowsComparedNames picks s t TooManyRows = HasUnknown picks None s × HasUnknown picks None t
+
 -- the error has the first projected name that no column of an input has
 abbrev pub LacksComparedName : ProjectionModel → Decoded → Decoded → CompareError → Type 0
 LacksComparedName picks s t (First stop) = StopsForName picks (Some s) stop
@@ -83,7 +91,7 @@ abbrev pub ComparesColumns : ProjectionModel → Option Decoded → Option Decod
 ComparesColumns picks None t result = Unit {0}
 ComparesColumns picks (Some s) None result = Unit {0}
 ComparesColumns picks (Some s) (Some t) (Ok difference) = ComparesInputs (Some s) (Some t) (Ok difference) × HasUnknown picks None s × HasUnknown picks None t
-ComparesColumns picks (Some s) (Some t) (Err e) = ComparesInputs (Some s) (Some t) (Err e) ⊎ LacksComparedName picks s t e
+ComparesColumns picks (Some s) (Some t) (Err e) = (ComparesInputs (Some s) (Some t) (Err e) × FollowsComparedNames picks s t e) ⊎ LacksComparedName picks s t e
 
 module _ {R S : Type 0} (remaining : R → Option (List ℕ)) (position : R → Option ℕ) (bytes : R → Option (List ℕ)) (remaining_s : S → Option (List ℕ)) (position_s : S → Option ℕ) (bytes_s : S → Option (List ℕ)) where
   -- the result of comparing the projected columns of two inputs

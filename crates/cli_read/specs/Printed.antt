@@ -12,7 +12,7 @@ use Rattle.cli_rows.specs.declared.error.CliError.{CliError}
 use Rattle.cli_rows.specs.declared.error.CliError.TheVariants.{Input, Output}
 use Rattle.cli_read.specs.RemainingRequests.{HasRequestedRows}
 use Rattle.cli_read.specs.Decoded.{Decoded}
-use Rattle.cli_read.specs.ProjectedNames.{HasUnknown, StopsForName}
+use Rattle.cli_read.specs.ProjectedNames.{FollowsNames, HasUnknown, StopsForName}
 
 -- the request prints this text of a table
 abbrev pub HasText : RequestTree → TableTree → List ℕ → Type 0
@@ -61,4 +61,4 @@ Prints q (Some s) (Err e) old new = FailsWhilePrinting q s e.batch e.error old n
 abbrev pub PrintsColumns : ProjectionModel → RequestTree → Option Decoded → Result ⊤ BatchError → Option (List ℕ) → Option (List ℕ) → Type 0
 PrintsColumns picks q None result old new = Unit {0}
 PrintsColumns picks q (Some s) (Ok done) old new = Prints q (Some s) (Ok done) old new × HasUnknown picks None s
-PrintsColumns picks q (Some s) (Err e) old new = Prints q (Some s) (Err e) old new ⊎ (StopsForName picks (Some s) e × Keeps old new)
+PrintsColumns picks q (Some s) (Err e) old new = (Prints q (Some s) (Err e) old new × FollowsNames picks (Some s) e) ⊎ (StopsForName picks (Some s) e × Keeps old new)

@@ -27,6 +27,11 @@ abbrev pub StopsForName : ProjectionModel → Option Decoded → BatchError → 
 StopsForName picks None e = Unit {0}
 StopsForName picks (Some s) e = (e.batch ≡ None) × LacksName picks s e.error
 
+-- The error occurred with names that all have a column. Where one has none, it is an error of reading before any record batch.
+abbrev pub FollowsNames : ProjectionModel → Option Decoded → BatchError → Type 0
+FollowsNames picks None e = Unit {0}
+FollowsNames picks (Some s) e = HasUnknown picks None s ⊎ ((e.batch ≡ None) × IsReadErrorOf e.error (s.first 0))
+
 -- reading failed, or it is the first error of the bytes, or no column has a projected name
 abbrev pub FailsToOpenColumns : ProjectionModel → CliError → Option Decoded → Type 0
 FailsToOpenColumns picks error None = Unit {0}

@@ -5,7 +5,7 @@ use Rattle.ipc_flatbuf.specs.declared.error.IpcWriteError.{IpcWriteError}
 use Rattle.ipc.specs.EncodedStreams.{IsErrorOrMemory}
 use Rattle.ipc_schema.specs.Projections.{ProjectionModel}
 use Rattle.cli_read.specs.Decoded.{Decoded}
-use Rattle.cli_read.specs.ProjectedNames.{StopsForName}
+use Rattle.cli_read.specs.ProjectedNames.{FollowsNames, HasNames, StopsForName}
 use Rattle.cli_rows.specs.declared.error.BatchError.{BatchError}
 use Rattle.cli_rows.specs.Selection.{selected_rows}
 use Rattle.cli_read.specs.Comparisons.{IsBatchReadError}
@@ -40,9 +40,9 @@ abbrev pub FailsToTake : List ℕ → Option Decoded → BatchError → Type 0
 FailsToTake wanted None stop = Unit {0}
 FailsToTake wanted (Some s) stop = IsTakeError wanted s stop.batch stop.error
 
--- or the error has the first projected name that no column has
+-- each projected name is that of a column, or the error has the first that is not
 abbrev pub FailsToTakeColumns : ProjectionModel → List ℕ → Option Decoded → BatchError → Type 0
-FailsToTakeColumns picks wanted x stop = FailsToTake wanted x stop ⊎ StopsForName picks x stop
+FailsToTakeColumns picks wanted x stop = (FailsToTake wanted x stop × FollowsNames picks x stop) ⊎ StopsForName picks x stop
 
 -- ---- as text and as bytes
 
@@ -52,7 +52,7 @@ TakesText wanted x text = (t : TableTree) × Takes wanted x t × (printed_text (
 
 -- or they are not taken, or have no text
 abbrev pub FailsToTakeText : ProjectionModel → List ℕ → Option Decoded → BatchError → Type 0
-FailsToTakeText picks wanted x stop = FailsToTakeColumns picks wanted x stop ⊎ ((t : TableTree) × Takes wanted x t × (stop.batch ≡ None) × IsRequestError stop.error (rows all) t)
+FailsToTakeText picks wanted x stop = FailsToTakeColumns picks wanted x stop ⊎ ((t : TableTree) × Takes wanted x t × (stop.batch ≡ None) × IsRequestError stop.error (rows all) t × HasNames picks x)
 
 -- the bytes decode to the rows taken
 abbrev pub TakesBytes : forms.Format → List ℕ → Option Decoded → List ℕ → Type 0
@@ -60,4 +60,4 @@ TakesBytes form wanted x bytes = (t : TableTree) × Takes wanted x t × IsEncodi
 
 -- or they are not taken, or not written
 abbrev pub FailsToTakeBytes : ProjectionModel → forms.Format → List ℕ → Option Decoded → BatchError → Type 0
-FailsToTakeBytes picks form wanted x stop = FailsToTakeColumns picks wanted x stop ⊎ ((t : TableTree) × (why : IpcWriteError) × Takes wanted x t × (stop.batch ≡ None) × (stop.error ≡ Write why) × IsErrorOrMemory (write_refusal form t) why)
+FailsToTakeBytes picks form wanted x stop = FailsToTakeColumns picks wanted x stop ⊎ ((t : TableTree) × (why : IpcWriteError) × Takes wanted x t × (stop.batch ≡ None) × (stop.error ≡ Write why) × IsErrorOrMemory (write_refusal form t) why × HasNames picks x)

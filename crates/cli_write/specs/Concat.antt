@@ -5,7 +5,7 @@ use Rattle.ipc.specs.Streams.{RecordBatchTree}
 use Rattle.ipc_schema.specs.Projections.{ProjectionModel}
 use Rattle.ipc_schema.specs.Schemas.{SchemaModel}
 use Rattle.cli_read.specs.Decoded.{Decoded}
-use Rattle.cli_read.specs.ProjectedNames.{StopsForName}
+use Rattle.cli_read.specs.ProjectedNames.{FollowsNames, HasNames, StopsForName}
 use Rattle.cli_read.specs.Remaining.{Remaining}
 use Rattle.cli_rows.specs.Concatenated.{DecodedTables, EncodesConcatenation}
 use Rattle.cli_rows.specs.Output.{HasTable}
@@ -49,6 +49,11 @@ IsAppendError e form s went None = Unit {0}
 IsAppendError Schema form s went (Some x) = HasTable (x.first 0) (λ h. h.schema ≡ s → ⊥)
 IsAppendError (Batch stop) form s went (Some x) = FailsWhileCopying all form went x stop.batch stop.error × HasSchema stop.batch s x
 
+-- the error occurred with names that all have a column, or in reading before any record batch
+abbrev pub FollowsAppendedNames : ProjectionModel → Option Decoded → AppendError → Type 0
+FollowsAppendedNames picks x Schema = HasNames picks x
+FollowsAppendedNames picks x (Batch stop) = FollowsNames picks x stop
+
 -- the error has the first projected name that no column has
 abbrev pub LacksAppendedName : ProjectionModel → Option Decoded → AppendError → Type 0
 LacksAppendedName picks x Schema = ⊥
@@ -65,7 +70,7 @@ module _ {W : Type 0} (contents : W → Option (List ℕ)) where
 
   -- or no column has a projected name
   abbrev pub FailsToAppendColumns : ProjectionModel → Option Decoded → BatchWriter W → AppendError → Type 0
-  FailsToAppendColumns picks x old e = FailsToAppend x old e ⊎ LacksAppendedName picks x e
+  FailsToAppendColumns picks x old e = (FailsToAppend x old e × FollowsAppendedNames picks x e) ⊎ LacksAppendedName picks x e
 
 -- bytes were written that decode to the concatenation of inputs
 abbrev pub WritesConcatenation : forms.Format → DecodedTables → Option (List ℕ) → Option (List ℕ) → Type 0

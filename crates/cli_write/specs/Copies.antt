@@ -13,7 +13,7 @@ use Rattle.ipc.specs.EncodedStreams.{IsErrorOrMemory}
 use Rattle.ipc.specs.EncodedFiles.{encoded_file}
 use Rattle.cli_rows.specs.ColumnNames.{spec_selection_error}
 use Rattle.cli_read.specs.Decoded.{Decoded}
-use Rattle.cli_read.specs.ProjectedNames.{HasUnknown, StopsForName}
+use Rattle.cli_read.specs.ProjectedNames.{FollowsNames, HasUnknown, StopsForName}
 use Rattle.cli_rows.specs.declared.error.BatchError.{BatchError}
 use Rattle.cli_rows.specs.Compared.{batch_arrays, table_rows}
 use Rattle.cli_rows.specs.Encodings.{IsEncodingOf, write_refusal}
@@ -92,4 +92,4 @@ Copies contents form c (Some s) start (Err stop) = FailsWhileCopying c form [] s
 abbrev pub CopiesColumns : {W : Type 0} → (W → Option (List ℕ)) → ProjectionModel → forms.Format → SelectionTree → Option Decoded → W → Result W BatchError → Type 0
 CopiesColumns contents picks form c None start result = Unit {0}
 CopiesColumns contents picks form c (Some s) start (Ok end) = Copies contents form c (Some s) start (Ok end) × HasUnknown picks None s
-CopiesColumns contents picks form c (Some s) start (Err stop) = Copies contents form c (Some s) start (Err stop) ⊎ StopsForName picks (Some s) stop
+CopiesColumns contents picks form c (Some s) start (Err stop) = (Copies contents form c (Some s) start (Err stop) × FollowsNames picks (Some s) stop) ⊎ StopsForName picks (Some s) stop

@@ -36,7 +36,7 @@ pub fn push_items<A, B: TryExtend<A>, I: IntoIterator<Item = A>>(
     builder.try_extend(items)
 }
 
-/// Returns the array of the rows in an `Rc`, as [`freeze`] does.
+/// Returns the array of the rows in an `Rc`. Fails where the builder is not complete, and then nothing changes, or when an allocation fails.
 pub fn freeze_shared<B: MutableArray>(builder: &mut B, alloc: Global) -> Result<Rc<AnyArray>, Error>
     ensures slots { IfOk result (λ r. slots_of (layout_of r.value) ≡ own_slots (B.model builder.old)) }
     ensures data_type { IfOk result (λ r. layout_type (layout_of r.value) ≡ builder_type (B.model builder.old)) }

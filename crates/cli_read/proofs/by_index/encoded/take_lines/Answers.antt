@@ -9,4 +9,4 @@ pub returns-in-Ok-table_text-clause-text : goal.returns-in-Ok-table_text-clause-
 returns-in-Ok-table_text-clause-text g c = (table_of c.in-Ok.table, c.in-Ok.ensures.rows, c.in-Ok-table_text.ensures.text)
 
 pub returns-in-Err-table_text-clause-error : goal.returns-in-Err-table_text-clause-error
-returns-in-Err-table_text-clause-error g c = inr (table_of c.in-Ok.table, c.in-Ok.ensures.rows, refl, c.in-Err-table_text.ensures.error)
+returns-in-Err-table_text-clause-error g c = inr (table_of c.in-Ok.table, c.in-Ok.ensures.rows, refl, c.in-Err-table_text.ensures.error, c.in-Ok.ensures.names)

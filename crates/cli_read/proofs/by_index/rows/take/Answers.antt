@@ -4,7 +4,7 @@ use Rattle.ipc_schema.specs.Projections.{projection_of}
 use Rattle.cli_rows.specs.Tables.{table_of}
 use Rattle.cli_read.specs.Inputs.{decoded_input}
 use Rattle.cli_read.specs.Readers.{reader_schema, remaining_batches}
-use Rattle.cli_read.proofs.ProjectedNames.{take-fails-opened, takes-opened, untaken}
+use Rattle.cli_read.proofs.ProjectedNames.{names-follow, take-fails-opened, takes-opened, untaken}
 use Rattle.cli_read.proofs.by_index.rows.take.Goals as goal
 
 pub returns-in-Err-clause-error : goal.returns-in-Err-clause-error
@@ -27,4 +27,4 @@ returns-in-Ok-clause-error g c =
     let x = decoded_input g.R.Read.remaining g.R.Seek.stream_position g.R.Seek.stream_bytes picks c.args.input in
     let s = reader_schema c.in-Ok.reader in
     let left = remaining_batches g.R.Read.remaining g.R.Seek.stream_position g.R.Seek.stream_bytes in
-    IfErr-weaker c.take_from_reader.result _ _ (λ e h. inl (take-fails-opened c.args.wanted.now x s (left c.in-Ok.reader) e c.in-Ok.ensures.opened h)) c.take_from_reader.ensures.error
+    IfErr-weaker c.take_from_reader.result _ _ (λ e h. inl (take-fails-opened c.args.wanted.now x s (left c.in-Ok.reader) e c.in-Ok.ensures.opened h, names-follow picks x e c.in-Ok.ensures.names)) c.take_from_reader.ensures.error
