@@ -6,7 +6,8 @@
 //! scenario makes fewer than n allocations, one of the n blocks after it fails, and so does the test.
 //!
 //! The folders `failed_allocations_NAME` have the scenarios. Their module `allocations` has a test for each scenario, which
-//! states how many allocations it makes. `scripts/test` adds a test for each of these allocations.
+//! states how many allocations it makes. `scripts/test` adds a test for these allocations: for all with `--all-allocations`, else for
+//! some.
 #![tactic(auto)]
 
 pub mod failures;
