@@ -2,4 +2,6 @@
 #![tactic(auto)]
 
 #[cfg(test)]
+mod floats;
+#[cfg(test)]
 mod texts;

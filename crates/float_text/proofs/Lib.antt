@@ -1,0 +1,11 @@
+mod Closest
+mod Exact
+mod LimbFacts
+mod Layouts
+mod Leading
+mod Powers
+mod ReadBack
+mod Rounding
+mod Search
+mod TextReads
+mod Seventeen

@@ -1,0 +1,4 @@
+pub mod Limbs
+pub mod Shortest
+pub mod Text
+pub mod Examples
