@@ -1,5 +1,6 @@
 mod Closest
 mod Exact
+mod Halves
 mod LimbFacts
 mod Layouts
 mod Leading

@@ -1,6 +1,7 @@
 -- Worked examples, computed from the definitions. The numbers and their texts are those of other programs, as Python's `repr`.
 use Rattle.std.specs.Prelude.{◌≡◌, refl, codes}
-use Rattle.std.specs.Float.Ieee.{binary32, binary64, round, to_bits}
+use Rattle.std.specs.Float.Ieee.{binary32, binary64, odd, round, to_bits}
+use Rattle.float_text.specs.Half.{half_text, single_of_half}
 use Rattle.float_text.specs.Shortest.{reads_as, rounded, shortest_decimal, shortest_from}
 use Rattle.float_text.specs.Text.{float_text, with_point}
 
@@ -93,3 +94,47 @@ negative-infinity-text = refl
 
 negative-zero-text : float_text binary64 0x8000_0000_0000_0000 ≡ codes "-0.0"
 negative-zero-text = refl
+
+-- ---- half-precision numbers: the singles are those of numpy
+
+-- 1
+half-one : single_of_half 0x3c00 ≡ 0x3f80_0000
+unfolding odd to_bits
+half-one = refl
+
+-- the half closest to 1 / 3
+half-third : single_of_half 0x3555 ≡ 0x3eaa_a000
+unfolding odd to_bits
+half-third = refl
+
+-- 65504, the largest
+half-largest : single_of_half 0xfbff ≡ 0xc77f_e000
+unfolding odd to_bits
+half-largest = refl
+
+-- 2^-14, the least with a leading 1
+half-normal : single_of_half 0x0400 ≡ 0x3880_0000
+unfolding odd to_bits
+half-normal = refl
+
+-- 1023 / 2^24, the largest without
+half-subnormal : single_of_half 0x03ff ≡ 0x387f_c000
+unfolding odd to_bits
+half-subnormal = refl
+
+-- 2^-24, the least above 0
+half-least : single_of_half 0x0001 ≡ 0x3380_0000
+unfolding odd to_bits
+half-least = refl
+
+half-negative-zero : single_of_half 0x8000 ≡ 0x8000_0000
+unfolding odd to_bits
+half-negative-zero = refl
+
+half-infinity : half_text 0xfc00 ≡ codes "-Infinity"
+unfolding to_bits
+half-infinity = refl
+
+half-nan : half_text 0xfe01 ≡ codes "NaN"
+unfolding to_bits
+half-nan = refl

@@ -1,4 +1,5 @@
 pub mod Limbs
 pub mod Shortest
 pub mod Text
+pub mod Half
 pub mod Examples

@@ -7,9 +7,11 @@
 
 mod decimal;
 mod format;
+mod half;
 pub mod laws;
 mod shortest;
 mod text;
 
 pub use format::FloatFormat;
+pub use half::{single_of_half, write_half};
 pub use text::{is_finite, write_float};

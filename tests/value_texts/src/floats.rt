@@ -1,6 +1,6 @@
 //! The text of floating-point numbers. The texts are those of Python's `repr`, in the layout of the Rust crate `ryu`.
 use fast_float::parse;
-use float_text::{is_finite, write_float};
+use float_text::{is_finite, single_of_half, write_float, write_half};
 use std::alloc::Global;
 use std::fmt;
 use std::fmt::{Display, Formatter};
@@ -11,6 +11,7 @@ use std::test::*;
 enum Number {
     Double(u64),
     Single(u64),
+    Half(u16),
 }
 
 impl Display for Number {
@@ -18,6 +19,7 @@ impl Display for Number {
         match *self {
             Number::Double(bits) => write_float::<f64, W>(f, bits),
             Number::Single(bits) => write_float::<f32, W>(f, bits),
+            Number::Half(bits) => write_half::<W>(f, bits),
         }
     }
 }
@@ -195,6 +197,42 @@ const SINGLES: &[(u64, &str)] = &[
     (0xd318_92f6, "-655300600000.0"),
 ];
 
+/// Halves.
+const HALVES: &[(u16, &str)] = &[
+    (0x0000, "0.0"),
+    (0x8000, "-0.0"),
+    (0x3c00, "1.0"),
+    (0xbc00, "-1.0"),
+    (0x3e00, "1.5"),
+    (0x2e66, "0.099975586"),
+    (0x3555, "0.33325195"),
+    (0x3aab, "0.8334961"),
+    (0x4248, "3.140625"),
+    (0x4900, "10.0"),
+    (0x5640, "100.0"),
+    (0x63d0, "1000.0"),
+    (0x7bff, "65504.0"),
+    (0xfbff, "-65504.0"),
+    (0x0001, "5.9604645e-8"),
+    (0x0002, "1.1920929e-7"),
+    (0x0003, "1.7881393e-7"),
+    (0x0200, "0.000030517578"),
+    (0x03ff, "0.00006097555"),
+    (0x0400, "0.000061035156"),
+    (0x0401, "0.00006109476"),
+    (0x0801, "0.00012218952"),
+    (0x8001, "-5.9604645e-8"),
+    (0x7c00, "Infinity"),
+    (0xfc00, "-Infinity"),
+    (0x7e00, "NaN"),
+    (0x7c01, "NaN"),
+    (0xfe01, "NaN"),
+    (0xffff, "NaN"),
+    (0x1419, "0.0010004044"),
+    (0x068e, "0.000100016594"),
+    (0x00a8, "0.00001001358"),
+];
+
 #[test]
 fn doubles(rt: HostRuntime) -> Result<(), Fail> {
     for (bits, want) in DOUBLES {
@@ -209,6 +247,29 @@ fn singles(rt: HostRuntime) -> Result<(), Fail> {
     for (bits, want) in SINGLES {
         let found = text(rt.alloc(), Number::Single(*bits))?;
         assert!(rt; found.as_str() == *want, "{bits}: {found}");
+    }
+    Ok(())
+}
+
+#[test]
+fn halves(rt: HostRuntime) -> Result<(), Fail> {
+    for (bits, want) in HALVES {
+        let found = text(rt.alloc(), Number::Half(*bits))?;
+        assert!(rt; found.as_str() == *want, "{bits}: {found}");
+    }
+    Ok(())
+}
+
+#[test]
+fn halves_read_back(rt: HostRuntime) -> Result<(), Fail> {
+    for step in 0..9_362_u16 {
+        let bits = 7 * step;
+        let found = text(rt.alloc(), Number::Half(bits))?;
+        let number: f32 = parse(found.as_bytes())?;
+        assert!(rt;
+            bits % 0x8000 > 0x7c00 || number.to_bits() == single_of_half(bits),
+            "{bits}: {found}"
+        );
     }
     Ok(())
 }
