@@ -18,10 +18,10 @@ use Rattle.nest_model.specs.Fits.{EachType, IsLogically}
 use Rattle.nest_model.specs.Layout.{Layout, Layouts, null, boolean, primitive, binary, utf8, fixed_size_binary, fixed_size_list, list as list_of, map as map_of, struct, union, dictionary, no_layouts, more_layouts, layout_type}
 use Rattle.ipc_flatbuf.specs.declared.error.IpcWriteError.TheVariants as write_errors
 use Rattle.ipc_schema.specs.Dictionaries.{ValueTypeModel}
-use Rattle.ipc_schema.specs.declared.floats.Precision.{Precision}
-use Rattle.ipc_schema.specs.declared.floats.Precision.TheVariants.{Half, Single, Double}
-use Rattle.ipc_schema.specs.Floats.{spec_bits_type, spec_float_type, spec_precision_of, spec_is_float}
-use Rattle.ipc_schema.specs.FloatLaws.{float_is}
+use Rattle.nest_memory.specs.declared.datatypes.floats.Precision.{Precision}
+use Rattle.nest_memory.specs.declared.datatypes.floats.Precision.TheVariants.{Half, Single, Double}
+use Rattle.nest_memory.specs.Floats.{spec_bits_type, spec_float_type, spec_precision_of, spec_is_float}
+use Rattle.nest_memory.specs.FloatLaws.{float_is}
 use Rattle.ipc_schema.specs.Extensions.{spec_storage_type, values_type, spec_table_type, spec_is_extension}
 use Rattle.ipc_schema.specs.FieldLaws.{split, own_and_inner}
 use Rattle.ipc_schema.specs.WriteChecks.{and_then_check, spec_require, spec_check_type, is_not_nested_extension, spec_is_plain_value_type, spec_can_encode, spec_has_no_reserved_key, spec_check_own, spec_check_each, spec_check_field, check_fields}

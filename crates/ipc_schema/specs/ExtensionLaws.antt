@@ -9,7 +9,7 @@ use Rattle.std.specs.declared.cmp.Ordering.TheVariants.{Less, Equal, Greater}
 use Rattle.std.proofs.lemmas.Map.Text.{is_eq-slice_cmp}
 use Rattle.nest_memory.specs.TypeTree as types
 use Rattle.nest_memory.specs.TypeTree.{Letters, Entries, TypeTree, field}
-use Rattle.ipc_schema.specs.Floats.{spec_is_float_name, spec_is_float}
+use Rattle.nest_memory.specs.Floats.{spec_is_float_name, spec_is_float}
 use Rattle.ipc_schema.specs.Extensions.{extension_name, extension_metadata, metadata_value, spec_has_key, without, spec_with_pair, spec_names_float, field_with_metadata, spec_storage_type, spec_is_extension, with_text, all_metadata_of}
 use Rattle.ipc_schema.specs.WriteChecks.{spec_has_free_name, spec_has_no_reserved_key}
 

@@ -8,7 +8,7 @@ use Rattle.std.specs.Ordering.{nat_cmp}
 use Rattle.std.specs.Str.{bytes_eq}
 use Rattle.nest_memory.specs.TypeTree as types
 use Rattle.nest_memory.specs.TypeTree.{Letters, Entries, TypeTree, FieldTree, field}
-use Rattle.ipc_schema.specs.Floats.{spec_is_float_name, spec_is_float}
+use Rattle.nest_memory.specs.Floats.{spec_is_float_name, spec_is_float}
 
 -- the reserved keys ARROW:extension:name and ARROW:extension:metadata
 abbrev pub extension_name : Letters

@@ -11,8 +11,8 @@ use Rattle.ipc_flatbuf.specs.declared.error.IpcReadError.TheVariants.{Unsupporte
 use Rattle.ipc_flatbuf.specs.declared.error.IpcWriteError.TheVariants as reasons
 use Rattle.ipc_flatbuf.specs.Flatbuffers.{spec_offset_at, spec_back_from, spec_table_at, spec_field_position, spec_charge_budget, spec_read_table, spec_read_vector, spec_read_string, tables_at, spec_items_at, spec_str_at}
 use Rattle.ipc_flatbuf.specs.PartBytes.{u32_bytes, string_bytes, offsets, concatenated, table_vector_bytes}
-use Rattle.ipc_schema.specs.declared.floats.Precision.TheVariants.{Half, Single, Double}
-use Rattle.ipc_schema.specs.Floats.{spec_float_name, spec_float_type}
+use Rattle.nest_memory.specs.declared.datatypes.floats.Precision.TheVariants.{Half, Single, Double}
+use Rattle.nest_memory.specs.Floats.{spec_float_name, spec_float_type}
 use Rattle.ipc_schema.specs.Types.{spec_bare_at, spec_integer_at, spec_float_at}
 use Rattle.ipc_schema.specs.ExtensionExamples.{text_name_key}
 use Rattle.ipc_schema.specs.Dictionaries.{no_dictionaries, progress, spec_key_at, spec_encoding_at}

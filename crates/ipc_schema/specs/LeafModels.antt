@@ -3,7 +3,7 @@ use Rattle.std.specs.Option.{option_map}
 use Rattle.nest_memory.specs.Physical.{integer_tree}
 use Rattle.nest_memory.specs.TypeTree as types
 use Rattle.nest_memory.specs.TypeTree.{TypeTree}
-use Rattle.ipc_schema.specs.Floats.{spec_float_type}
+use Rattle.nest_memory.specs.Floats.{spec_float_type}
 use Rattle.ipc_schema.specs.declared.leaf_types.Leaf.{Leaf}
 use Rattle.ipc_schema.specs.declared.leaf_types.Leaf.TheVariants as leaves
 

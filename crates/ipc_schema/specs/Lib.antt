@@ -20,7 +20,6 @@ pub mod SchemaBytes
 pub mod DictionaryIdLaws
 pub mod OutermostIdLaws
 pub mod MetadataLaws
-pub mod FloatLaws
 pub mod TypeLaws
 pub mod ExtensionLaws
 pub mod FieldLaws

@@ -13,8 +13,8 @@ use Rattle.ipc_flatbuf.specs.declared.error.IpcReadError.TheVariants.{Version, M
 use Rattle.ipc_flatbuf.specs.declared.message.types.MetadataVersion.TheVariants.{V4}
 use Rattle.ipc_flatbuf.specs.Flatbuffers.{spec_offset_at, spec_back_from, spec_table_at, spec_field_position, spec_charge_budget, spec_read_table, spec_read_vector, spec_read_string, tables_at, spec_items_at, spec_str_at}
 use Rattle.ipc_flatbuf.specs.Messages.{root_at, spec_first_bytes, spec_after_continuation, spec_message_of_size, spec_sized_message, message_at}
-use Rattle.ipc_schema.specs.declared.floats.Precision.TheVariants.{Double}
-use Rattle.ipc_schema.specs.Floats.{spec_float_type}
+use Rattle.nest_memory.specs.declared.datatypes.floats.Precision.TheVariants.{Double}
+use Rattle.nest_memory.specs.Floats.{spec_float_type}
 use Rattle.ipc_schema.specs.Types.{spec_bare_at, spec_integer_at, spec_float_at}
 use Rattle.ipc_schema.specs.Dictionaries.{no_dictionaries, spec_key_at, spec_encoding_at}
 use Rattle.ipc_schema.specs.FieldVectors.{tables_in_turn}

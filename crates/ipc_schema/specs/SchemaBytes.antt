@@ -14,8 +14,9 @@ use Rattle.nest_memory.specs.declared.datatypes.UnionMode.TheVariants.{Dense, Sp
 use Rattle.ipc_flatbuf.specs.PartBytes.{u32_bytes, i32_bytes, i64_bytes, string_bytes, table_vector_bytes, vector_bytes, offsets_size, padding_zeros}
 use Rattle.ipc_flatbuf.specs.MessageBytes.{message_bytes}
 use Rattle.ipc_flatbuf.specs.declared.message.types.MessageKind.TheVariants as kinds
-use Rattle.ipc_schema.specs.Floats.{spec_precision_number, spec_precision_of, spec_is_float}
-use Rattle.ipc_schema.specs.declared.floats.Precision.{Precision}
+use Rattle.nest_memory.specs.Floats.{spec_precision_of, spec_is_float}
+use Rattle.ipc_schema.specs.Floats.{spec_precision_number}
+use Rattle.nest_memory.specs.declared.datatypes.floats.Precision.{Precision}
 use Rattle.ipc_schema.specs.Types.{spec_children_of}
 use Rattle.ipc_schema.specs.declared.dictionaries.Encoding.{Encoding}
 use Rattle.ipc_schema.specs.Extensions.{spec_table_type, all_metadata_of}

@@ -32,10 +32,11 @@ use Rattle.ipc_schema.specs.declared.type_tags.LeafTag.{LeafTag}
 use Rattle.ipc_schema.specs.declared.type_tags.LeafTag.TheVariants as leaves
 use Rattle.ipc_schema.specs.declared.type_tags.Tag.{Tag}
 use Rattle.ipc_schema.specs.declared.type_tags.Tag.TheVariants as tags
-use Rattle.ipc_schema.specs.declared.floats.Precision.{Precision}
-use Rattle.ipc_schema.specs.declared.floats.Precision.TheVariants.{Half, Single, Double}
-use Rattle.ipc_schema.specs.Floats.{spec_precision_number, spec_numbered_precision, spec_float_type, spec_precision_of, spec_is_float}
-use Rattle.ipc_schema.specs.FloatLaws.{float_is}
+use Rattle.nest_memory.specs.declared.datatypes.floats.Precision.{Precision}
+use Rattle.nest_memory.specs.declared.datatypes.floats.Precision.TheVariants.{Half, Single, Double}
+use Rattle.nest_memory.specs.Floats.{spec_float_type, spec_precision_of, spec_is_float}
+use Rattle.ipc_schema.specs.Floats.{spec_precision_number, spec_numbered_precision}
+use Rattle.nest_memory.specs.FloatLaws.{float_is}
 use Rattle.ipc_schema.specs.Types.{spec_tag_of, spec_bare_at, spec_integer_of, spec_integer_at, spec_float_at, spec_is_precision, most_digits, most_digits256, spec_decimal_at, spec_date_of, spec_date_at, spec_unit_of, spec_is_coarse, spec_time_of, spec_time_at, spec_zone_at, spec_timestamp_at, spec_interval_of, spec_interval_at, spec_duration_at, spec_fixed_size_binary_at, Shape, leaf, list, large_list, fixed_size_list, struct, map as map_shape, union, spec_fixed_size_list_at, spec_map_at, spec_ids_at, spec_mode_of, spec_is_union_id, spec_are_union_ids, spec_union_at, spec_type_at, spec_shape_at, field_list, spec_children_of, spec_can_have, spec_with_children}
 use Rattle.ipc_schema.specs.WriteChecks.{spec_require, spec_check_number, spec_check_size, spec_check_decimal, spec_check_type, and_then_check}
 use Rattle.ipc_schema.specs.SchemaBytes.{no_field, one_field, two_fields, three_fields, spec_unit_number, spec_interval_number, timestamp_bytes, spec_mode_number, ids_bytes, union_bytes, float_bytes, type_bytes, spec_type_number}

@@ -19,7 +19,8 @@ use Rattle.ipc_flatbuf.specs.declared.error.IpcReadError.{IpcReadError}
 use Rattle.ipc_flatbuf.specs.declared.error.IpcReadError.TheVariants.{MissingType, UnknownType, UnsupportedType, TypeRange, UnionIds, ChildCount, MapEntries}
 use Rattle.ipc_flatbuf.specs.Flatbuffers as words
 use Rattle.ipc_flatbuf.specs.Flatbuffers.{spec_non_negative, number_at, signed_at, spec_offset_field, spec_read_table, spec_read_string, vector_at}
-use Rattle.ipc_schema.specs.Floats.{spec_numbered_precision, spec_float_type}
+use Rattle.nest_memory.specs.Floats.{spec_float_type}
+use Rattle.ipc_schema.specs.Floats.{spec_numbered_precision}
 use Rattle.ipc_schema.specs.declared.type_tags.LeafTag.{LeafTag}
 use Rattle.ipc_schema.specs.declared.type_tags.LeafTag.TheVariants as leaves
 use Rattle.ipc_schema.specs.declared.type_tags.Tag.{Tag}

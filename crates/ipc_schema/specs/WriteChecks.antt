@@ -7,7 +7,7 @@ use Rattle.ipc_flatbuf.specs.declared.error.IpcWriteError.{IpcWriteError}
 use Rattle.ipc_flatbuf.specs.declared.error.IpcWriteError.TheVariants as reasons
 use Rattle.ipc_flatbuf.specs.WriteErrors.{IsSizeError}
 use Rattle.ipc_schema.specs.Types.{spec_is_precision, most_digits, most_digits256, spec_is_coarse, spec_are_union_ids, spec_children_of}
-use Rattle.ipc_schema.specs.Floats.{spec_is_float_name, spec_is_float}
+use Rattle.nest_memory.specs.Floats.{spec_is_float_name, spec_is_float}
 use Rattle.ipc_schema.specs.Extensions.{extension_name, extension_metadata, spec_has_key, spec_storage_type, spec_table_type, spec_is_extension}
 
 abbrev pub and_then_check : {A B : Type 0} → Result A IpcWriteError → Result B IpcWriteError → Result B IpcWriteError

@@ -9,9 +9,9 @@ ghost use Rattle.ipc_schema.specs.DictionaryIds.{spec_encoding_of, next_after_ow
 ghost use Rattle.ipc_schema.specs.SchemaBytes.{type_bytes, encoding_head, encoding_part, encoding_bytes, spec_table_len, spec_dictionary_slot};
 
 use crate::dictionaries::Encoding;
-use crate::floats::is_float;
 use crate::type_writing::{storage_type, write_two_fields};
 use ipc_flatbuf::{IpcWriteError, write_i64};
+use nest_memory::datatypes::floats::is_float;
 use nest_memory::datatypes::{DataType, IntegerType};
 use std::alloc::AllocError;
 

@@ -5,8 +5,8 @@ ghost use Rattle.nest_memory.specs.TypeOf.{type_of};
 ghost use Rattle.ipc_flatbuf.specs.ReadResults.{ReturnsOrRunsOut};
 ghost use Rattle.ipc_schema.specs.LeafModels.{leaf_tree};
 
-use crate::floats::{Precision, float_type};
 use ipc_flatbuf::IpcReadError;
+use nest_memory::datatypes::floats::{Precision, float_type};
 use nest_memory::datatypes::{DataType, IntegerType, IntervalUnit, TimeUnit};
 use std::alloc::Global;
 
@@ -53,7 +53,7 @@ pub fn data_type_of(alloc: Global, leaf: Leaf<'_>) -> Result<DataType, IpcReadEr
         Leaf::Null => Ok(DataType::Null),
         Leaf::Boolean => Ok(DataType::Boolean),
         Leaf::Integer(integer) => Ok(DataType::from(integer)),
-        Leaf::Float(precision) => float_type(alloc, precision),
+        Leaf::Float(precision) => Ok(float_type(alloc, precision)?),
         Leaf::Decimal(digits, after) => Ok(DataType::Decimal(digits, after)),
         Leaf::Decimal256(digits, after) => Ok(DataType::Decimal256(digits, after)),
         Leaf::Date32 => Ok(DataType::Date32),

@@ -10,7 +10,7 @@ mod dictionaries;
 mod dictionary_ids;
 mod dictionary_writing;
 mod equality;
-pub mod floats;
+mod floats;
 pub mod laws;
 mod leaf_types;
 mod metadata;

@@ -13,12 +13,12 @@ ghost use Rattle.ipc_schema.specs.Extensions.{extension_name, metadata_value, sp
 ghost use Rattle.ipc_schema.specs.SchemaBytes.{pair_bytes, entries_bytes};
 ghost use Rattle.ipc_schema.specs.MetadataLaws.{AreUtf8};
 
-use crate::floats::is_float_name;
 use ipc_flatbuf::{
     IpcReadError, IpcWriteError, VectorItems, items_at, offset_at, offset_field, read_table,
     str_at, write_offset, write_string, write_tables,
 };
 use nest_memory::datatypes::Metadata;
+use nest_memory::datatypes::floats::is_float_name;
 use std::alloc::{AllocError, Global};
 use std::collections::BTreeMap;
 

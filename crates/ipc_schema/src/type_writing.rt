@@ -10,11 +10,12 @@ ghost use Rattle.ipc_schema.specs.WriteChecks.{spec_require, spec_check_number, 
 ghost use Rattle.ipc_schema.specs.SchemaBytes.{float_bytes, no_field, one_field, two_fields, three_fields, spec_unit_number, spec_interval_number, spec_mode_number, ids_bytes, union_bytes, timestamp_bytes, type_bytes, spec_type_number};
 ghost use Rattle.ipc_schema.specs.TypeLaws.{IsZone, TypeFits, AreFew};
 
-use crate::floats::{Precision, is_float, precision_number, precision_of};
+use crate::floats::precision_number;
 use crate::nested::are_union_ids;
 use crate::type_shapes::is_pair;
 use crate::types::{MOST_DIGITS, MOST_DIGITS_256, is_coarse, is_precision};
 use ipc_flatbuf::{IpcWriteError, write_i32, write_string, write_u32, write_zeros};
+use nest_memory::datatypes::floats::{Precision, is_float, precision_of};
 use nest_memory::datatypes::{DataType, Field, IntervalUnit, TimeUnit, UnionMode};
 use std::alloc::AllocError;
 use std::slice;

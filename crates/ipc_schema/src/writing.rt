@@ -24,7 +24,6 @@ use crate::dictionaries::Encoding;
 use crate::dictionary_writing::{
     can_encode, dictionary_len, dictionary_slot, encoding_of, table_len, write_dictionary,
 };
-use crate::floats::{is_float, is_float_name};
 use crate::metadata::{has_key, with_extension, write_metadata};
 use crate::schema::Schema;
 use crate::type_writing::{
@@ -32,6 +31,7 @@ use crate::type_writing::{
 };
 use ipc_flatbuf::message::{MessageKind, write_message};
 use ipc_flatbuf::{IpcWriteError, write_offset, write_string, write_tables};
+use nest_memory::datatypes::floats::{is_float, is_float_name};
 use nest_memory::datatypes::{DataType, Field, Metadata};
 use std::alloc::{AllocError, Global};
 

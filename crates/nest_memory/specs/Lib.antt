@@ -1,4 +1,6 @@
 pub mod Bits
+pub mod FloatLaws
+pub mod Floats
 pub mod Sublist
 pub mod SliceLaws
 pub mod Native

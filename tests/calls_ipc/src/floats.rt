@@ -4,7 +4,7 @@ use crate::schema_text::text_of_schema;
 use crate::stream_text::text_of_stream;
 use ipc::{read_stream, write_stream};
 use ipc_flatbuf::{IpcReadError, IpcWriteError};
-use ipc_schema::floats::{Precision, float_type, is_float, precision_of};
+use nest_memory::datatypes::floats::{Precision, float_type, is_float, precision_of};
 use ipc_schema::{Schema, read_schema, write_schema_with_dictionaries};
 use nest_memory::datatypes::{DataType, Field, IntegerType};
 use std::alloc::Global;

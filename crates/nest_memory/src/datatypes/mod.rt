@@ -4,6 +4,7 @@ mod conversion;
 mod display;
 mod equality;
 pub mod field;
+pub mod floats;
 mod parts;
 pub mod physical_type;
 

@@ -2,7 +2,7 @@ use Rattle.std.proofs.Common.{◌≡◌, Some, None, sym, ap, ◌∙◌}
 use Rattle.std.specs.Prelude.{string_bytes}
 use Rattle.std.specs.Option.{option_map}
 use Rattle.nest_memory.specs.TypeOf.{entries_of}
-use Rattle.ipc_schema.specs.Floats.{spec_is_float_name}
+use Rattle.nest_memory.specs.Floats.{spec_is_float_name}
 use Rattle.ipc_schema.specs.Extensions.{extension_name, metadata_value, is_float_name_of}
 use Rattle.ipc_schema.proofs.Maps.{value_found}
 use Rattle.ipc_schema.proofs.metadata.names_float.Goals as goal

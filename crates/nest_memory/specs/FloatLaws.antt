@@ -4,9 +4,9 @@ use Rattle.std.specs.Cmp.Lexicographic.{bytes_decides}
 use Rattle.std.specs.Str.{bytes_eq}
 use Rattle.nest_memory.specs.TypeTree as types
 use Rattle.nest_memory.specs.TypeTree.{Letters, TypeTree}
-use Rattle.ipc_schema.specs.declared.floats.Precision.{Precision}
-use Rattle.ipc_schema.specs.declared.floats.Precision.TheVariants.{Half, Single, Double}
-use Rattle.ipc_schema.specs.Floats.{spec_float_name, spec_bits_type, spec_float_type, bits_precision, named_precision, spec_precision_of}
+use Rattle.nest_memory.specs.declared.datatypes.floats.Precision.{Precision}
+use Rattle.nest_memory.specs.declared.datatypes.floats.Precision.TheVariants.{Half, Single, Double}
+use Rattle.nest_memory.specs.Floats.{spec_float_name, spec_bits_type, spec_float_type, bits_precision, named_precision, spec_precision_of}
 
 some_is : (p q : Precision) → Some p ≡ Some q → p ≡ q
 some_is p q h = cc h
