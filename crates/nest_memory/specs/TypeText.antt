@@ -1,8 +1,9 @@
 -- Data types as text, in the format of pyarrow; this library's own. A field has its name, its type and whether it is
--- nullable; an extension type has its name and its storage type.
+-- nullable; an extension type has its name and its storage type. Floating-point types have the text of those of Arrow.
 use Rattle.std.specs.Prelude.{ℕ, ◌+◌, ℤ, pos, nat_lt, get_or, Bool, true, false, List, [], ◌++◌, Option, Some, None, codes, decimal, if◌then◌else◌}
 use Rattle.std.specs.Fmt.{signed_decimal}
 use Rattle.std.specs.Str.{bytes_eq}
+use Rattle.nest_memory.specs.Floats.{spec_precision_of}
 use Rattle.nest_memory.specs.TypeTree as types
 use Rattle.nest_memory.specs.TypeTree.{TypeTree, FieldTree, field, FieldTrees, no_fields, more_fields, is_pair}
 use Rattle.nest_memory.specs.declared.datatypes.IntegerType.{IntegerType}
@@ -12,6 +13,8 @@ use Rattle.nest_memory.specs.declared.datatypes.TimeUnit.TheVariants.{Second, Mi
 use Rattle.nest_memory.specs.declared.datatypes.IntervalUnit.TheVariants.{YearMonth, DayTime, MonthDayNano}
 use Rattle.nest_memory.specs.declared.datatypes.UnionMode.{UnionMode}
 use Rattle.nest_memory.specs.declared.datatypes.UnionMode.TheVariants.{Dense, Sparse}
+use Rattle.nest_memory.specs.declared.datatypes.floats.Precision.{Precision}
+use Rattle.nest_memory.specs.declared.datatypes.floats.Precision.TheVariants.{Half, Single, Double}
 
 abbrev pub unit_text : TimeUnit → List ℕ
 unit_text Second = codes "s"
@@ -52,6 +55,16 @@ integer_text integers.UInt8 = codes "uint8"
 integer_text integers.UInt16 = codes "uint16"
 integer_text integers.UInt32 = codes "uint32"
 integer_text integers.UInt64 = codes "uint64"
+
+abbrev pub precision_text : Precision → List ℕ
+precision_text Half = codes "halffloat"
+precision_text Single = codes "float"
+precision_text Double = codes "double"
+
+-- the text of an extension type that is a floating-point type, or of another one
+abbrev pub extension_text : Option Precision → List ℕ → List ℕ
+extension_text (Some precision) text = precision_text precision
+extension_text None text = text
 
 -- the type id of field k, which is k if there are no ids
 abbrev pub id_at : Option (List ℤ) → ℕ → ℤ
@@ -97,7 +110,7 @@ abbrev mutual
   text_of_type (types.dictionary key values ordered) = codes "dictionary<values=" ++ (text_of_type values ++ (codes ", indices=" ++ (integer_text key ++ order_text ordered)))
   text_of_type (types.decimal digits after) = codes "decimal128(" ++ (decimal digits ++ (codes ", " ++ (decimal after ++ codes ")")))
   text_of_type (types.decimal256 digits after) = codes "decimal256(" ++ (decimal digits ++ (codes ", " ++ (decimal after ++ codes ")")))
-  text_of_type (types.extension name t metadata) = codes "extension<" ++ (name ++ (codes ", " ++ (text_of_type t ++ codes ">")))
+  text_of_type (types.extension name t metadata) = extension_text (spec_precision_of (types.extension name t metadata)) (codes "extension<" ++ (name ++ (codes ", " ++ (text_of_type t ++ codes ">"))))
 
   -- The key and the value of a map, whether its keys are sorted, and the name of the entries. Entries that are not a
   -- struct of two fields, which the format does not allow, appear as one type.

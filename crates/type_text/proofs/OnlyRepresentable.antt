@@ -8,6 +8,7 @@ use Rattle.std.specs.Str.{bytes_eq}
 use Rattle.std.specs.Str.Parse.{digits_value}
 use Rattle.std.proofs.lemmas.Bool.{ltb-true}
 use Rattle.std.proofs.lemmas.Slice.Eq.{bytes_eq-Decides}
+use Rattle.nest_memory.specs.Floats.{spec_is_float}
 use Rattle.nest_memory.specs.TypeOf.{field_trees}
 use Rattle.nest_memory.specs.TypeText.{nullable_text, text_of_type}
 use Rattle.nest_memory.specs.TypeTree as types
@@ -27,8 +28,8 @@ use Rattle.type_text.specs.declared.keyword.ParametricType.TheVariants as parame
 use Rattle.type_text.specs.declared.keyword.NestedType.TheVariants as nests
 use Rattle.type_text.specs.declared.keyword.Keyword.{Keyword}
 use Rattle.type_text.specs.declared.keyword.Keyword.TheVariants as keywords
-use Rattle.type_text.specs.TypeParser.{◌>>=◌, read_dictionary_end, read_list_size, read_map_fields, FieldsAndIds, TypeReader, after_prefix, expected, without_rest, read_some_fields, is_decimal_numeral, flag_of, name_parts, quoted_name, fields_or_none, fields_after, or_later, parsed_type, plain_tree, read_after_keyword, read_decimal, read_dictionary, read_entries_end, read_extension, read_fixed_size_list, read_map, read_entry_field, read_precision_and_scale, read_fixed_size_binary, read_time, read_timestamp, read_type, read_complete_type, located, zone_of, read_field, read_fields, read_keyword, read_type_id, read_index_type, read_ordered, read_unit, read_item_field, read_list, read_name, read_number, read_size, read_struct, read_union, read_name_or_default, split_first}
-use Rattle.type_text.specs.Representable.{AreRepresentable, IsTerminatedBy, LacksClosingBracket, IsRepresentable, IsRepresentableBody, IsRepresentableField, IsRepresentableEntry, HasUnambiguousQuotes}
+use Rattle.type_text.specs.TypeParser.{◌>>=◌, read_dictionary_end, read_list_size, read_map_fields, FieldsAndIds, TypeReader, after_prefix, expected, without_rest, read_some_fields, is_decimal_numeral, flag_of, name_parts, quoted_name, fields_or_none, fields_after, or_later, parsed_type, plain_tree, read_after_keyword, read_decimal, read_dictionary, read_entries_end, read_extension, read_fixed_size_list, read_map, read_entry_field, read_precision_and_scale, read_fixed_size_binary, read_time, read_timestamp, read_type, read_complete_type, located, zone_of, read_field, read_fields, read_keyword, read_type_id, read_unit, read_item_field, read_list, read_name, read_number, read_size, read_struct, read_union, read_name_or_default, split_first}
+use Rattle.type_text.specs.Representable.{AreRepresentable, IsTerminatedBy, LacksClosingBracket, IsRepresentable, IsRepresentableBody, IsRepresentableExtension, IsRepresentableField, IsRepresentableEntry, HasUnambiguousQuotes}
 use Rattle.type_text.proofs.RoundTrip.{IdsOf}
 use Rattle.type_text.proofs.Sound.{AreRows, Reads, bound, either, fields-read, follows, marked, rows-begin, type-reads}
 use Rattle.type_text.proofs.FieldRows.{id_text, ids_after, later_rows, rows}
@@ -255,7 +256,13 @@ module _ (inner : TypeReader) (Representable : TypeTree → Type 0) (sound : (bs
 
   extension-representable : (bs : List ℕ) → IfOk (read_extension inner bs) (λ x. IsRepresentableBody Representable x.0)
   unfolding read_extension
-  extension-representable bs = bound (λ x. IsTerminatedBy (codes ", ") x.0 × (bs ≡ x.0 ++ (codes ", " ++ x.1))) _ _ _ (name-ends (codes ", ") bs) λ name e. bound (λ (x : TypeTree × List ℕ). Representable x.0) _ _ _ (representable name.1) λ t h. marked (codes ">") _ t.1 _ λ rest q. (e.0, h, refl)
+  extension-representable bs = bound (λ x. IsTerminatedBy (codes ", ") x.0 × (bs ≡ x.0 ++ (codes ", " ++ x.1))) _ _ _ (name-ends (codes ", ") bs) λ name e. bound (λ (x : TypeTree × List ℕ). Representable x.0) _ _ _ (representable name.1) λ t h. marked (codes ">") _ t.1 _ λ rest q.
+      let u : TypeTree = types.extension name.0 t.0 None in
+      let read : TypeTree × List ℕ = (u, rest) in
+      (elim (spec_is_float u) as (λ v. spec_is_float u ≡ v → IfOk (cond v (Err (Unexpected (length bs))) (Ok read)) (λ x. IsRepresentableBody Representable x.0)) [
+        | true ↦ λ f. tt
+        | false ↦ λ f. subst (λ v. IsRepresentableExtension Representable v name.0 t.0 None) (sym f) (e.0, h, refl)
+      ]) refl
 
   timed-representable : (make : TimeUnit → TypeTree) → ((u : TimeUnit) → IsRepresentableBody Representable (make u)) → (bs : List ℕ) → IfOk (read_time make bs) (λ x. IsRepresentableBody Representable x.0)
   unfolding read_time

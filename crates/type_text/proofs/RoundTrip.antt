@@ -9,15 +9,19 @@ use Rattle.nest_memory.specs.declared.datatypes.UnionMode.{UnionMode}
 use Rattle.nest_memory.specs.declared.datatypes.UnionMode.TheVariants.{Dense, Sparse}
 use Rattle.type_text.proofs.FieldRows.{id_text, ids_after, later_rows, rows, struct-rows, union-rows}
 use Rattle.std.specs.List.{prefix_len}
-use Rattle.std.specs.Prelude.{◌⊎◌, not}
+use Rattle.std.specs.Prelude.{◌⊎◌, is_some, not}
 use Rattle.std.specs.Str.Parse.{AllDigits}
 use Rattle.std.proofs.lemmas.Bool.{and_from, cases_lt, le-leb, lt-ltb, ne_eqb}
 use Rattle.std.proofs.lemmas.Fmt.{decimal_digit, decimal_is_IsNumeral, decimal_nonempty, first_decimal}
 use Rattle.std.proofs.lemmas.List.{drop_at, take_at}
 use Rattle.std.proofs.lemmas.Str.Parse.{digit_from_value}
-use Rattle.nest_memory.specs.TypeText.{entries_end, text_of_entries, text_of_fields, text_of_picks, unusual, text_of_type, text_of_field, nullable_text, unit_text, integer_text, order_text}
+use Rattle.nest_memory.specs.TypeText.{entries_end, text_of_entries, text_of_fields, text_of_picks, unusual, text_of_type, text_of_field, nullable_text, unit_text, integer_text, order_text, precision_text, extension_text}
+use Rattle.nest_memory.specs.FloatLaws.{float_is}
+use Rattle.nest_memory.specs.Floats.{spec_float_type, spec_precision_of}
 use Rattle.nest_memory.specs.TypeTree as types
-use Rattle.nest_memory.specs.TypeTree.{Entries, TypeTree, FieldTree, FieldTrees, count_fields, field, more_fields, no_fields}
+use Rattle.nest_memory.specs.TypeTree.{Entries, Letters, TypeTree, FieldTree, FieldTrees, count_fields, field, more_fields, no_fields}
+use Rattle.nest_memory.specs.declared.datatypes.floats.Precision.{Precision}
+use Rattle.nest_memory.specs.declared.datatypes.floats.Precision.TheVariants.{Half, Single, Double}
 use Rattle.nest_memory.specs.declared.datatypes.IntegerType.TheVariants as integers
 use Rattle.nest_memory.specs.declared.datatypes.IntegerType.{IntegerType}
 use Rattle.nest_memory.specs.declared.datatypes.TimeUnit.{TimeUnit}
@@ -31,7 +35,7 @@ use Rattle.type_text.specs.declared.keyword.Keyword.{Keyword}
 use Rattle.type_text.specs.declared.keyword.Keyword.TheVariants as keywords
 use Rattle.type_text.specs.Keywords.{keyword_text}
 use Rattle.type_text.specs.TypeParser.{◌>>=◌, read_dictionary_end, read_list_size, read_map_fields, TypeReader, after_prefix, read_some_fields, is_decimal_numeral, index_type_at, key_of, read_flag, parsed_type, read_after_keyword, read_decimal, read_dictionary, read_extension, read_field, read_fixed_size_list, read_keyword, read_item_field, read_index_type, read_list, read_name, read_number, read_ordered, read_precision_and_scale, read_size, read_fixed_size_binary, read_entries_end, read_fields, read_type_id, read_map, read_entry_field, read_struct, read_union, read_name_or_default, quoted_name, read_time, read_timestamp, read_type, read_unit, read_complete_type, split_first}
-use Rattle.type_text.specs.Representable.{AreRepresentable, IsTerminatedBy, HasIds, LacksClosingBracket, IsRepresentableField, IsRepresentableMap, IsRepresentable, HasUnambiguousQuotes}
+use Rattle.type_text.specs.Representable.{AreRepresentable, IsTerminatedBy, HasIds, LacksClosingBracket, IsRepresentableField, IsRepresentableMap, IsRepresentableExtension, IsRepresentable, HasUnambiguousQuotes}
 use Rattle.type_text.proofs.Prefixes.{after-front}
 
 abbrev field_read : FieldTree → List ℕ → Result (FieldTree × List ℕ) SyntaxError
@@ -312,9 +316,9 @@ module _ (inner : TypeReader) (Representable : TypeTree → Type 0) (again : Rea
   unfolding read_dictionary read_dictionary_end
   dictionary-again key t o rest h = rw (again t (codes ", indices=" ++ (integer_text key ++ (order_text o ++ rest))) h, key-again key (order_text o ++ rest), ordered-again o rest) refl
 
-  extension-again : (name : List ℕ) (t : TypeTree) (rest : List ℕ) → IsTerminatedBy (codes ", ") name → Representable t → read_extension inner (name ++ (codes ", " ++ (text_of_type t ++ (codes ">" ++ rest)))) ≡ Ok (types.extension name t None, rest)
+  extension-again : (name : List ℕ) (t : TypeTree) (rest : List ℕ) → spec_precision_of (types.extension name t None) ≡ None → IsTerminatedBy (codes ", ") name → Representable t → read_extension inner (name ++ (codes ", " ++ (text_of_type t ++ (codes ">" ++ rest)))) ≡ Ok (types.extension name t None, rest)
   unfolding read_extension
-  extension-again name t rest h representable = rw (name-again (codes ", ") name (text_of_type t ++ (codes ">" ++ rest)) (omega arith) h, again t (codes ">" ++ rest) representable) refl
+  extension-again name t rest e h representable = rw (name-again (codes ", ") name (text_of_type t ++ (codes ">" ++ rest)) (omega arith) h, again t (codes ">" ++ rest) representable, e) refl
 
   rows-again : (ids : Bool) (n : ℕ) (f : FieldTree) (fs : FieldTrees) (is : List ℤ) (rest : List ℕ) → count_fields fs < n → IsRepresentableField Representable f → AreRepresentable Representable fs → IdsOf ids is (more_fields f fs)
       → read_some_fields ids inner n (rows ids (more_fields f fs) is ++ (codes ">" ++ rest)) ≡ Ok ((list_of (more_fields f fs), is), rest)
@@ -370,13 +374,30 @@ module _ (inner : TypeReader) (Representable : TypeTree → Type 0) (again : Rea
       (rw (h.0.2, h.0.3, h.1.2, h.1.3, h.4, h.5) refl)
   map-again sorted f rest h = absurd h
 
+float-again : (k : ℕ) (precision : Precision) (rest : List ℕ) → read_type (suc k) (precision_text precision ++ rest) ≡ Ok (spec_float_type precision, rest)
+float-again k Half rest = step k (keywords.Plain plains.Float16) rest rest (spec_float_type Half) refl
+float-again k Single rest = step k (keywords.Plain plains.Float32) rest rest (spec_float_type Single) refl
+float-again k Double rest = step k (keywords.Plain plains.Float64) rest rest (spec_float_type Double) refl
+
+-- an extension type, which is floating-point or not
+either-again : (k : ℕ) → ReadsAgain (read_type k) (IsRepresentable k) → (name : Letters) (t : TypeTree) (metadata : Option Letters) (rest : List ℕ) (precision : Option Precision)
+    → spec_precision_of (types.extension name t metadata) ≡ precision → IsRepresentableExtension (IsRepresentable k) (is_some precision) name t metadata
+    → read_type (suc k) (extension_text precision (codes "extension<" ++ (name ++ (codes ", " ++ (text_of_type t ++ codes ">")))) ++ rest) ≡ Ok (types.extension name t metadata, rest)
+either-again k again name t metadata rest (Some precision) e h = float-again k precision rest ∙ ap (λ u. Ok (u, rest)) (sym (float_is (types.extension name t metadata) precision e))
+either-again k again name t metadata rest None e h =
+    let none : spec_precision_of (types.extension name t None) ≡ None = ap (λ m. spec_precision_of (types.extension name t m)) (sym h.2) ∙ e in
+    step k (keywords.Nested nests.Extension) ((name ++ (codes ", " ++ (text_of_type t ++ codes ">"))) ++ rest) rest (types.extension name t metadata)
+    (ap (read_after_keyword (read_type k) (keywords.Nested nests.Extension)) (append_assoc name (codes ", " ++ (text_of_type t ++ codes ">")) rest ∙ ap (λ x. name ++ (codes ", " ++ x)) (append_assoc (text_of_type t) (codes ">") rest))
+    ∙ extension-again (read_type k) (IsRepresentable k) again name t rest none h.0 h.1
+    ∙ ap (λ m. Ok (types.extension name t m, rest)) (sym h.2))
+
 pub type-again : (levels : ℕ) (t : TypeTree) (rest : List ℕ) → IsRepresentable levels t → read_type levels (text_of_type t ++ rest) ≡ Ok (t, rest)
 type-again zero t rest h = absurd h
 type-again (suc k) types.null rest h = step k (keywords.Plain plains.Null) rest rest types.null refl
 type-again (suc k) types.boolean rest h = step k (keywords.Plain plains.Boolean) rest rest types.boolean refl
-type-again (suc k) types.float16 rest h = step k (keywords.Plain plains.Float16) rest rest types.float16 refl
-type-again (suc k) types.float32 rest h = step k (keywords.Plain plains.Float32) rest rest types.float32 refl
-type-again (suc k) types.float64 rest h = step k (keywords.Plain plains.Float64) rest rest types.float64 refl
+type-again (suc k) types.float16 rest h = absurd h
+type-again (suc k) types.float32 rest h = absurd h
+type-again (suc k) types.float64 rest h = absurd h
 type-again (suc k) types.date32 rest h = step k (keywords.Plain plains.Date32) rest rest types.date32 refl
 type-again (suc k) types.date64 rest h = step k (keywords.Plain plains.Date64) rest rest types.date64 refl
 type-again (suc k) types.binary rest h = step k (keywords.Plain plains.Binary) rest rest types.binary refl
@@ -406,7 +427,7 @@ type-again (suc k) (types.list f) rest h = step k (keywords.Nested nests.List) (
 type-again (suc k) (types.large_list f) rest h = step k (keywords.Nested nests.LargeList) ((text_of_field f ++ codes ">") ++ rest) rest (types.large_list f) (ap (read_after_keyword (read_type k) (keywords.Nested nests.LargeList)) (append_assoc (text_of_field f) (codes ">") rest) ∙ list-again (read_type k) (IsRepresentable k) (type-again k) types.large_list f rest h)
 type-again (suc k) (types.fixed_size_list f n) rest h = step k (keywords.Nested nests.FixedSizeList) (((text_of_field f ++ codes ">") ++ (codes "[" ++ (decimal n ++ codes "]"))) ++ rest) rest (types.fixed_size_list f n) (ap (read_after_keyword (read_type k) (keywords.Nested nests.FixedSizeList)) (append_assoc (text_of_field f ++ codes ">") (codes "[" ++ (decimal n ++ codes "]")) rest ∙ append_assoc (text_of_field f) (codes ">") (codes "[" ++ ((decimal n ++ codes "]") ++ rest)) ∙ ap (λ x. text_of_field f ++ (codes ">" ++ (codes "[" ++ x))) (append_assoc (decimal n) (codes "]") rest)) ∙ fixed-list-again (read_type k) (IsRepresentable k) (type-again k) f n rest h.0 h.1)
 type-again (suc k) (types.dictionary key t o) rest h = step k (keywords.Nested nests.Dictionary) ((text_of_type t ++ (codes ", indices=" ++ (integer_text key ++ order_text o))) ++ rest) rest (types.dictionary key t o) (ap (read_after_keyword (read_type k) (keywords.Nested nests.Dictionary)) (append_assoc (text_of_type t) (codes ", indices=" ++ (integer_text key ++ order_text o)) rest ∙ ap (λ x. text_of_type t ++ (codes ", indices=" ++ x)) (append_assoc (integer_text key) (order_text o) rest)) ∙ dictionary-again (read_type k) (IsRepresentable k) (type-again k) key t o rest h)
-type-again (suc k) (types.extension name t metadata) rest h = step k (keywords.Nested nests.Extension) ((name ++ (codes ", " ++ (text_of_type t ++ codes ">"))) ++ rest) rest (types.extension name t metadata) (ap (read_after_keyword (read_type k) (keywords.Nested nests.Extension)) (append_assoc name (codes ", " ++ (text_of_type t ++ codes ">")) rest ∙ ap (λ x. name ++ (codes ", " ++ x)) (append_assoc (text_of_type t) (codes ">") rest)) ∙ extension-again (read_type k) (IsRepresentable k) (type-again k) name t rest h.0 h.1 ∙ ap (λ m. Ok (types.extension name t m, rest)) (sym h.2))
+type-again (suc k) (types.extension name t metadata) rest h = either-again k (type-again k) name t metadata rest (spec_precision_of (types.extension name t metadata)) refl h
 type-again (suc k) (types.struct fs) rest h = step k (keywords.Nested nests.Struct) ((text_of_fields false fs ++ codes ">") ++ rest) rest (types.struct fs) (ap (read_after_keyword (read_type k) (keywords.Nested nests.Struct)) (append_assoc (text_of_fields false fs) (codes ">") rest) ∙ struct-again (read_type k) (IsRepresentable k) (type-again k) fs rest h.0 h.1)
 type-again (suc k) (types.union fs (Some ids) Dense) rest h = step k (keywords.Nested nests.DenseUnion) ((text_of_picks (Some ids) 0 fs ++ codes ">") ++ rest) rest (types.union fs (Some ids) Dense) (ap (read_after_keyword (read_type k) (keywords.Nested nests.DenseUnion)) (append_assoc (text_of_picks (Some ids) 0 fs) (codes ">") rest) ∙ union-again (read_type k) (IsRepresentable k) (type-again k) fs ids Dense rest h.0 h.1 h.2)
 type-again (suc k) (types.union fs (Some ids) Sparse) rest h = step k (keywords.Nested nests.SparseUnion) ((text_of_picks (Some ids) 0 fs ++ codes ">") ++ rest) rest (types.union fs (Some ids) Sparse) (ap (read_after_keyword (read_type k) (keywords.Nested nests.SparseUnion)) (append_assoc (text_of_picks (Some ids) 0 fs) (codes ">") rest) ∙ union-again (read_type k) (IsRepresentable k) (type-again k) fs ids Sparse rest h.0 h.1 h.2)

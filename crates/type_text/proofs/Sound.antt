@@ -3,7 +3,7 @@ use Rattle.std.proofs.Common.{◌≡◌, ℕ, zero, suc, ◌^◌, ℤ, pos, Bool
 use Rattle.std.specs.Char.{is_ascii_digit}
 use Rattle.std.specs.List.{prefix_len}
 use Rattle.std.specs.Option.{option_to_list}
-use Rattle.std.specs.Prelude.{IfOk, not, nat_lt}
+use Rattle.std.specs.Prelude.{IfOk, is_some, not, nat_lt}
 use Rattle.std.specs.Str.{bytes_eq}
 use Rattle.std.specs.Str.Parse.{digits_value}
 use Rattle.std.proofs.lemmas.Bool.{ltb-true, ne_eqb}
@@ -12,7 +12,8 @@ use Rattle.std.proofs.lemmas.List.{take-append-drop}
 use Rattle.std.proofs.lemmas.Slice.Eq.{bytes_eq-Decides}
 use Rattle.nest_memory.specs.Physical.{integer_tree}
 use Rattle.nest_memory.specs.TypeOf.{field_trees}
-use Rattle.nest_memory.specs.TypeText.{entries_end, integer_text, mode_text, nullable_text, order_text, sorted_text, text_of_field, text_of_part, text_of_type, unit_text, unusual}
+use Rattle.nest_memory.specs.TypeText.{entries_end, extension_text, integer_text, mode_text, nullable_text, order_text, sorted_text, text_of_field, text_of_part, text_of_type, unit_text, unusual}
+use Rattle.nest_memory.specs.Floats.{spec_precision_of}
 use Rattle.nest_memory.specs.TypeTree as types
 use Rattle.nest_memory.specs.TypeTree.{TypeTree, FieldTree, FieldTrees, field, more_fields, no_fields}
 use Rattle.nest_memory.specs.declared.datatypes.IntegerType.{IntegerType}
@@ -359,7 +360,13 @@ module _ (inner : TypeReader) (sound : (bs : List ℕ) → Reads text_of_type bs
   extension-reads : (bs : List ℕ) → Reads text_of_type (codes "extension<" ++ bs) (read_extension inner bs)
   unfolding read_extension
   extension-reads bs = name-part (codes ", ") bs _ _ λ name e. part text_of_type _ name.1 _ _ (sound name.1) λ t f. marked (codes ">") _ t.1 _ λ rest g.
-      under (codes "extension<") _ _ bs rest refl (joined name.0 _ bs (codes ", " ++ name.1) rest e (joined (codes ", ") _ (codes ", " ++ name.1) name.1 rest refl (joined (text_of_type t.0) (codes ">") name.1 t.1 rest f g)))
+      let u : TypeTree = types.extension name.0 t.0 None in
+      let read : TypeTree × List ℕ = (u, rest) in
+      let shown : List ℕ = codes "extension<" ++ (name.0 ++ (codes ", " ++ (text_of_type t.0 ++ codes ">"))) in
+      (elim (spec_precision_of u) as (λ p. spec_precision_of u ≡ p → IfOk (cond (is_some p) (Err (Unexpected (length bs))) (Ok read)) (λ x. codes "extension<" ++ bs ≡ text_of_type x.0 ++ x.1)) [
+        | Some precision ↦ λ h. tt
+        | None ↦ λ h. under (codes "extension<") _ _ bs rest (ap (λ p. extension_text p shown) h) (joined name.0 _ bs (codes ", " ++ name.1) rest e (joined (codes ", ") _ (codes ", " ++ name.1) name.1 rest refl (joined (text_of_type t.0) (codes ">") name.1 t.1 rest f g)))
+      ]) refl
 
   nested-reads : (nested : NestedType) (bs : List ℕ) → Reads text_of_type (keyword_text (keywords.Nested nested) ++ bs) (read_nested inner nested bs)
   nested-reads nests.List bs = list-reads (codes "list<") types.list (λ f. refl) bs

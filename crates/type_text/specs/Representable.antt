@@ -1,9 +1,10 @@
 -- Data types that their text represents in full: each name ends at its first terminator, what the text omits has its default, and the
 -- nesting depth is bounded.
-use Rattle.std.specs.Prelude.{◌≡◌, ◌⊎◌, ℕ, zero, suc, ◌<◌, ◌^◌, ℤ, pos, Bool, true, false, List, [], ◌∷◌, ◌++◌, codes, Some, None}
+use Rattle.std.specs.Prelude.{◌≡◌, ◌⊎◌, ℕ, zero, suc, ◌<◌, ◌^◌, ℤ, pos, Bool, true, false, List, [], ◌∷◌, ◌++◌, codes, Option, Some, None}
 use Rattle.std.specs.Str.{bytes_eq}
+use Rattle.nest_memory.specs.Floats.{spec_is_float}
 use Rattle.nest_memory.specs.TypeTree as types
-use Rattle.nest_memory.specs.TypeTree.{TypeTree, FieldTree, field, FieldTrees, no_fields, more_fields}
+use Rattle.nest_memory.specs.TypeTree.{Letters, TypeTree, FieldTree, field, FieldTrees, no_fields, more_fields}
 use Rattle.type_text.specs.TypeParser.{after_prefix}
 
 -- `end` first occurs after the name
@@ -45,7 +46,16 @@ module _ (Inner : TypeTree → Type 0) where
       IsRepresentableEntry false key × IsRepresentableEntry true value × IsTerminatedBy (codes "')") name × HasUnambiguousQuotes sorted name value × (nullable ≡ false) × (metadata ≡ [])
   IsRepresentableMap sorted f = ⊥
 
+  -- an extension type, which is floating-point or not
+  abbrev pub IsRepresentableExtension : Bool → Letters → TypeTree → Option Letters → Type 0
+  IsRepresentableExtension true name t metadata = Unit {0}
+  IsRepresentableExtension false name t metadata = IsTerminatedBy (codes ", ") name × Inner t × (metadata ≡ None)
+
+  -- The bare types of floats have the text of the extension types that represent floating-point numbers.
   abbrev pub IsRepresentableBody : TypeTree → Type 0
+  IsRepresentableBody types.float16 = ⊥
+  IsRepresentableBody types.float32 = ⊥
+  IsRepresentableBody types.float64 = ⊥
   IsRepresentableBody (types.timestamp u (Some zone)) = IsTerminatedBy (codes "]") zone
   IsRepresentableBody (types.fixed_size_binary n) = n < 2 ^ 64
   IsRepresentableBody (types.decimal digits scale) = (digits < 2 ^ 64) × (scale < 2 ^ 64)
@@ -58,7 +68,7 @@ module _ (Inner : TypeTree → Type 0) where
   IsRepresentableBody (types.union fs None mode) = ⊥
   IsRepresentableBody (types.map f sorted) = IsRepresentableMap sorted f
   IsRepresentableBody (types.dictionary key t ordered) = Inner t
-  IsRepresentableBody (types.extension name t metadata) = IsTerminatedBy (codes ", ") name × Inner t × (metadata ≡ None)
+  IsRepresentableBody (types.extension name t metadata) = IsRepresentableExtension (spec_is_float (types.extension name t metadata)) name t metadata
   IsRepresentableBody t = Unit {0}
 
 -- a type of at most so many levels that its text represents in full

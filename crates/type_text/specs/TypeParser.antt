@@ -7,12 +7,14 @@ use Rattle.std.specs.List.{prefix_len}
 use Rattle.std.specs.Option.{option_to_list}
 use Rattle.std.specs.Str.{bytes_eq}
 use Rattle.std.specs.Str.Parse.{digits_value}
+use Rattle.nest_memory.specs.Floats.{spec_float_type, spec_is_float}
 use Rattle.nest_memory.specs.Physical.{integer_tree}
 use Rattle.nest_memory.specs.TypeOf.{field_of, field_trees, type_of}
 use Rattle.nest_memory.specs.TypeTree as types
 use Rattle.nest_memory.specs.TypeTree.{TypeTree, FieldTree, field}
 use Rattle.nest_memory.specs.declared.datatypes.DataType.{DataType}
 use Rattle.nest_memory.specs.declared.datatypes.field.Field.{Field}
+use Rattle.nest_memory.specs.declared.datatypes.floats.Precision.TheVariants.{Half, Single, Double}
 use Rattle.nest_memory.specs.declared.datatypes.IntegerType.{IntegerType}
 use Rattle.nest_memory.specs.declared.datatypes.IntegerType.TheVariants as integers
 use Rattle.nest_memory.specs.declared.datatypes.TimeUnit.{TimeUnit}
@@ -130,9 +132,9 @@ read_keyword bs = first_keyword bs all_keywords
 abbrev pub plain_tree : PlainType → TypeTree
 plain_tree plains.Null = types.null
 plain_tree plains.Boolean = types.boolean
-plain_tree plains.Float16 = types.float16
-plain_tree plains.Float32 = types.float32
-plain_tree plains.Float64 = types.float64
+plain_tree plains.Float16 = spec_float_type Half
+plain_tree plains.Float32 = spec_float_type Single
+plain_tree plains.Float64 = spec_float_type Double
 plain_tree plains.Date32 = types.date32
 plain_tree plains.Date64 = types.date64
 plain_tree plains.YearMonth = types.interval YearMonth
@@ -380,13 +382,17 @@ read_dictionary inner bs = do
   end ← read_dictionary_end values.1
   Ok (types.dictionary end.0.0 values.0 end.0.1, end.1)
 
+-- a floating-point type has the text of its precision, and no other
+abbrev pub unless_float : List ℕ → TypeTree × List ℕ → Result (TypeTree × List ℕ) SyntaxError
+unless_float bs read = if spec_is_float read.0 then Err (Unexpected (length bs)) else Ok read
+
 -- the name of an extension ends at the first `, `
 unfoldable pub read_extension : TypeReader → List ℕ → Result (TypeTree × List ℕ) SyntaxError
 read_extension inner bs = do
   name ← read_name (codes ", ") bs
   t ← inner name.1
   rest ← expected (codes ">") t.1
-  Ok (types.extension name.0 t.0 None, rest)
+  unless_float bs (types.extension name.0 t.0 None, rest)
 
 abbrev pub read_nested : TypeReader → NestedType → List ℕ → Result (TypeTree × List ℕ) SyntaxError
 read_nested inner nests.List bs = read_list inner types.list bs

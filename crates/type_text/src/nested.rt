@@ -8,6 +8,7 @@ use crate::error::{PartError, SyntaxError};
 use crate::keyword::{Keyword, NestedType, keyword_at};
 use crate::lexer::{expect, flag, name, name_or_default, number, strip_prefix};
 use crate::parametric::{parametric, plain, size};
+use nest_memory::datatypes::floats::is_float;
 use nest_memory::datatypes::{DataType, Field, IntegerType, UnionMode};
 use nest_memory::error::Error;
 use std::alloc::Global;
@@ -22,7 +23,7 @@ pub fn type_at(alloc: Global, levels: u32, text: &str) -> Result<(DataType, &str
     }
     let (keyword, rest) = keyword_at(text)?;
     match keyword {
-        Keyword::Plain(kind) => Ok((plain(kind), rest)),
+        Keyword::Plain(kind) => Ok((plain(alloc, kind)?, rest)),
         Keyword::Integer(key) => Ok((DataType::from(key), rest)),
         Keyword::Parametric(kind) => parametric(alloc, kind, rest),
         Keyword::Nested(kind) => nested(alloc, levels - 1, kind, rest),
@@ -323,5 +324,9 @@ fn extension(alloc: Global, levels: u32, text: &str) -> Result<(DataType, &str),
     let rest = expect(rest, ">")?;
     let name = String::from_str(alloc, name)?;
     let inner = Box::new(alloc, inner)?;
-    Ok((DataType::Extension(name, inner, None), rest))
+    let data_type = DataType::Extension(name, inner, None);
+    if is_float(&data_type) {
+        return Err(PartError::Syntax(SyntaxError::Unexpected(text.len())));
+    }
+    Ok((data_type, rest))
 }

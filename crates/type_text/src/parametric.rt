@@ -1,5 +1,5 @@
 //! Parametric types with a unit or with numbers, after their keyword.
-ghost use Rattle.std.specs.Prelude.{◌≡◌};
+ghost use Rattle.std.specs.Prelude.{◌≡◌, IfOk};
 ghost use Rattle.nest_memory.specs.TypeOf.{type_of};
 ghost use Rattle.nest_memory.specs.TypeTree as types;
 ghost use Rattle.type_text.specs.TypeParser.{ReadsAs, plain_tree, read_decimal, read_parametric, read_precision_and_scale, read_size, read_fixed_size_binary, read_time, read_timestamp, read_unit};
@@ -7,28 +7,29 @@ ghost use Rattle.type_text.specs.TypeParser.{ReadsAs, plain_tree, read_decimal, 
 use crate::error::{PartError, SyntaxError};
 use crate::keyword::{ParametricType, PlainType};
 use crate::lexer::{expect, name, number, strip_prefix};
+use nest_memory::datatypes::floats::{Precision, float_type};
 use nest_memory::datatypes::{DataType, IntervalUnit, TimeUnit};
-use std::alloc::Global;
+use std::alloc::{AllocError, Global};
 
 /// Returns the data type that is its keyword alone.
-pub fn plain(kind: PlainType) -> DataType
-    ensures { type_of result ≡ plain_tree kind }
+pub fn plain(alloc: Global, kind: PlainType) -> Result<DataType, AllocError>
+    ensures { IfOk result (λ t. type_of t ≡ plain_tree kind) }
 {
     match kind {
-        PlainType::Null => DataType::Null,
-        PlainType::Boolean => DataType::Boolean,
-        PlainType::Float16 => DataType::Float16,
-        PlainType::Float32 => DataType::Float32,
-        PlainType::Float64 => DataType::Float64,
-        PlainType::Date32 => DataType::Date32,
-        PlainType::Date64 => DataType::Date64,
-        PlainType::YearMonth => DataType::Interval(IntervalUnit::YearMonth),
-        PlainType::DayTime => DataType::Interval(IntervalUnit::DayTime),
-        PlainType::MonthDayNano => DataType::Interval(IntervalUnit::MonthDayNano),
-        PlainType::Binary => DataType::Binary,
-        PlainType::LargeBinary => DataType::LargeBinary,
-        PlainType::Utf8 => DataType::Utf8,
-        PlainType::LargeUtf8 => DataType::LargeUtf8,
+        PlainType::Null => Ok(DataType::Null),
+        PlainType::Boolean => Ok(DataType::Boolean),
+        PlainType::Float16 => float_type(alloc, Precision::Half),
+        PlainType::Float32 => float_type(alloc, Precision::Single),
+        PlainType::Float64 => float_type(alloc, Precision::Double),
+        PlainType::Date32 => Ok(DataType::Date32),
+        PlainType::Date64 => Ok(DataType::Date64),
+        PlainType::YearMonth => Ok(DataType::Interval(IntervalUnit::YearMonth)),
+        PlainType::DayTime => Ok(DataType::Interval(IntervalUnit::DayTime)),
+        PlainType::MonthDayNano => Ok(DataType::Interval(IntervalUnit::MonthDayNano)),
+        PlainType::Binary => Ok(DataType::Binary),
+        PlainType::LargeBinary => Ok(DataType::LargeBinary),
+        PlainType::Utf8 => Ok(DataType::Utf8),
+        PlainType::LargeUtf8 => Ok(DataType::LargeUtf8),
     }
 }
 

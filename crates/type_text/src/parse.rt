@@ -22,6 +22,8 @@ pub const MAX_DEPTH: u32 = 64;
 /// another type of the same text:
 ///
 /// - a type with metadata, of a field or of an extension;
+/// - `Float16`, `Float32` and `Float64`: `halffloat`, `float` and `double` are parsed as the extension types that `float_type`
+///   of `nest_memory` returns;
 /// - a name that contains its own terminator: `: ` in a field's name, `, ` in an extension's, `]` in a time zone, `')` in a
 ///   name of a map; and a first field of a struct or a union whose name begins with `>`;
 /// - a union without type ids, with negative ones, or with more or fewer ids than fields;
@@ -32,7 +34,8 @@ pub const MAX_DEPTH: u32 = 64;
 ///
 /// - `Syntax(i)`: the text from byte `i` on is not what the syntax requires there: a type, a unit, punctuation such as `>` or
 ///   `, indices=`, a number below 2^64 (a type id below 2^31) without a leading zero, a name with its terminator, or, after
-///   the type, the end of the text. A default name in quotes is an error at the space before the quotes.
+///   the type, the end of the text. A default name in quotes is an error at the space before the quotes. A
+///   floating-point type in the form `extension<tiekvorn.float64, uint64>` is an error at its name.
 /// - `TooDeep(i)`: a type that is nested in `MAX_DEPTH` others begins at byte `i`.
 /// - `Memory`: an allocation fails.
 pub fn parse_type(alloc: Global, text: &str) -> Result<DataType, ParseTypeError>

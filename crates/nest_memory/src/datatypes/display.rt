@@ -4,8 +4,9 @@ ghost use Rattle.std.specs.Fmt.{WritesOnOk, signed_decimal};
 ghost use Rattle.nest_memory.specs.TypeOf.{field_list_of, field_of, text_of, type_of};
 ghost use Rattle.nest_memory.specs.TypeTree as types;
 ghost use Rattle.nest_memory.specs.TypeTree.{is_pair};
-ghost use Rattle.nest_memory.specs.TypeText.{entries_end, id_at, integer_text, mode_text, nullable_text, order_text, separator_text, sorted_text, text_of_entries, text_of_field, text_of_fields, text_of_pair, text_of_part, text_of_parts, text_of_picks, text_of_type, unit_text, unusual};
+ghost use Rattle.nest_memory.specs.TypeText.{entries_end, id_at, integer_text, mode_text, nullable_text, order_text, precision_text, separator_text, sorted_text, text_of_entries, text_of_field, text_of_fields, text_of_pair, text_of_part, text_of_parts, text_of_picks, text_of_type, unit_text, unusual};
 
+use crate::datatypes::floats::{Precision, precision_of};
 use crate::datatypes::{DataType, Field, IntegerType, IntervalUnit, TimeUnit, UnionMode};
 use std::fmt;
 use std::fmt::Formatter;
@@ -169,13 +170,27 @@ fn write_type<W: fmt::Write>(f: &mut Formatter<W>, t: &DataType) -> fmt::Result
         }
         DataType::Decimal(digits, after) => write_decimal(f, "decimal128(", *digits, *after),
         DataType::Decimal256(digits, after) => write_decimal(f, "decimal256(", *digits, *after),
-        DataType::Extension(name, inner, _) => {
-            f.write_str("extension<")?;
-            f.write_str(name)?;
-            f.write_str(", ")?;
-            write_type(f, inner)?;
-            f.write_str(">")
-        }
+        DataType::Extension(name, inner, _) => match precision_of(t) {
+            Some(precision) => f.write_str(precision_name(precision)),
+            None => {
+                f.write_str("extension<")?;
+                f.write_str(name)?;
+                f.write_str(", ")?;
+                write_type(f, inner)?;
+                f.write_str(">")
+            }
+        },
+    }
+}
+
+/// Returns the name of a floating-point type.
+fn precision_name(precision: Precision) -> &'static str
+    ensures { result.now ≡ precision_text precision }
+{
+    match precision {
+        Precision::Half => "halffloat",
+        Precision::Single => "float",
+        Precision::Double => "double",
     }
 }
 

@@ -92,11 +92,11 @@ pub enum DataType {
     UInt32,
     /// Unsigned integers of 64 bits.
     UInt64,
-    /// Floats of 16 bits, of which arrays are not implemented.
+    /// Floats of 16 bits, of which arrays are not implemented; [`floats`] has the types that represent floats.
     Float16,
-    /// Floats of 32 bits, of which arrays are not implemented.
+    /// Floats of 32 bits, of which arrays are not implemented; [`floats`] has the types that represent floats.
     Float32,
-    /// Floats of 64 bits, of which arrays are not implemented.
+    /// Floats of 64 bits, of which arrays are not implemented; [`floats`] has the types that represent floats.
     Float64,
     /// Units since the epoch (1970-01-01) in 64 bits, with an optional time zone.
     Timestamp(TimeUnit, Option<String>),

@@ -1,10 +1,11 @@
 //! Data types round-trip from their text: each there and back, each error with its byte, adversarial strings, without memory.
+use nest_memory::datatypes::floats::{Precision, float_type};
 use nest_memory::datatypes::{DataType, Field, UnionMode};
 use std::alloc::{AllocError, Global};
 use type_text::{MAX_DEPTH, ParseTypeError, parse_type};
 
 /// Strings of data types, one of each form at least.
-const TEXT_VALUES: [&str; 62] = [
+const TEXT_VALUES: [&str; 67] = [
     "null",
     "bool",
     "int8",
@@ -67,10 +68,15 @@ const TEXT_VALUES: [&str; 62] = [
     "extension<, null>",
     "extension<a.b<c>, extension<d, struct<x: extension<e, date32[day]>>>>",
     "struct<int32: int32, not null: int8 not null>",
+    "map<halffloat, double ('wide')>",
+    "dictionary<values=float, indices=int8, ordered=0>",
+    "extension<a, double>",
+    "extension<tiekvorn.float64, uint32>",
+    "extension<tiekvorn.float64, extension<tiekvorn.float32, uint64>>",
 ];
 
 /// Strings that are no data type's, and the byte at which each stops.
-const REJECTED: [(&str, usize); 46] = [
+const REJECTED: [(&str, usize); 51] = [
     ("", 0),
     (" int32", 0),
     ("int", 0),
@@ -117,6 +123,14 @@ const REJECTED: [(&str, usize); 46] = [
     ("map<string, int64 ('rows)>", 20),
     ("dictionary<values=string, indices=string, ordered=0>", 34),
     ("dictionary<values=string, indices=int8, ordered=2>", 38),
+    ("extension<tiekvorn.float16, uint16>", 10),
+    ("extension<tiekvorn.float32, uint32>", 10),
+    ("extension<tiekvorn.float64, uint64>", 10),
+    (
+        "list<item: extension<tiekvorn.float64, uint64> not null>",
+        21,
+    ),
+    ("extension<tiekvorn.float64, uint64", 34),
 ];
 
 /// What a text is read as, printed again.
@@ -215,6 +229,23 @@ fn ids_and_nulls(rt: HostRuntime) -> Result<(), ParseTypeError> {
             }
         }
         _ => assert!(rt; false),
+    }
+    Ok(())
+}
+
+/// Floats are read as the extension types of their bits; the types without arrays print alike.
+#[test]
+fn floats(rt: HostRuntime) -> Result<(), ParseTypeError> {
+    let alloc = rt.alloc();
+    for (text, precision, bare) in [
+        ("halffloat", Precision::Half, DataType::Float16),
+        ("float", Precision::Single, DataType::Float32),
+        ("double", Precision::Double, DataType::Float64),
+    ] {
+        let carried = float_type(alloc, precision).map_err(ParseTypeError::Memory)?;
+        assert!(rt; parse_type(alloc, text)? == carried, "{text}");
+        assert_eq!(rt; printed(alloc, &carried)?.as_str(), text);
+        assert_eq!(rt; printed(alloc, &bare)?.as_str(), text);
     }
     Ok(())
 }

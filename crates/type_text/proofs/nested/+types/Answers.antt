@@ -49,8 +49,8 @@ type_at-returns-in_err-keyword t c =
     let p = err_from_is_err_and c.from_residual.result c.from_residual.ensures.1 in
     rw (p.1, p.2) (no-keyword c.args.levels c.args.text.now c.in_err-keyword.field-0.0 (omega arith) c.in_err-keyword.ensures)
 
-pub type_at-returns-in-Plain : goal.type_at-returns-in-Plain
-type_at-returns-in-Plain t c = let e = one-level c.args.levels c.args.text.now c.in_ok-keyword.keyword c.in_ok-keyword.rest.now (omega arith) c.in_ok-keyword.ensures in rw (e, c.in-Plain.is, c.plain.ensures) refl
+pub type_at-returns-in_ok-plain-in-Plain : goal.type_at-returns-in_ok-plain-in-Plain
+type_at-returns-in_ok-plain-in-Plain t c = let e = one-level c.args.levels c.args.text.now c.in_ok-keyword.keyword c.in_ok-keyword.rest.now (omega arith) c.in_ok-keyword.ensures in rw (e, c.in-Plain.is, c.in_ok-plain-in-Plain.ensures) refl
 
 pub type_at-returns-in-Integer : goal.type_at-returns-in-Integer
 type_at-returns-in-Integer t c = let e = one-level c.args.levels c.args.text.now c.in_ok-keyword.keyword c.in_ok-keyword.rest.now (omega arith) c.in_ok-keyword.ensures in rw (e, c.in-Integer.is, c.from.ensures) refl
