@@ -8,7 +8,7 @@ use lib.IntN.{ℤ, pos, negsuc}
 use lib.Count.{count_leading_zeros, count_trailing_zeros, under}
 use lib.Pow.{pow-add, pow_mono, pow_pos, shl_lt}
 use Rattle.std.proofs.lemmas.Nat.{leading_top}
-use lib.Ieee.{Float, nan, inf, fin, Format, binary32, minus, odd, is_nan, of_fields, of_bits, to_bits, fits}
+use lib.Ieee.{nan, inf, fin, binary32, minus, odd, is_nan, of_fields, of_bits, to_bits, fits}
 use lib.Ieee.Bits.{cond_no, to_bits-of_bits, to_bits-lt, of_bits-to_bits}
 use Rattle.fast_float.specs.Parse.{parse_float}
 use lib.Ieee.Fits.{cond-fits, inf-fits, nan-fits, odd-fits}

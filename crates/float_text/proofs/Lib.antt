@@ -1,12 +1,20 @@
+mod Clear
 mod Closest
+mod Estimates
 mod Exact
 mod Halves
+mod Interval
 mod LimbFacts
 mod Layouts
 mod Leading
+mod Monotone
 mod Powers
 mod ReadBack
 mod Rounding
 mod Search
-mod TextReads
+pub mod TextReads
 mod Seventeen
+pub mod TextBytes
+pub mod HalfTexts
+mod Shorter
+mod Steps

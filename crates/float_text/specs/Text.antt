@@ -1,5 +1,5 @@
 -- Numbers of IEEE 754 as decimal text: the digits of the shortest decimal, with a point or an exponent. It is the text of the Rust crate `ryu`.
-use Rattle.std.specs.Prelude.{ℕ, ◌+◌, ◌-◌, ◌*◌, ◌%◌, ◌==◌, nat_lt, Bool, not, List, [], ◌∷◌, ◌++◌, length, take, drop, replicate, codes, if◌then◌else◌}
+use Rattle.std.specs.Prelude.{◌≡◌, ℕ, ◌+◌, ◌-◌, ◌*◌, ◌%◌, ◌<◌, ◌≤◌, ◌⊎◌, ◌==◌, nat_lt, Bool, not, List, [], ◌∷◌, ◌++◌, length, take, drop, replicate, codes, if◌then◌else◌, ⊤}
 use Rattle.std.specs.Float.Ieee.{Format, binary32, binary64, hid, ones, top}
 use Rattle.std.specs.Fmt.{decimal, sign_text}
 use Rattle.float_text.specs.Shortest.{shortest_decimal}
@@ -47,3 +47,15 @@ abbrev pub float_text : Format → ℕ → List ℕ
 float_text f bits =
     if nat_lt (ones f * hid f) (size_of f bits) then codes "NaN"
     else sign_text (is_negative f bits) ++ (if size_of f bits == ones f * hid f then codes "Infinity" else (if size_of f bits == 0 then codes "0.0" else size_text f (size_of f bits)))
+
+-- a digit, a point, an `e` or a minus sign
+abbrev pub IsNumberByte : ℕ → Type 0
+IsNumberByte b = ((48 ≤ b) × (b < 58)) ⊎ ((b ≡ 46) ⊎ ((b ≡ 101) ⊎ (b ≡ 45)))
+
+abbrev pub AreNumberBytes : List ℕ → Type 0
+AreNumberBytes [] = ⊤
+AreNumberBytes (b ∷ bs) = IsNumberByte b × AreNumberBytes bs
+
+-- the text is not empty, and begins with a digit or a minus sign
+abbrev pub BeginsAsNumber : List ℕ → Type 0
+BeginsAsNumber text = (b : ℕ) × (bs : List ℕ) × (text ≡ b ∷ bs) × (((48 ≤ b) × (b < 58)) ⊎ (b ≡ 45))

@@ -1,8 +1,8 @@
-use Rattle.std.proofs.Common.{◌≡◌, ◌<◌, ◌*◌, ◌+◌, ◌≤◌, ◌%◌, ◌/◌, ℕ, not, nat_lt, false, sym, ap, ◌∙◌, arith}
+use Rattle.std.proofs.Common.{◌≡◌, ◌*◌, ◌+◌, ◌≤◌, ◌%◌, ◌/◌, ℕ, not, nat_lt, false, sym, ap, ◌∙◌, arith}
 use Rattle.std.specs.Float.Ieee.{binary32, to_bits}
 use Rattle.float_text.specs.Half.{half_of_fields}
 use Rattle.float_text.proofs.half.single_of_half.Goals as goal
-use Rattle.float_text.proofs.Halves.{infinity_bits, nan_bits, sign_bit, sign_of, signed}
+use Rattle.float_text.proofs.Halves.{infinity_bits, nan_bits, sign_bit, signed}
 
 -- src/half.rt:27:1
 pub returns-then-exponent-lt31 : goal.returns-then-exponent-lt31
