@@ -8,8 +8,9 @@ use Rattle.nest_memory.specs.TypeTree.{Letters, TypeTree, FieldTree, field, Fiel
 use Rattle.nest_model.specs.Slot as slots
 use Rattle.nest_model.specs.Slot.{Slot, Slots, no_slots, more_slots, seal, unseal}
 use Rattle.json_write.specs.JsonText.{items_type, members_of, field_name, field_name_at, comma, json_of_slot, json_items, json_members, json_list}
-use Rattle.json_write.specs.TypedSlots.{SlotKind, nulls, booleans, numbers, strings, binaries, lists, structs, unions, slot_kind, field_type_at, IsSlotOf, AreItems, AreMembers, FitsIn128Bits, FitIn128Bits, LacksField, HaveDistinctNames, HasDistinctUnionNames, FieldHasDistinctUnionNames, FieldsHaveDistinctUnionNames}
-use Rattle.json_write.proofs.Literals.{first, tail, some_or, quoted-told, bytes-told, Stops, value-first, value-told}
+use Rattle.json_write.specs.TypedSlots.{SlotKind, nulls, booleans, numbers, strings, binaries, lists, structs, unions, slot_kind, field_type_at, IsSlotOf, AreItems, AreMembers, EachMemberNumber, FitsIn128Bits, FitIn128Bits, HasOwnText, IsNotNan, LackNan, LacksNan, LacksField, HaveDistinctNames, HasDistinctUnionNames, FieldHasDistinctUnionNames, FieldsHaveDistinctUnionNames}
+use Rattle.json_write.proofs.Literals.{bytes-told, value-first, value-told}
+use Rattle.json_write.proofs.Stops.{Stops, first, quoted-told, some_or, tail}
 use Rattle.json_write.specs.Formats.{format_of_type}
 
 -- ---- the constructor of a slot
@@ -140,13 +141,13 @@ pick-opened : (n text r : List ℕ) → (quoted n ++ 58 ∷ (text ++ 125 ∷ [])
 pick-opened n text r = append_assoc (quoted n) (58 ∷ (text ++ 125 ∷ [])) r ∙ ap (λ x. quoted n ++ 58 ∷ x) (append_assoc text (125 ∷ []) r)
 
 items-stop : (t : TypeTree) (ss : Slots) (r : List ℕ) → Stops (json_items t true ss ++ 93 ∷ r)
-items-stop t no_slots r = omega arith
-items-stop t (more_slots s ss) r = omega arith
+items-stop t no_slots r = inr (inl refl)
+items-stop t (more_slots s ss) r = inl refl
 
 members-stop : (fs : FieldTrees) (ss : Slots) (r : List ℕ) → Stops (json_members fs true ss ++ 125 ∷ r)
-members-stop fs no_slots r = omega arith
-members-stop no_fields (more_slots s ss) r = omega arith
-members-stop (more_fields f fs) (more_slots s ss) r = omega arith
+members-stop fs no_slots r = inr (inr refl)
+members-stop no_fields (more_slots s ss) r = inr (inr refl)
+members-stop (more_fields f fs) (more_slots s ss) r = inl refl
 
 -- an array without items
 no-item : (t : TypeTree) (after : Bool) (s : Slot) (ss : Slots) (r q : List ℕ) → FitsIn128Bits s → 93 ∷ r ≡ json_items t after (more_slots s ss) ++ 93 ∷ q → ⊥
@@ -154,71 +155,71 @@ no-item t true s ss r q h e = omega (arith, ap first e)
 no-item t false s ss r q h e = (slot-first t s (json_items t true ss ++ 93 ∷ q) h).0 (sym (ap first (e ∙ first-item t false s ss q)))
 
 mutual
-  pub slot-told : (t : TypeTree) (s z : Slot) (r q : List ℕ) → HasDistinctUnionNames t → IsSlotOf t s → IsSlotOf t z → FitsIn128Bits s → FitsIn128Bits z → Stops r → Stops q
+  pub slot-told : (t : TypeTree) (s z : Slot) (r q : List ℕ) → HasDistinctUnionNames t → IsSlotOf t s → IsSlotOf t z → FitsIn128Bits s → FitsIn128Bits z → LacksNan t s → LacksNan t z → Stops r → Stops q
       → json_of_slot t s ++ r ≡ json_of_slot t z ++ q → (s ≡ z) × (r ≡ q)
-  slot-told t slots.null slots.null r q o i j h l a b e = (refl, ap (drop 4) e)
-  slot-told t (slots.boolean true) (slots.boolean true) r q o i j h l a b e = (refl, ap (drop 4) e)
-  slot-told t (slots.boolean false) (slots.boolean false) r q o i j h l a b e = (refl, ap (drop 5) e)
-  slot-told t (slots.boolean true) (slots.boolean false) r q o i j h l a b e = absurd (omega (arith, ap first e))
-  slot-told t (slots.boolean false) (slots.boolean true) r q o i j h l a b e = absurd (omega (arith, ap first e))
-  slot-told t (slots.number zs) (slots.number ys) r q o i j h l a b e = let same = value-told (format_of_type t) zs ys r q h l a b e in (ap slots.number same.0, same.1)
-  slot-told t (slots.utf8 bs) (slots.utf8 cs) r q o i j h l a b e = let same = quoted-told bs cs r q e in (ap slots.utf8 same.0, same.1)
-  slot-told t (slots.bytes bs) (slots.bytes cs) r q o i j h l a b e = let same = bytes-told bs cs r q e in (ap slots.bytes same.0, same.1)
-  slot-told t (slots.list ss) (slots.list zs) r q o i j h l a b e =
+  slot-told t slots.null slots.null r q o i j h l m n a b e = (refl, ap (drop 4) e)
+  slot-told t (slots.boolean true) (slots.boolean true) r q o i j h l m n a b e = (refl, ap (drop 4) e)
+  slot-told t (slots.boolean false) (slots.boolean false) r q o i j h l m n a b e = (refl, ap (drop 5) e)
+  slot-told t (slots.boolean true) (slots.boolean false) r q o i j h l m n a b e = absurd (omega (arith, ap first e))
+  slot-told t (slots.boolean false) (slots.boolean true) r q o i j h l m n a b e = absurd (omega (arith, ap first e))
+  slot-told t (slots.number zs) (slots.number ys) r q o i j h l m n a b e = let same = value-told (format_of_type t) zs ys r q h l m n a b e in (ap slots.number same.0, same.1)
+  slot-told t (slots.utf8 bs) (slots.utf8 cs) r q o i j h l m n a b e = let same = quoted-told bs cs r q e in (ap slots.utf8 same.0, same.1)
+  slot-told t (slots.bytes bs) (slots.bytes cs) r q o i j h l m n a b e = let same = bytes-told bs cs r q e in (ap slots.bytes same.0, same.1)
+  slot-told t (slots.list ss) (slots.list zs) r q o i j h l m n a b e =
       let u = items_type t in
-      let same = items-told u false ss zs r q (items-name t o) i.1 j.1 h l
+      let same = items-told u false ss zs r q (items-name t o) i.1 j.1 h l m n
       (sym (append_assoc (json_items u false ss) (93 ∷ []) r) ∙ ap tail e ∙ append_assoc (json_items u false zs) (93 ∷ []) q) in
       (ap slots.list same.0, same.1)
-  slot-told t (slots.record_of ss) (slots.record_of zs) r q o i j h l a b e =
+  slot-told t (slots.record_of ss) (slots.record_of zs) r q o i j h l m n a b e =
       let fs = members_of t in
-      let same = members-told fs false ss zs r q (members-name t o) i.1 j.1 h l
+      let same = members-told fs false ss zs r q (members-name t o) i.1 j.1 h l m n
       (sym (append_assoc (json_members fs false ss) (125 ∷ []) r) ∙ ap tail e ∙ append_assoc (json_members fs false zs) (125 ∷ []) q) in
       (ap slots.record_of same.0, same.1)
-  slot-told t (slots.pick f u s) (slots.pick g v z) r q o i j h l a b e =
+  slot-told t (slots.pick f u s) (slots.pick g v z) r q o i j h l m n a b e =
       let fs = members_of t in
       let named = quoted-told (field_name_at fs f) (field_name_at fs g) (58 ∷ (json_of_slot u s ++ 125 ∷ r)) (58 ∷ (json_of_slot v z ++ 125 ∷ q))
       (sym (pick-opened (field_name_at fs f) (json_of_slot u s) r) ∙ ap tail e ∙ pick-opened (field_name_at fs g) (json_of_slot v z) q) in
       let place : f ≡ g = one-field fs f g u v (picks-apart t o i.0) i.1 j.1 named.0 in
       let typed : u ≡ v = ap (some_or types.null) (sym i.1 ∙ ap (field_type_at fs) place ∙ j.1) in
-      let same = slot-told u s z (125 ∷ r) (125 ∷ q) (type-names fs f u (members-name t o) i.1) i.2 (subst (λ w. IsSlotOf w z) (sym typed) j.2) h l (omega arith) (omega arith)
+      let same = slot-told u s z (125 ∷ r) (125 ∷ q) (type-names fs f u (members-name t o) i.1) i.2 (subst (λ w. IsSlotOf w z) (sym typed) j.2) h l m (subst (λ w. LacksNan w z) (sym typed) n) (inr (inr refl)) (inr (inr refl))
       (ap tail named.1 ∙ ap (λ w. json_of_slot w z ++ 125 ∷ q) (sym typed)) in
       ((λ k. slots.pick (place k) (typed k) (same.0 k)), ap tail same.1)
-  slot-told t s z r q o i j h l a b e = let no = one-role t s z r q i j h l e in absurd (omega arith)
+  slot-told t s z r q o i j h l m n a b e = let no = one-role t s z r q i j h l e in absurd (omega arith)
 
-  pub items-told : (t : TypeTree) (after : Bool) (ss zs : Slots) (r q : List ℕ) → HasDistinctUnionNames t → AreItems t ss → AreItems t zs → FitIn128Bits ss → FitIn128Bits zs
+  pub items-told : (t : TypeTree) (after : Bool) (ss zs : Slots) (r q : List ℕ) → HasDistinctUnionNames t → AreItems t ss → AreItems t zs → FitIn128Bits ss → FitIn128Bits zs → LackNan t ss → LackNan t zs
       → json_items t after ss ++ 93 ∷ r ≡ json_items t after zs ++ 93 ∷ q → (ss ≡ zs) × (r ≡ q)
-  items-told t after no_slots no_slots r q o i j h l e = (refl, ap tail e)
-  items-told t after no_slots (more_slots z zs) r q o i j h l e = absurd (no-item t after z zs r q l.0 e)
-  items-told t after (more_slots s ss) no_slots r q o i j h l e = absurd (no-item t after s ss q r h.0 (sym e))
-  items-told t after (more_slots s ss) (more_slots z zs) r q o i j h l e =
-      let one = slot-told t s z (json_items t true ss ++ 93 ∷ r) (json_items t true zs ++ 93 ∷ q) o i.0 j.0 h.0 l.0 (items-stop t ss r) (items-stop t zs q)
+  items-told t after no_slots no_slots r q o i j h l m n e = (refl, ap tail e)
+  items-told t after no_slots (more_slots z zs) r q o i j h l m n e = absurd (no-item t after z zs r q l.0 e)
+  items-told t after (more_slots s ss) no_slots r q o i j h l m n e = absurd (no-item t after s ss q r h.0 (sym e))
+  items-told t after (more_slots s ss) (more_slots z zs) r q o i j h l m n e =
+      let one = slot-told t s z (json_items t true ss ++ 93 ∷ r) (json_items t true zs ++ 93 ∷ q) o i.0 j.0 h.0 l.0 m.0 n.0 (items-stop t ss r) (items-stop t zs q)
       (append_cancel_left (comma after) _ _ (sym (first-item t after s ss r) ∙ e ∙ first-item t after z zs q)) in
-      let more = items-told t true ss zs r q o i.1 j.1 h.1 l.1 one.1 in
+      let more = items-told t true ss zs r q o i.1 j.1 h.1 l.1 m.1 n.1 one.1 in
       (ap₂ more_slots one.0 more.0, more.1)
 
   pub members-told : (fs : FieldTrees) (after : Bool) (ss zs : Slots) (r q : List ℕ) → FieldsHaveDistinctUnionNames fs → AreMembers fs ss → AreMembers fs zs → FitIn128Bits ss → FitIn128Bits zs
-      → json_members fs after ss ++ 125 ∷ r ≡ json_members fs after zs ++ 125 ∷ q → (ss ≡ zs) × (r ≡ q)
-  members-told no_fields after no_slots no_slots r q o i j h l e = (refl, ap tail e)
-  members-told no_fields after no_slots (more_slots z zs) r q o i j h l e = absurd j
-  members-told no_fields after (more_slots s ss) zs r q o i j h l e = absurd i
-  members-told (more_fields f fs) after no_slots zs r q o i j h l e = absurd i
-  members-told (more_fields f fs) after (more_slots s ss) no_slots r q o i j h l e = absurd j
-  members-told (more_fields f fs) after (more_slots s ss) (more_slots z zs) r q o i j h l e =
-      let n = field_name f in
+      → EachMemberNumber IsNotNan fs ss → EachMemberNumber IsNotNan fs zs → json_members fs after ss ++ 125 ∷ r ≡ json_members fs after zs ++ 125 ∷ q → (ss ≡ zs) × (r ≡ q)
+  members-told no_fields after no_slots no_slots r q o i j h l m n e = (refl, ap tail e)
+  members-told no_fields after no_slots (more_slots z zs) r q o i j h l m n e = absurd j
+  members-told no_fields after (more_slots s ss) zs r q o i j h l m n e = absurd i
+  members-told (more_fields f fs) after no_slots zs r q o i j h l m n e = absurd i
+  members-told (more_fields f fs) after (more_slots s ss) no_slots r q o i j h l m n e = absurd j
+  members-told (more_fields f fs) after (more_slots s ss) (more_slots z zs) r q o i j h l m n e =
+      let name = field_name f in
       let t = field_type f in
-      let named = quoted-told n n _ _ (append_cancel_left (comma after) _ _ (sym (first-member f fs after s ss r) ∙ e ∙ first-member f fs after z zs q)) in
-      let one = slot-told t s z (json_members fs true ss ++ 125 ∷ r) (json_members fs true zs ++ 125 ∷ q) (field-names f o.0) i.0 j.0 h.0 l.0 (members-stop fs ss r) (members-stop fs zs q)
+      let named = quoted-told name name _ _ (append_cancel_left (comma after) _ _ (sym (first-member f fs after s ss r) ∙ e ∙ first-member f fs after z zs q)) in
+      let one = slot-told t s z (json_members fs true ss ++ 125 ∷ r) (json_members fs true zs ++ 125 ∷ q) (field-names f o.0) i.0 j.0 h.0 l.0 m.0 n.0 (members-stop fs ss r) (members-stop fs zs q)
       (ap tail named.1) in
-      let more = members-told fs true ss zs r q o.1 i.1 j.1 h.1 l.1 one.1 in
+      let more = members-told fs true ss zs r q o.1 i.1 j.1 h.1 l.1 m.1 n.1 one.1 in
       (ap₂ more_slots one.0 more.0, more.1)
 
-pub one-text-one-slot : (t : TypeTree) (s z : Slot) → HasDistinctUnionNames t → IsSlotOf t s → IsSlotOf t z → FitsIn128Bits s → FitsIn128Bits z → json_of_slot t s ≡ json_of_slot t z → s ≡ z
-one-text-one-slot t s z o i j h l e = (slot-told t s z [] [] o i j h l tt tt (append-nil (json_of_slot t s) ∙ e ∙ sym (append-nil (json_of_slot t z)))).0
+pub one-text-one-slot : (t : TypeTree) (s z : Slot) → HasDistinctUnionNames t → HasOwnText t s → HasOwnText t z → json_of_slot t s ≡ json_of_slot t z → s ≡ z
+one-text-one-slot t s z o h l e = (slot-told t s z [] [] o h.0 l.0 h.1 l.1 h.2 l.2 tt tt (append-nil (json_of_slot t s) ∙ e ∙ sym (append-nil (json_of_slot t z)))).0
 
 unseal-seal : (ss : List Slot) → unseal (seal ss) ≡ ss
 unseal-seal [] = refl
 unseal-seal (s ∷ ss) = ap (λ x. s ∷ x) (unseal-seal ss)
 
-pub one-text-one-list : (t : TypeTree) (ss zs : List Slot) → HasDistinctUnionNames t → AreItems t (seal ss) → AreItems t (seal zs) → FitIn128Bits (seal ss) → FitIn128Bits (seal zs)
+pub one-text-one-list : (t : TypeTree) (ss zs : List Slot) → HasDistinctUnionNames t → AreItems t (seal ss) → AreItems t (seal zs) → FitIn128Bits (seal ss) → FitIn128Bits (seal zs) → LackNan t (seal ss) → LackNan t (seal zs)
     → json_list t ss ≡ json_list t zs → ss ≡ zs
-one-text-one-list t ss zs o i j h l e = sym (unseal-seal ss) ∙ ap unseal (items-told t false (seal ss) (seal zs) [] [] o i j h l (ap tail e)).0 ∙ unseal-seal zs
+one-text-one-list t ss zs o i j h l m n e = sym (unseal-seal ss) ∙ ap unseal (items-told t false (seal ss) (seal zs) [] [] o i j h l m n (ap tail e)).0 ∙ unseal-seal zs

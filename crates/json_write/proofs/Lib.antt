@@ -12,8 +12,12 @@ mod MemberPrefixes
 mod NativeValues
 mod Nesting
 mod Injective
+mod Stops
+mod FloatTexts
+mod FloatJson
 mod Literals
 mod Escapes
+mod KeyedText
 mod ScalarText
 mod Typed
 pub mod OneText

@@ -1,42 +1,24 @@
 -- Numbers, strings and bytes are determined by their text, whatever follows it.
-use Rattle.std.proofs.Common.{◌≡◌, ℕ, suc, ◌+◌, ◌/◌, ◌%◌, ◌^◌, ◌<◌, ◌≤◌, ℤ, pos, negsuc, List, [], ◌∷◌, ◌++◌, map, length, flat_map, Option, Some, None, inl, inr, refl, sym, ap, ap₂, ◌∙◌, subst, arith, append_assoc, lt-ltb, le-ltb as ge-ltb}
-use Rattle.std.specs.Char.{digit_char, digit_value}
+use Rattle.std.proofs.Common.{◌≡◌, ℕ, suc, ◌+◌, ◌/◌, ◌%◌, ◌^◌, ◌<◌, ℤ, pos, negsuc, List, [], ◌∷◌, ◌++◌, map, length, flat_map, Option, Some, None, inl, inr, refl, sym, ap, ap₂, ◌∙◌, subst, arith, append_assoc, lt-ltb, le-ltb as ge-ltb}
+use Rattle.std.specs.Char.{digit_char}
 use Rattle.std.specs.Fmt.{decimal, signed_decimal}
 use Rattle.std.specs.Int.Signed.{mag}
 use Rattle.std.specs.List.{join_with_byte}
 use Rattle.std.specs.Str.Parse.{AllDigits, digits_value}
 use Rattle.std.proofs.lemmas.Bool.{cases_lt}
 use Rattle.std.proofs.lemmas.Fmt.{decimal_is_IsNumeral_wide}
-use Rattle.std.proofs.lemmas.List.{append_cancel_left}
 use Rattle.std.proofs.lemmas.Str.Parse.{digit_from_value}
-use Rattle.json.specs.Print.{escape, quoted}
-use Rattle.json.specs.Text.{content, plain}
-use Rattle.json.proofs.Printed.Strings.{content-escape}
+use Rattle.json_write.proofs.FloatJson.{float-first, float-told}
 use Rattle.json_write.proofs.OneText.{one-text}
+use Rattle.json_write.proofs.Stops.{Stops, first, quoted-told, tail}
 use Rattle.json_write.specs.Formats.{text_of_numbers}
-use Rattle.json_write.specs.JsonText.{hex_byte, hex_quoted, json_of_number, json_of_value, string_or_numbers}
-use Rattle.json_write.specs.TypedSlots.{NumbersFitIn128Bits}
+use Rattle.json_write.specs.JsonText.{hex_byte, hex_quoted, json_of_number, json_of_numbers, json_of_value, string_or}
+use Rattle.json_write.specs.TypedSlots.{IsNotNan, NumbersFitIn128Bits}
 use Rattle.json_write.specs.declared.format.ValueFormat.{ValueFormat}
+use Rattle.json_write.specs.declared.format.ValueFormat.TheVariants.{Float}
+use Rattle.nest_memory.specs.declared.datatypes.floats.Precision.{Precision}
 
-abbrev pub first : List ℕ → ℕ
-first [] = 0
-first (b ∷ bs) = b
-
-abbrev pub tail : List ℕ → List ℕ
-tail [] = []
-tail (b ∷ bs) = bs
-
-abbrev pub some_or : {A : Type 0} → A → Option A → A
-some_or a None = a
-some_or a (Some b) = b
-
--- ---- strings and bytes
-
-pub quoted-told : (s z r q : List ℕ) → quoted s ++ r ≡ quoted z ++ q → (s ≡ z) × (r ≡ q)
-quoted-told s z r q e =
-    let opened : escape s ++ 34 ∷ r ≡ escape z ++ 34 ∷ q = sym (append_assoc (escape s) (34 ∷ []) r) ∙ ap tail e ∙ append_assoc (escape z) (34 ∷ []) q in
-    let same : s ≡ z = ap (some_or []) (sym (content-escape s r) ∙ ap (content plain) opened ∙ content-escape z q) in
-    (same, ap tail (append_cancel_left (escape s) (34 ∷ r) (34 ∷ q) (opened ∙ ap (λ x. escape x ++ 34 ∷ q) (sym same))))
+-- ---- bytes
 
 digit-told : (d c : ℕ) → digit_char d ≡ digit_char c → d ≡ c
 digit-told d c e = elim (cases_lt d 10) [
@@ -67,15 +49,10 @@ bytes-told bs cs r q e = let h = quoted-told (flat_map hex_byte bs) (flat_map he
 
 -- ---- numbers
 
--- the first byte is no digit
-abbrev pub Stops : List ℕ → Type 0
-Stops [] = Unit {0}
-Stops (b ∷ bs) = 10 ≤ digit_value b
-
 digits-told : (ds es r q : List ℕ) → AllDigits 10 ds → AllDigits 10 es → Stops r → Stops q → ds ++ r ≡ es ++ q → (ds ≡ es) × (r ≡ q)
 digits-told [] [] r q a b h l e = (refl, e)
-digits-told [] (c ∷ es) r q a b h l e = let no : 10 ≤ digit_value c = subst Stops e h in absurd (omega (arith, b.0))
-digits-told (d ∷ ds) [] r q a b h l e = let no : 10 ≤ digit_value d = subst Stops (sym e) l in absurd (omega (arith, a.0))
+digits-told [] (c ∷ es) r q a b h l e = let s : Stops (c ∷ (es ++ q)) = subst Stops e h in absurd (omega (arith, s, digit_from_value c b.0))
+digits-told (d ∷ ds) [] r q a b h l e = let s : Stops (d ∷ (ds ++ r)) = subst Stops (sym e) l in absurd (omega (arith, s, digit_from_value d a.0))
 digits-told (d ∷ ds) (c ∷ es) r q a b h l e =
     let more = digits-told ds es r q a.1 b.1 h l (ap tail e) in
     (ap₂ (λ x (xs : List ℕ). x ∷ xs) (ap first e) more.0, more.1)
@@ -114,20 +91,20 @@ numbers_text zs = join_with_byte 44 (map signed_decimal zs)
 joined-told : (z y : ℤ) (zs ys : List ℤ) (r q : List ℕ) → NumbersFitIn128Bits (z ∷ zs) → NumbersFitIn128Bits (y ∷ ys) → numbers_text (z ∷ zs) ++ 93 ∷ r ≡ numbers_text (y ∷ ys) ++ 93 ∷ q
     → ((z ∷ zs) ≡ (y ∷ ys)) × (r ≡ q)
 joined-told z y [] [] r q a b e =
-    let same = signed-told z y (93 ∷ r) (93 ∷ q) a.0 b.0 (omega arith) (omega arith) e in
+    let same = signed-told z y (93 ∷ r) (93 ∷ q) a.0 b.0 (inr (inl refl)) (inr (inl refl)) e in
     (ap (λ x. x ∷ []) same.0, ap tail same.1)
 joined-told z y [] (k ∷ ys) r q a b e =
     let rest = numbers_text (k ∷ ys) in
-    let same = signed-told z y (93 ∷ r) (44 ∷ (rest ++ 93 ∷ q)) a.0 b.0 (omega arith) (omega arith) (e ∙ append_assoc (signed_decimal y) (44 ∷ rest) (93 ∷ q)) in
+    let same = signed-told z y (93 ∷ r) (44 ∷ (rest ++ 93 ∷ q)) a.0 b.0 (inr (inl refl)) (inl refl) (e ∙ append_assoc (signed_decimal y) (44 ∷ rest) (93 ∷ q)) in
     absurd (omega (arith, ap first same.1))
 joined-told z y (k ∷ zs) [] r q a b e =
     let rest = numbers_text (k ∷ zs) in
-    let same = signed-told z y (44 ∷ (rest ++ 93 ∷ r)) (93 ∷ q) a.0 b.0 (omega arith) (omega arith) (sym (append_assoc (signed_decimal z) (44 ∷ rest) (93 ∷ r)) ∙ e) in
+    let same = signed-told z y (44 ∷ (rest ++ 93 ∷ r)) (93 ∷ q) a.0 b.0 (inl refl) (inr (inl refl)) (sym (append_assoc (signed_decimal z) (44 ∷ rest) (93 ∷ r)) ∙ e) in
     absurd (omega (arith, ap first same.1))
 joined-told z y (k ∷ zs) (j ∷ ys) r q a b e =
     let left = numbers_text (k ∷ zs) in
     let right = numbers_text (j ∷ ys) in
-    let same = signed-told z y (44 ∷ (left ++ 93 ∷ r)) (44 ∷ (right ++ 93 ∷ q)) a.0 b.0 (omega arith) (omega arith)
+    let same = signed-told z y (44 ∷ (left ++ 93 ∷ r)) (44 ∷ (right ++ 93 ∷ q)) a.0 b.0 (inl refl) (inl refl)
     (sym (append_assoc (signed_decimal z) (44 ∷ left) (93 ∷ r)) ∙ e ∙ append_assoc (signed_decimal y) (44 ∷ right) (93 ∷ q)) in
     let more = joined-told k j zs ys r q a.1 b.1 (ap tail same.1) in
     (ap₂ (λ x (xs : List ℤ). x ∷ xs) same.0 more.0, more.1)
@@ -170,20 +147,39 @@ number-above [] r h = omega arith
 number-above (z ∷ []) r h = signed-above z r h.0
 number-above (z ∷ y ∷ zs) r h = omega arith
 
-text-first : (text : Option (List ℕ)) (zs : List ℤ) (r : List ℕ) → NumbersFitIn128Bits zs → first (string_or_numbers text zs ++ r) < 92
+text-first : (text : Option (List ℕ)) (zs : List ℤ) (r : List ℕ) → NumbersFitIn128Bits zs → first (string_or text (json_of_number zs) ++ r) < 92
 text-first None zs r h = number-first zs r h
 text-first (Some bs) zs r h = omega arith
 
+float-value-first : (p : Precision) (zs : List ℤ) (r : List ℕ) → NumbersFitIn128Bits zs → first (json_of_numbers (Float p) zs ++ r) < 92
+float-value-first p [] r h = omega arith
+float-value-first p (z ∷ []) r h = omega (arith, float-first p z r)
+float-value-first p (z ∷ y ∷ zs) r h = omega arith
+
 pub value-first : (v : ValueFormat) (zs : List ℤ) (r : List ℕ) → NumbersFitIn128Bits zs → first (json_of_value v zs ++ r) < 92
+value-first (Float p) zs r h = float-value-first p zs r h
 value-first v zs r h = text-first (text_of_numbers v zs) zs r h
 
 text-told : (s t : Option (List ℕ)) (zs ys : List ℤ) (r q : List ℕ) → NumbersFitIn128Bits zs → NumbersFitIn128Bits ys → Stops r → Stops q
-    → ((a : List ℕ) → s ≡ Some a → t ≡ Some a → zs ≡ ys) → string_or_numbers s zs ++ r ≡ string_or_numbers t ys ++ q → (zs ≡ ys) × (r ≡ q)
+    → ((a : List ℕ) → s ≡ Some a → t ≡ Some a → zs ≡ ys) → string_or s (json_of_number zs) ++ r ≡ string_or t (json_of_number ys) ++ q → (zs ≡ ys) × (r ≡ q)
 text-told None None zs ys r q a b h l law e = number-told zs ys r q a b h l e
 text-told (Some s) (Some t) zs ys r q a b h l law e = let same = quoted-told s t r q e in (law s refl (ap Some (sym same.0)), same.1)
 text-told None (Some t) zs ys r q a b h l law e = absurd (omega (arith, number-above zs r a, ap first e))
 text-told (Some s) None zs ys r q a b h l law e = absurd (omega (arith, number-above ys q b, ap first e))
 
-pub value-told : (v : ValueFormat) (zs ys : List ℤ) (r q : List ℕ) → NumbersFitIn128Bits zs → NumbersFitIn128Bits ys → Stops r → Stops q → json_of_value v zs ++ r ≡ json_of_value v ys ++ q
-    → (zs ≡ ys) × (r ≡ q)
-value-told v zs ys r q a b h l e = text-told (text_of_numbers v zs) (text_of_numbers v ys) zs ys r q a b h l (one-text v zs ys) e
+float-value-told : (p : Precision) (zs ys : List ℤ) (r q : List ℕ) → NumbersFitIn128Bits zs → NumbersFitIn128Bits ys → IsNotNan (Float p) zs → IsNotNan (Float p) ys → Stops r → Stops q
+    → json_of_numbers (Float p) zs ++ r ≡ json_of_numbers (Float p) ys ++ q → (zs ≡ ys) × (r ≡ q)
+float-value-told p (z ∷ []) (y ∷ []) r q a b m n h l e = let same = float-told p z y r q m n h l e in (ap (λ x. x ∷ []) same.0, same.1)
+float-value-told p [] (y ∷ []) r q a b m n h l e = absurd (omega (arith, float-first p y q, ap first e))
+float-value-told p (z ∷ []) [] r q a b m n h l e = absurd (omega (arith, float-first p z r, ap first e))
+float-value-told p (z ∷ []) (y ∷ k ∷ ys) r q a b m n h l e = absurd (omega (arith, float-first p z r, ap first e))
+float-value-told p (z ∷ k ∷ zs) (y ∷ []) r q a b m n h l e = absurd (omega (arith, float-first p y q, ap first e))
+float-value-told p [] [] r q a b m n h l e = number-told [] [] r q a b h l e
+float-value-told p [] (y ∷ k ∷ ys) r q a b m n h l e = number-told [] (y ∷ k ∷ ys) r q a b h l e
+float-value-told p (z ∷ k ∷ zs) [] r q a b m n h l e = number-told (z ∷ k ∷ zs) [] r q a b h l e
+float-value-told p (z ∷ k ∷ zs) (y ∷ j ∷ ys) r q a b m n h l e = number-told (z ∷ k ∷ zs) (y ∷ j ∷ ys) r q a b h l e
+
+pub value-told : (v : ValueFormat) (zs ys : List ℤ) (r q : List ℕ) → NumbersFitIn128Bits zs → NumbersFitIn128Bits ys → IsNotNan v zs → IsNotNan v ys → Stops r → Stops q
+    → json_of_value v zs ++ r ≡ json_of_value v ys ++ q → (zs ≡ ys) × (r ≡ q)
+value-told (Float p) zs ys r q a b m n h l e = float-value-told p zs ys r q a b m n h l e
+value-told v zs ys r q a b m n h l e = text-told (text_of_numbers v zs) (text_of_numbers v ys) zs ys r q a b h l (one-text v zs ys) e

@@ -6,27 +6,29 @@ use Rattle.nest_flat.specs.AnyNative.{native_kind, native_numbers}
 use Rattle.nest_flat.specs.declared.any_native.AnyNative.{AnyNative}
 use Rattle.nest_flat.specs.declared.any_native.AnyNative.TheVariants as any
 use Rattle.nest_memory.specs.declared.datatypes.TimeUnit.{TimeUnit}
+use Rattle.nest_memory.specs.declared.datatypes.floats.Precision.{Precision}
 use Rattle.nest_memory.specs.declared.datatypes.physical_type.PrimitiveType.{PrimitiveType}
 use Rattle.nest_memory.specs.declared.datatypes.physical_type.PrimitiveType.TheVariants as primitive
 use Rattle.json_write.specs.Formats.{has_format, text_in, text_of_numbers}
 use Rattle.json_write.specs.declared.format.ValueFormat.{ValueFormat}
-use Rattle.json_write.specs.declared.format.ValueFormat.TheVariants.{Number, Decimal, Date, MillisecondDate, Time, Timestamp, Duration, Months, DaysMs, MonthDayNano}
+use Rattle.json_write.specs.declared.format.ValueFormat.TheVariants.{Number, Decimal, Date, MillisecondDate, Time, Timestamp, Duration, Months, DaysMs, MonthDayNano, Float}
 use Rattle.json_write.specs.Decimals.{decimal_text}
 use Rattle.json_write.specs.Times.{days_ms_text, month_day_nano_text}
 
--- all values of a format but numbers and times are text
-pub always-text : (v : ValueFormat) (x : AnyNative) → has_format (native_kind x) v ≡ true → (v ≡ Number → ⊥) → ((u : TimeUnit) → v ≡ Time u → ⊥) → true ≡ is_some (text_of_numbers v (native_numbers x))
-always-text Number x h a b = absurd (a refl)
-always-text (Time u) x h a b = absurd (b u refl)
-always-text (Decimal p s) (any.Int128 n) h a b = refl
-always-text Date (any.Int32 n) h a b = refl
-always-text MillisecondDate (any.Int64 n) h a b = refl
-always-text (Timestamp u utc) (any.Int64 n) h a b = refl
-always-text (Duration u) (any.Int64 n) h a b = refl
-always-text Months (any.Int32 n) h a b = refl
-always-text DaysMs (any.DaysMs n) h a b = refl
-always-text MonthDayNano (any.MonthDayNano n) h a b = refl
-always-text v x h a b = absurd (false≢true h)
+-- all values of a format but numbers, floats and times are text
+pub always-text : (v : ValueFormat) (x : AnyNative) → has_format (native_kind x) v ≡ true → (v ≡ Number → ⊥) → ((p : Precision) → v ≡ Float p → ⊥) → ((u : TimeUnit) → v ≡ Time u → ⊥) → true ≡ is_some (text_of_numbers v (native_numbers x))
+always-text Number x h a c b = absurd (a refl)
+always-text (Float p) x h a c b = absurd (c p refl)
+always-text (Time u) x h a c b = absurd (b u refl)
+always-text (Decimal p s) (any.Int128 n) h a c b = refl
+always-text Date (any.Int32 n) h a c b = refl
+always-text MillisecondDate (any.Int64 n) h a c b = refl
+always-text (Timestamp u utc) (any.Int64 n) h a c b = refl
+always-text (Duration u) (any.Int64 n) h a c b = refl
+always-text Months (any.Int32 n) h a c b = refl
+always-text DaysMs (any.DaysMs n) h a c b = refl
+always-text MonthDayNano (any.MonthDayNano n) h a c b = refl
+always-text v x h a c b = absurd (false≢true h)
 
 -- the only format of these values that has text
 pub days-text : (v : ValueFormat) (a b : ℤ) → has_format primitive.DaysMs v ≡ true → is_some (text_of_numbers v (a ∷ b ∷ [])) ≡ true → days_ms_text a b ≡ text_in v (a ∷ b ∷ [])

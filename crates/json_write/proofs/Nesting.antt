@@ -1,9 +1,8 @@
 -- The text of lists, structs and unions, one more part at a time.
-use Rattle.std.specs.Prelude.{Option, Some, not, if◌then◌else◌, ◌⊎◌, List as Seq}
-use Rattle.std.proofs.Common.{◌≡◌, ℕ, zero, suc, ◌+◌, ◌<◌, ◌≤◌, Bool, true, false, nat_lt, List, [], ◌∷◌, ◌++◌, length, get_or, pos, codes, refl, sym, ap, ◌∙◌, subst, inl, inr, arith, append_assoc, append-nil, lt-ltb}
+use Rattle.std.specs.Prelude.{Some, not, if◌then◌else◌, ◌⊎◌, List as Seq}
+use Rattle.std.proofs.Common.{◌≡◌, ℕ, zero, suc, ◌+◌, ◌<◌, ◌≤◌, Bool, true, false, nat_lt, List, [], ◌∷◌, ◌++◌, length, get_or, codes, refl, sym, ap, ◌∙◌, subst, inl, inr, arith, append_assoc, append-nil, lt-ltb}
 use Rattle.std.proofs.lemmas.Option.{same_Some}
 use Rattle.json.specs.Print.{quoted}
-use Rattle.nest_array.proofs.Keyed.{IsDictionaryOf, keyed-slot}
 use Rattle.nest_array.proofs.Picks.{IsUnionOf}
 use Rattle.nest_array.specs.Seen.{layout_of, layouts_of}
 use Rattle.nest_array.specs.WindowParts.{WindowParts, window_parts, window_slots}
@@ -11,19 +10,19 @@ use Rattle.nest_array.specs.declared.any.AnyArray.{AnyArray}
 use Rattle.nest_memory.specs.Physical.{physical_type}
 use Rattle.nest_memory.specs.TypeOf.{field_of, field_list_of, count_fields-field_list_of}
 use Rattle.nest_memory.specs.TypeTree as types
-use Rattle.nest_memory.specs.TypeTree.{Letters, TypeTree, FieldTrees, count_fields, field_type, fields_of, item_type, logical_type, value_type}
+use Rattle.nest_memory.specs.TypeTree.{TypeTree, FieldTrees, count_fields, field_type, fields_of, item_type}
 use Rattle.nest_memory.specs.declared.datatypes.IntegerType.{IntegerType}
 use Rattle.nest_memory.specs.declared.datatypes.field.Field.{Field}
 use Rattle.nest_memory.specs.declared.datatypes.physical_type.PhysicalType.TheVariants as physical
-use Rattle.nest_model.specs.Accessors.{validity_of, offsets_of, child_of, children_of, types_of, union_offsets_of, start_of, keys_of, key_at}
+use Rattle.nest_model.specs.Accessors.{validity_of, offsets_of, child_of, children_of, types_of, union_offsets_of, start_of}
 use Rattle.nest_model.specs.Array.{TopFits}
-use Rattle.nest_model.specs.FactLaws.{list-facts, map-facts, fixed_size_list-facts, union-facts, dictionary-facts}
-use Rattle.nest_model.specs.Fits.{EachCovers, EachType, IsLogically}
+use Rattle.nest_model.specs.FactLaws.{list-facts, map-facts, fixed_size_list-facts, union-facts}
+use Rattle.nest_model.specs.Fits.{EachCovers, EachType}
 use Rattle.nest_model.specs.Layout as layouts
 use Rattle.nest_model.specs.Layout.{Layout, layout_type, count_layouts, weight, weight_all}
 use Rattle.nest_model.specs.Meaning.{run, slot, each, len, where_valid}
 use Rattle.nest_model.specs.Nullness.{is_null_at}
-use Rattle.nest_model.specs.Part.{valid_at, to_index}
+use Rattle.nest_model.specs.Part.{valid_at}
 use Rattle.nest_model.specs.Reads.{items-cut}
 use Rattle.nest_model.specs.Slot as slots
 use Rattle.nest_model.specs.Slot.{Slot, Slots, seal}
@@ -189,36 +188,6 @@ members-none (f ∷ fs) [] i after done whole t e w = absurd t
 members-none (f ∷ fs) (x ∷ xs) i after done whole t (inl e) w = absurd (omega arith)
 members-none (f ∷ fs) (x ∷ xs) i after done whole t (inr e) w = absurd (omega arith)
 
--- a dictionary has the text of its values, an extension that of its storage
-json-dictionary : (k : IntegerType) (t : TypeTree) (b : Bool) (s : Slot) → json_of_slot (types.dictionary k t b) s ≡ json_of_slot t s
-json-dictionary k t b slots.null = refl
-json-dictionary k t b (slots.boolean x) = refl
-json-dictionary k t b (slots.number x) = refl
-json-dictionary k t b (slots.utf8 x) = refl
-json-dictionary k t b (slots.bytes x) = refl
-json-dictionary k t b (slots.list x) = refl
-json-dictionary k t b (slots.record_of x) = refl
-json-dictionary k t b (slots.pick f u x) = refl
-
-json-extension : (n : Letters) (t : TypeTree) (m : Option Letters) (s : Slot) → json_of_slot (types.extension n t m) s ≡ json_of_slot t s
-json-extension n t m slots.null = refl
-json-extension n t m (slots.boolean x) = refl
-json-extension n t m (slots.number x) = refl
-json-extension n t m (slots.utf8 x) = refl
-json-extension n t m (slots.bytes x) = refl
-json-extension n t m (slots.list x) = refl
-json-extension n t m (slots.record_of x) = refl
-json-extension n t m (slots.pick f u x) = refl
-
-json-logical : (t : TypeTree) (s : Slot) → json_of_slot t s ≡ json_of_slot (logical_type t) s
-json-logical (types.extension n t m) s = json-extension n t m s ∙ json-logical t s
-json-logical t s = refl
-
-pub keyed-text : (t u : TypeTree) (s : Slot) → IsLogically (value_type t) u → json_of_slot u s ≡ json_of_slot t s
-keyed-text (types.dictionary k t b) u s h = json-logical u s ∙ ap (λ x. json_of_slot x s) h ∙ sym (json-logical t s) ∙ sym (json-dictionary k t b s)
-keyed-text (types.extension n t m) u s h = keyed-text t u s h ∙ sym (json-extension n t m s)
-keyed-text t u s h = absurd h
-
 -- the name of the selected field of a union
 pub name-shown : (fs : Seq Field) (k : ℕ) (d : Field) → k < length fs → field_name_at (field_list_of fs) k ≡ field_name (field_of (get_or fs k d))
 name-shown [] k d h = absurd (omega arith)
@@ -243,14 +212,6 @@ name-place a fs k h u e l =
 
 pub union-typed : (a : Layout) → TopFits a → IsUnionOf a → physical_type (layout_type a) ≡ physical.Union
 union-typed a h u = (union-facts (layout_type a) (types_of a) (children_of a) (union_offsets_of a) (start_of a) (subst TopFits u h)).typed
-
--- the value of a dictionary key
-pub keyed-shown : (a c : Layout) (i k : ℕ) → TopFits a → IsDictionaryOf a → is_null_at a i ≡ false → c ≡ child_of a → pos k ≡ key_at (keys_of a) i → slot_json c k ≡ slot_json a i
-keyed-shown a c i k h d v e p =
-    ap (λ b. slot_json b k) e
-    ∙ keyed-text (layout_type a) (layout_type (child_of a)) (slot (child_of a) k) (dictionary-facts (layout_type a) (keys_of a) (child_of a) (subst TopFits d h)).value_typed
-    ∙ ap (λ z. json_of_slot (layout_type a) (slot (child_of a) (to_index z))) p
-    ∙ sym (ap (json_of_slot (layout_type a)) (keyed-slot a i d v))
 
 -- the text of a window
 pub window-text : (c : Layout) (o n : ℕ) (w : WindowParts) → c ≡ w.array → o ≡ w.offset → n ≡ w.count → w.offset + w.count ≤ len w.array

@@ -5,7 +5,7 @@ use Rattle.std.proofs.lemmas.Bool.{false≢true}
 use Rattle.std.proofs.lemmas.Option.{same_Some}
 use Rattle.json_write.specs.Formats.{text_of_numbers, numbers_count}
 use Rattle.json_write.specs.declared.format.ValueFormat.{ValueFormat}
-use Rattle.json_write.specs.declared.format.ValueFormat.TheVariants.{Number, Decimal, Date, MillisecondDate, Time, Timestamp, Duration, Months, DaysMs, MonthDayNano}
+use Rattle.json_write.specs.declared.format.ValueFormat.TheVariants.{Number, Decimal, Date, MillisecondDate, Time, Timestamp, Duration, Months, DaysMs, MonthDayNano, Float}
 use Rattle.json_write.proofs.DecimalFacts.{decimal_injective}
 use Rattle.json_write.proofs.TimeFacts.{date_injective, millisecond_date_injective, time_injective, timestamp_injective, duration_injective, months_injective, days_ms_injective, month_day_nano_injective}
 use Rattle.json_write.specs.Times.{unit_digits, is_time_of_day, time_text}
@@ -37,6 +37,7 @@ some-if false s a e = absurd (no-text a e)
 
 pub one-text : (v : ValueFormat) (zs ys : List ℤ) (a : List ℕ) → text_of_numbers v zs ≡ Some a → text_of_numbers v ys ≡ Some a → zs ≡ ys
 one-text Number zs ys a e f = absurd (no-text a e)
+one-text (Float p) zs ys a e f = absurd (no-text a e)
 one-text (Decimal precision scale) (n ∷ []) (m ∷ []) a e f = one (decimal_injective scale n m (same-texts _ _ a e f))
 one-text Date (n ∷ []) (m ∷ []) a e f = one (date_injective n m (same-texts _ _ a e f))
 one-text MillisecondDate (n ∷ []) (m ∷ []) a e f = one (millisecond_date_injective n m (same-texts _ _ a e f))

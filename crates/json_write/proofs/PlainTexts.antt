@@ -1,6 +1,6 @@
 -- The text of native values needs no escapes: its bytes are digits, signs, the point, the colon and capital letters.
 use Rattle.std.specs.Prelude.{nat_lt, int_lt, unsigned_abs, ◌^◌, if◌then◌else◌, is_some, unwrap_or}
-use Rattle.std.proofs.Common.{◌≡◌, ℕ, zero, suc, ◌+◌, ◌/◌, ◌%◌, ◌≤◌, ◌==◌, ℤ, pos, Bool, true, false, List, [], ◌∷◌, ◌++◌, map, Option, Some, None, refl, sym, ap, ap₂, ◌∙◌, subst, arith}
+use Rattle.std.proofs.Common.{◌≡◌, ℕ, zero, suc, ◌+◌, ◌/◌, ◌%◌, ◌≤◌, ◌==◌, ℤ, pos, Bool, true, false, List, [], ◌∷◌, ◌++◌, map, Option, Some, None, refl, sym, ap, ap₂, subst, arith}
 use Rattle.std.proofs.lemmas.Bool.{false≢true}
 use Rattle.std.proofs.lemmas.Int.Digits.{all_below_base_digits_of}
 use Rattle.std.proofs.lemmas.Option.{same_Some}
@@ -10,13 +10,13 @@ use Rattle.std.specs.Int.Digits.{digits_of, AllBelowBase}
 use Rattle.json.specs.Print.{escape}
 use Rattle.json.proofs.Printed.Strings.{escape_byte_plain}
 use Rattle.json_write.specs.Formats.{text_of_numbers, text_in}
-use Rattle.json_write.specs.JsonText.{json_of_value, string_or_numbers}
+use Rattle.json_write.specs.JsonText.{json_of_numbers, json_of_value, string_or}
 use Rattle.json_write.specs.declared.format.ValueFormat.{ValueFormat}
-use Rattle.json_write.specs.declared.format.ValueFormat.TheVariants.{Number, Decimal, Date, MillisecondDate, Time, Timestamp, Duration, Months, DaysMs, MonthDayNano}
+use Rattle.json_write.specs.declared.format.ValueFormat.TheVariants.{Decimal, Date, MillisecondDate, Time, Timestamp, Duration, Months, DaysMs, MonthDayNano}
 use Rattle.json_write.specs.Calendar.{date_of}
 use Rattle.json_write.specs.Decimals.{decimal_text}
 use Rattle.json_write.specs.Digits.{digit, number_text, signed_integer_text, last_digits, at_least, fraction_text}
-use Rattle.json_write.specs.Times.{year_text, calendar_text, date_text, clock_text, is_time_of_day, time_text, zone_text, timestamp_text, millisecond_date_text, duration_text, months_text, days_text, days_ms_text, month_day_nano_text, unit_digits, whole_seconds, subseconds}
+use Rattle.json_write.specs.Times.{year_text, calendar_text, date_text, clock_text, is_time_of_day, time_text, zone_text, timestamp_text, millisecond_date_text, duration_text, months_text, days_text, month_day_nano_text, unit_digits, whole_seconds, subseconds}
 use Rattle.json_write.specs.declared.value_text.calendar.Date.{Date as CalendarDate}
 
 abbrev IsPlain : List ℕ → Type 0
@@ -153,9 +153,9 @@ plain-text MonthDayNano (months ∷ days ∷ ns ∷ []) bs e = subst IsPlain (sa
 plain-text v zs bs e = absurd (let none : None ≡ Some bs = e in cc)
 
 -- the quotes around the text make a JSON string
-quoted-option : (o : Option (List ℕ)) (zs : List ℤ) → ((bs : List ℕ) → o ≡ Some bs → IsPlain bs) → is_some o ≡ true → 34 ∷ (unwrap_or o [] ++ 34 ∷ []) ≡ string_or_numbers o zs
-quoted-option (Some bs) zs h e = ap (λ x. 34 ∷ (x ++ 34 ∷ [])) (sym (plain-escape bs (h bs refl)))
-quoted-option None zs h e = absurd (false≢true e)
+quoted-option : (o : Option (List ℕ)) (json : List ℕ) → ((bs : List ℕ) → o ≡ Some bs → IsPlain bs) → is_some o ≡ true → 34 ∷ (unwrap_or o [] ++ 34 ∷ []) ≡ string_or o json
+quoted-option (Some bs) json h e = ap (λ x. 34 ∷ (x ++ 34 ∷ [])) (sym (plain-escape bs (h bs refl)))
+quoted-option None json h e = absurd (false≢true e)
 
 pub quoted-text : (v : ValueFormat) (zs : List ℤ) → is_some (text_of_numbers v zs) ≡ true → 34 ∷ (text_in v zs ++ 34 ∷ []) ≡ json_of_value v zs
-quoted-text v zs e = quoted-option (text_of_numbers v zs) zs (plain-text v zs) e
+quoted-text v zs e = quoted-option (text_of_numbers v zs) (json_of_numbers v zs) (plain-text v zs) e

@@ -1,4 +1,4 @@
--- Slots as JSON (RFC 8259). A boolean is a literal and an integer a number. UTF-8 is a string with the shortest escapes, and binary data
+-- Slots as JSON (RFC 8259). A boolean is a literal, and an integer or a finite floating-point number a number. UTF-8 is a string with the shortest escapes, and binary data
 -- a string of hexadecimal digits. A decimal, a date, a time, a timestamp, a duration and an interval are strings too. A list is an array,
 -- a struct an object of its fields, and a union an object of the selected field. Another native value of several numbers is an array of
 -- them. Names come from the data type.
@@ -15,8 +15,10 @@ use Rattle.nest_model.specs.Layout.{Layout, Layouts, layout_type}
 use Rattle.nest_model.specs.Meaning.{each, run, slot, slots_of}
 use Rattle.nest_model.specs.Slot as slots
 use Rattle.nest_model.specs.Slot.{Slot, Slots, no_slots, more_slots, seal}
+use Rattle.json_write.specs.Floats.{json_of_float}
 use Rattle.json_write.specs.Formats.{format_of_type, text_of_numbers}
 use Rattle.json_write.specs.declared.format.ValueFormat.{ValueFormat}
+use Rattle.json_write.specs.declared.format.ValueFormat.TheVariants.{Float}
 
 -- the data type of a list's items; for a dictionary that of its values, for an extension that of its storage
 abbrev pub items_type : TypeTree → TypeTree
@@ -60,13 +62,23 @@ abbrev pub json_of_number : List ℤ → List ℕ
 json_of_number (z ∷ []) = signed_decimal z
 json_of_number zs = 91 ∷ (join_with_byte 44 (map signed_decimal zs) ++ 93 ∷ [])
 
--- the string of a text, or the numbers of a value that has none
-abbrev pub string_or_numbers : Option (List ℕ) → List ℤ → List ℕ
-string_or_numbers (Some text) zs = quoted text
-string_or_numbers None zs = json_of_number zs
+-- a value without a text
+abbrev pub json_of_numbers : ValueFormat → List ℤ → List ℕ
+json_of_numbers (Float precision) (z ∷ []) = json_of_float precision z
+json_of_numbers v zs = json_of_number zs
+
+-- the string of a text, or other JSON where there is none
+abbrev pub string_or : Option (List ℕ) → List ℕ → List ℕ
+string_or (Some text) json = quoted text
+string_or None json = json
 
 abbrev pub json_of_value : ValueFormat → List ℤ → List ℕ
-json_of_value v zs = string_or_numbers (text_of_numbers v zs) zs
+json_of_value v zs = string_or (text_of_numbers v zs) (json_of_numbers v zs)
+
+-- a slot of a native type in a format
+abbrev pub json_of_native : ValueFormat → Slot → List ℕ
+json_of_native v (slots.number zs) = json_of_value v zs
+json_of_native v s = codes "null"
 
 -- the separator before an item or a member that follows another
 abbrev pub comma : Bool → List ℕ

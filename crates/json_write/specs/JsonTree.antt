@@ -1,5 +1,5 @@
 -- The JSON value of a slot, by the kit's grammar of RFC 8259: the JSON text prints its tokens.
-use Rattle.std.specs.Prelude.{◌≡◌, ℕ, ℤ, Bool, true, false, cond, List, [], ◌∷◌, ◌++◌, map, flat_map, Option, Some, None}
+use Rattle.std.specs.Prelude.{◌≡◌, ℕ, ℤ, Bool, true, false, cond, if◌then◌else◌, List, [], ◌∷◌, ◌++◌, map, flat_map, Option, Some, None}
 use Rattle.std.specs.Fmt.{signed_decimal}
 use Rattle.std.specs.List.{join_with_byte}
 use Rattle.std.proofs.Common.{refl, sym, ap, ◌∙◌, append_assoc, append-nil}
@@ -13,9 +13,12 @@ use Rattle.nest_memory.specs.TypeTree.{TypeTree, FieldTrees, no_fields, more_fie
 use Rattle.nest_model.specs.Layout.{layout_type}
 use Rattle.nest_model.specs.Slot as slots
 use Rattle.nest_model.specs.Slot.{Slot, Slots, no_slots, more_slots, seal}
+use Rattle.float_text.specs.Text.{float_text, is_finite}
+use Rattle.json_write.specs.Floats.{float_bits, float_format, tree_of_float}
 use Rattle.json_write.specs.Formats.{format_of_type, text_of_numbers}
 use Rattle.json_write.specs.declared.format.ValueFormat.{ValueFormat}
-use Rattle.json_write.specs.JsonText.{items_type, members_of, field_name, field_name_at, hex_byte, json_of_number, string_or_numbers, comma, json_of_slot, json_items, json_members, json_of_window}
+use Rattle.json_write.specs.declared.format.ValueFormat.TheVariants.{Float}
+use Rattle.json_write.specs.JsonText.{items_type, members_of, field_name, field_name_at, hex_byte, json_of_number, json_of_numbers, string_or, comma, json_of_slot, json_items, json_members, json_of_window}
 
 abbrev number_items : List ℤ → Items
 number_items [] = no_items
@@ -25,12 +28,16 @@ abbrev pub tree_of_number : List ℤ → Json
 tree_of_number (z ∷ []) = json.number (signed_decimal z)
 tree_of_number zs = json.array (number_items zs)
 
-abbrev pub tree_of_text : Option (List ℕ) → List ℤ → Json
-tree_of_text (Some text) zs = json.string text
-tree_of_text None zs = tree_of_number zs
+abbrev pub tree_of_numbers : ValueFormat → List ℤ → Json
+tree_of_numbers (Float precision) (z ∷ []) = tree_of_float precision z
+tree_of_numbers v zs = tree_of_number zs
+
+abbrev pub tree_of_text : Option (List ℕ) → Json → Json
+tree_of_text (Some text) j = json.string text
+tree_of_text None j = j
 
 abbrev pub tree_of_value : ValueFormat → List ℤ → Json
-tree_of_value v zs = tree_of_text (text_of_numbers v zs) zs
+tree_of_value v zs = tree_of_text (text_of_numbers v zs) (tree_of_numbers v zs)
 
 abbrev mutual
   pub tree_of_slot : TypeTree → Slot → Json
@@ -93,16 +100,26 @@ number-printed (z ∷ y ∷ ys) after rest =
     ∙ ap (λ x. comma after ++ 91 ∷ x) (numbers-printed z (y ∷ ys) false rest)
     ∙ ap (λ x. comma after ++ x) (around (91 ∷ []) (93 ∷ []) (join_with_byte 44 (map signed_decimal (z ∷ y ∷ ys))) (print_from true rest))
 
-text-printed : (text : Option (List ℕ)) (zs : List ℤ) (after : Bool) (rest : List Token) → print_from after (json_tokens (tree_of_text text zs) ++ rest) ≡ comma after ++ (string_or_numbers text zs ++ print_from true rest)
-text-printed (Some text) zs after rest = one-token (Token.string text) after rest refl
-text-printed None zs after rest = number-printed zs after rest
+bits-printed : (b : Bool) (text : List ℕ) (after : Bool) (rest : List Token) → print_from after (json_tokens (if b then json.number text else json.string text) ++ rest) ≡ comma after ++ ((if b then text else quoted text) ++ print_from true rest)
+bits-printed true text after rest = one-token (Token.number text) after rest refl
+bits-printed false text after rest = one-token (Token.string text) after rest refl
+
+-- a value without a text
+plain-printed : (v : ValueFormat) (zs : List ℤ) (after : Bool) (rest : List Token) → print_from after (json_tokens (tree_of_numbers v zs) ++ rest) ≡ comma after ++ (json_of_numbers v zs ++ print_from true rest)
+plain-printed (Float p) (z ∷ []) after rest = bits-printed (is_finite (float_format p) (float_bits p z)) (float_text (float_format p) (float_bits p z)) after rest
+plain-printed v zs after rest = number-printed zs after rest
+
+text-printed : (text : Option (List ℕ)) (v : ValueFormat) (zs : List ℤ) (after : Bool) (rest : List Token)
+    → print_from after (json_tokens (tree_of_text text (tree_of_numbers v zs)) ++ rest) ≡ comma after ++ (string_or text (json_of_numbers v zs) ++ print_from true rest)
+text-printed (Some text) v zs after rest = one-token (Token.string text) after rest refl
+text-printed None v zs after rest = plain-printed v zs after rest
 
 mutual
   pub slot-printed : (t : TypeTree) (s : Slot) (after : Bool) (rest : List Token) → print_from after (json_tokens (tree_of_slot t s) ++ rest) ≡ comma after ++ (json_of_slot t s ++ print_from true rest)
   slot-printed t slots.null after rest = one-token Token.null after rest refl
   slot-printed t (slots.boolean true) after rest = one-token (Token.boolean true) after rest refl
   slot-printed t (slots.boolean false) after rest = one-token (Token.boolean false) after rest refl
-  slot-printed t (slots.number zs) after rest = text-printed (text_of_numbers (format_of_type t) zs) zs after rest
+  slot-printed t (slots.number zs) after rest = text-printed (text_of_numbers (format_of_type t) zs) (format_of_type t) zs after rest
   slot-printed t (slots.utf8 bs) after rest = one-token (Token.string bs) after rest refl
   slot-printed t (slots.bytes bs) after rest = one-token (Token.string (flat_map hex_byte bs)) after rest refl
   slot-printed t (slots.list ss) after rest =

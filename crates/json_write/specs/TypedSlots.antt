@@ -1,16 +1,23 @@
 -- The slots of a data type, and the data types whose slots are determined by their JSON text.
-use Rattle.std.specs.Prelude.{◌≡◌, ◌≢◌, ℕ, zero, suc, ◌^◌, ◌<◌, ℤ, true, List, [], ◌∷◌, Option, Some, None, refl}
+use Rattle.std.specs.Prelude.{◌≡◌, ◌≢◌, ℕ, zero, suc, ◌*◌, ◌^◌, ◌<◌, ℤ, pos, negsuc, true, from_bits, List, [], ◌∷◌, Option, Some, None, refl}
+use Rattle.std.specs.Float.Ieee.{Format, binary32, binary64, nan, top}
 use Rattle.std.specs.Int.Signed.{mag}
+use Rattle.float_text.specs.Half.{half_value}
 use Rattle.nest_array.specs.SeenScalar.{shown_type}
 use Rattle.nest_memory.specs.Physical.{physical_type}
 use Rattle.nest_memory.specs.TypeTree as types
 use Rattle.nest_memory.specs.TypeTree.{Letters, TypeTree, FieldTree, field, FieldTrees, no_fields, more_fields, field_type}
+use Rattle.nest_memory.specs.declared.datatypes.floats.Precision.{Precision}
+use Rattle.nest_memory.specs.declared.datatypes.floats.Precision.TheVariants.{Half, Single, Double}
 use Rattle.nest_memory.specs.declared.datatypes.physical_type.PhysicalType.{PhysicalType}
 use Rattle.nest_memory.specs.declared.datatypes.physical_type.PhysicalType.TheVariants as physical
 use Rattle.nest_memory.specs.declared.datatypes.UnionMode.TheVariants.{Sparse}
 use Rattle.nest_model.specs.Slot as slots
 use Rattle.nest_model.specs.Slot.{Slot, Slots, no_slots, more_slots}
+use Rattle.json_write.specs.Formats.{format_of_type}
 use Rattle.json_write.specs.JsonText.{items_type, members_of, field_name, json_of_slot}
+use Rattle.json_write.specs.declared.format.ValueFormat.{ValueFormat}
+use Rattle.json_write.specs.declared.format.ValueFormat.TheVariants.{Float}
 
 -- the kind of the non-null slots of a data type
 pub data SlotKind : Type 0 where
@@ -92,6 +99,52 @@ abbrev mutual
   pub FitIn128Bits : Slots → Type 0
   FitIn128Bits no_slots = Unit {0}
   FitIn128Bits (more_slots s ss) = FitsIn128Bits s × FitIn128Bits ss
+
+-- the native values of a slot, at any depth, pass a test
+abbrev mutual
+  pub EachNumber : (ValueFormat → List ℤ → Type 0) → TypeTree → Slot → Type 0
+  EachNumber P t slots.null = Unit {0}
+  EachNumber P t (slots.boolean b) = Unit {0}
+  EachNumber P t (slots.number zs) = P (format_of_type t) zs
+  EachNumber P t (slots.utf8 bs) = Unit {0}
+  EachNumber P t (slots.bytes bs) = Unit {0}
+  EachNumber P t (slots.list ss) = EachItemNumber P (items_type t) ss
+  EachNumber P t (slots.record_of ss) = EachMemberNumber P (members_of t) ss
+  EachNumber P t (slots.pick f u s) = EachNumber P u s
+
+  pub EachItemNumber : (ValueFormat → List ℤ → Type 0) → TypeTree → Slots → Type 0
+  EachItemNumber P t no_slots = Unit {0}
+  EachItemNumber P t (more_slots s ss) = EachNumber P t s × EachItemNumber P t ss
+
+  pub EachMemberNumber : (ValueFormat → List ℤ → Type 0) → FieldTrees → Slots → Type 0
+  EachMemberNumber P fs no_slots = Unit {0}
+  EachMemberNumber P no_fields (more_slots s ss) = Unit {0}
+  EachMemberNumber P (more_fields f fs) (more_slots s ss) = EachNumber P (field_type f) s × EachMemberNumber P fs ss
+
+-- the bits of a floating-point number that is not NaN
+abbrev pub IsBitsIn : Format → ℕ → Type 0
+IsBitsIn f bits = (bits < 2 * top f) × (from_bits f bits ≢ nan)
+
+abbrev pub IsFloat : Precision → ℤ → Type 0
+IsFloat Half (pos bits) = (bits < 65_536) × (half_value bits ≢ nan)
+IsFloat Single (pos bits) = IsBitsIn binary32 bits
+IsFloat Double (pos bits) = IsBitsIn binary64 bits
+IsFloat p (negsuc n) = ⊥
+
+abbrev pub IsNotNan : ValueFormat → List ℤ → Type 0
+IsNotNan (Float p) (z ∷ []) = IsFloat p z
+IsNotNan v zs = Unit {0}
+
+-- no floating-point number of the slot is NaN, whose text is the same for all payloads
+abbrev pub LacksNan : TypeTree → Slot → Type 0
+LacksNan t s = EachNumber IsNotNan t s
+
+-- a slot of the data type that no other slot shares its text with
+abbrev pub HasOwnText : TypeTree → Slot → Type 0
+HasOwnText t s = IsSlotOf t s × FitsIn128Bits s × LacksNan t s
+
+abbrev pub LackNan : TypeTree → Slots → Type 0
+LackNan t ss = EachItemNumber IsNotNan t ss
 
 -- no field has this name
 abbrev pub LacksField : Letters → FieldTrees → Type 0

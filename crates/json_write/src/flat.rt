@@ -1,13 +1,13 @@
 //! Slots of arrays without child arrays.
-ghost use Rattle.std.specs.Prelude.{◌≡◌, ◌+◌, ◌≤◌, ◌<◌, [], ◌∷◌, false, map};
+ghost use Rattle.std.specs.Prelude.{◌≡◌, ◌+◌, ◌≤◌, ◌<◌, [], ◌∷◌, false, map, true};
 ghost use Rattle.std.specs.Fmt.{WritesOnOk};
 ghost use Rattle.nest_flat.specs.AnyNative.{native_numbers};
-ghost use Rattle.nest_flat.specs.AnyPrimitive.{primitive_layout};
+ghost use Rattle.nest_flat.specs.AnyPrimitive.{primitive_kind, primitive_layout};
 ghost use Rattle.nest_model.specs.Accessors.{natives_of};
 ghost use Rattle.nest_model.specs.Layout.{layout_type};
 ghost use Rattle.nest_model.specs.Meaning.{len, slot};
-ghost use Rattle.json_write.specs.Formats.{format_of_type};
-ghost use Rattle.json_write.specs.JsonText.{json_of_number, slot_json, slots_json};
+ghost use Rattle.json_write.specs.Formats.{format_of_type, has_format};
+ghost use Rattle.json_write.specs.JsonText.{json_of_native, json_of_number, slot_json, slots_json};
 
 use crate::format::ValueFormat;
 use crate::native::write_native;
@@ -117,10 +117,24 @@ pub(crate) fn write_any_primitive<W: fmt::Write>(
     ensures { WritesOnOk W.write_str_gives f.old result (slot_json (primitive_layout array.now) i) f.new }
 {
     array.known();
+    write_any_primitive_as(f, array, ValueFormat::of_type(array.data_type()), i)
+}
+
+/// Writes slot `i` in a format, which may be that of a dictionary with these values.
+pub(crate) fn write_any_primitive_as<W: fmt::Write>(
+    f: &mut Formatter<W>,
+    array: &AnyPrimitive,
+    format: ValueFormat,
+    i: usize,
+) -> fmt::Result
+    requires within { i < len (primitive_layout array.now) }
+    requires format { has_format (primitive_kind array.now) format ≡ true }
+    ensures { WritesOnOk W.write_str_gives f.old result (json_of_native format (slot (primitive_layout array.now) i)) f.new }
+{
+    array.known();
     if array.is_null(i) {
         return f.write_str("null");
     }
-    let format = ValueFormat::of_type(array.data_type());
     write_native(f, format, array.value(i))
 }
 

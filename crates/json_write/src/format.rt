@@ -3,6 +3,7 @@ ghost use Rattle.std.specs.Prelude.{◌≡◌};
 ghost use Rattle.nest_memory.specs.TypeOf.{type_of};
 ghost use Rattle.json_write.specs.Formats.{format_of_type};
 
+use nest_memory::datatypes::floats::{Precision, precision_of};
 use nest_memory::datatypes::{DataType, IntervalUnit, TimeUnit};
 
 /// How the native values of an array are written.
@@ -28,11 +29,13 @@ pub enum ValueFormat {
     DaysMs,
     /// As an ISO 8601 duration in months, days and seconds.
     MonthDayNano,
+    /// As the floating-point number that has these bits.
+    Float(Precision),
 }
 
 impl ValueFormat {
-    /// Returns the format of the native values of a data type: for a dictionary that of its values, for an extension that of its
-    /// storage.
+    /// Returns the format of the native values of a data type: for a dictionary that of its values, for an extension that is not a
+    /// floating-point type that of its storage.
     pub fn of_type(data_type: &DataType) -> ValueFormat
         ensures { result ≡ format_of_type (type_of data_type.now) }
     {
@@ -47,7 +50,10 @@ impl ValueFormat {
             DataType::Interval(IntervalUnit::DayTime) => ValueFormat::DaysMs,
             DataType::Interval(IntervalUnit::MonthDayNano) => ValueFormat::MonthDayNano,
             DataType::Dictionary(_, values, _) => ValueFormat::of_type(values),
-            DataType::Extension(_, inner, _) => ValueFormat::of_type(inner),
+            DataType::Extension(_, inner, _) => match precision_of(data_type) {
+                Some(precision) => ValueFormat::Float(precision),
+                None => ValueFormat::of_type(inner),
+            },
             _ => ValueFormat::Number,
         }
     }

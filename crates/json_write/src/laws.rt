@@ -11,7 +11,7 @@ ghost use Rattle.nest_model.specs.Layout.{layout_type};
 ghost use Rattle.nest_model.specs.Slot.{Slot, seal};
 ghost use Rattle.json_write.specs.TextLaws.{TextDeterminesSlots};
 ghost use Rattle.json_write.specs.JsonText.{json_of_slot, json_of_window};
-ghost use Rattle.json_write.specs.TypedSlots.{HasDistinctUnionNames, IsSlotOf, AreItems, FitsIn128Bits};
+ghost use Rattle.json_write.specs.TypedSlots.{AreItems, HasDistinctUnionNames, HasOwnText};
 ghost use Rattle.json_write.specs.JsonTree.{tree_of_window};
 
 use nest_array::Window;
@@ -30,9 +30,10 @@ pub fn slots_are_comma_separated(window: &Window)
 {}
 
 /// Two slots of one data type are equal if their text is equal. The fields of each union must have distinct names, since a union slot is
-/// written with the name of its field alone. Integers must fit in 128 bits, as those of all native values do.
+/// written with the name of its field alone. Integers must fit in 128 bits, as those of all native values do, and no floating-point number
+/// may be NaN, whose text lacks the payload.
 pub fn equal_texts_have_equal_slots()
-    ensures { (t : TypeTree) (s z : Slot) → HasDistinctUnionNames t → IsSlotOf t s → IsSlotOf t z → FitsIn128Bits s → FitsIn128Bits z → json_of_slot t s ≡ json_of_slot t z → s ≡ z }
+    ensures { (t : TypeTree) (s z : Slot) → HasDistinctUnionNames t → HasOwnText t s → HasOwnText t z → json_of_slot t s ≡ json_of_slot t z → s ≡ z }
 {}
 
 /// The slots of a window over a valid array are slots of its data type.

@@ -5,6 +5,7 @@
 
 pub mod display;
 mod flat;
+mod floats;
 pub mod format;
 pub mod laws;
 mod native;

@@ -7,6 +7,7 @@ ghost use Rattle.json_write.specs.Formats.{has_format, text_in, text_of_numbers}
 ghost use Rattle.json_write.specs.JsonText.{json_of_value};
 
 use crate::flat::write_number;
+use crate::floats::write_float_value;
 use crate::format::ValueFormat;
 use crate::value_text::{
     is_time, write_date, write_days_ms, write_decimal, write_duration, write_millisecond_date,
@@ -16,7 +17,7 @@ use nest_flat::any_native::AnyNative;
 use std::fmt;
 use std::fmt::Formatter;
 
-/// Writes a value: as a JSON string, or as numbers.
+/// Writes a value: as a JSON string, as a floating-point number, or as integers.
 #[inline(always)]
 pub(crate) fn write_native<W: fmt::Write>(
     f: &mut Formatter<W>,
@@ -27,20 +28,22 @@ pub(crate) fn write_native<W: fmt::Write>(
     ensures { WritesOnOk W.write_str_gives f.old result (json_of_value format (native_numbers value)) f.new }
 {
     if is_string(format, value) {
-        write_quoted_text(f, format, value)
-    } else {
-        write_number(f, value)
+        return write_quoted_text(f, format, value);
+    }
+    match format {
+        ValueFormat::Float(_) => write_float_value(f, value),
+        _ => write_number(f, value),
     }
 }
 
-/// Returns whether a value is written as a string.
+/// Returns whether a value has a text, which is written as a string.
 #[inline(always)]
 fn is_string(format: ValueFormat, value: AnyNative) -> bool
     requires { has_format (native_kind value) format ≡ true }
     ensures { result ≡ is_some (text_of_numbers format (native_numbers value)) }
 {
     match format {
-        ValueFormat::Number => false,
+        ValueFormat::Number | ValueFormat::Float(_) => false,
         ValueFormat::Time(unit) => match value {
             AnyNative::Int32(n) => is_time(unit, i64::from(n)),
             AnyNative::Int64(n) => is_time(unit, n),

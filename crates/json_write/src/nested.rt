@@ -9,9 +9,10 @@ ghost use Rattle.nest_model.specs.Meaning.{each, len, run, slot};
 ghost use Rattle.json_write.specs.JsonText.{field_name, json_list, json_members, slot_json, slots_json};
 
 use crate::flat::{
-    write_any_primitive, write_any_primitive_items, write_binary, write_boolean,
-    write_fixed_size_binary, write_string,
+    write_any_primitive, write_any_primitive_as, write_any_primitive_items, write_binary,
+    write_boolean, write_fixed_size_binary, write_string,
 };
+use crate::format::ValueFormat;
 use crate::quoting::{write_comma, write_quoted};
 use nest_array::{
     AnyArray, DictionaryArray, FixedSizeListArray, LargeListArray, ListArray, MapArray,
@@ -251,6 +252,7 @@ pub(crate) fn write_union<W: fmt::Write>(
     f.write_str("}")
 }
 
+// Native values are written in the format of the dictionary's data type: the array of values may lack its extension types.
 #[cycle(show)]
 pub(crate) fn write_dictionary<W: fmt::Write>(
     f: &mut Formatter<W>,
@@ -264,5 +266,14 @@ pub(crate) fn write_dictionary<W: fmt::Write>(
     if array.is_null(i) {
         return f.write_str("null");
     }
-    write_slot(f, array.values(), array.key_value(i))
+    let values = array.values();
+    let key = array.key_value(i);
+    match values.as_any_primitive() {
+        Some(natives) => {
+            natives.known();
+            let format = ValueFormat::of_type(array.data_type());
+            write_any_primitive_as(f, natives, format, key)
+        }
+        None => write_slot(f, values, key),
+    }
 }

@@ -4,6 +4,7 @@ use Rattle.json.specs.Print.{quoted}
 use Rattle.nest_array.specs.Seen.{layout_of, layouts_of}
 use Rattle.nest_array.specs.WindowParts.{WindowParts}
 use Rattle.nest_array.proofs.Children.{layouts-count}
+use Rattle.nest_array.proofs.Keyed.{keyed-place}
 use Rattle.nest_array.proofs.Picks.{child-there, child-lighter}
 use Rattle.nest_array.proofs.SameRows.{struct-known, children-cover, record-shown}
 use Rattle.nest_memory.specs.TypeOf.{field_of, field_list_of}
@@ -12,10 +13,15 @@ use Rattle.nest_model.specs.Accessors.{children_of}
 use Rattle.nest_model.specs.Fits.{EachCovers, EachType}
 use Rattle.nest_model.specs.Layout.{layout_type, count_layouts, weight, weight_all}
 use Rattle.nest_model.specs.Meaning.{each, len, run, slot}
+use Rattle.nest_model.specs.Part.{to_index}
 use Rattle.nest_model.specs.Slot as slots
 use Rattle.nest_model.specs.Slot.{seal}
-use Rattle.json_write.specs.JsonText.{comma, field_name, json_items, json_members, field_name_at, slot_json}
-use Rattle.json_write.proofs.Nesting.{items-next, row-text, list-row, map-row, fixed-row, record-text, first-member, member-text, members-none, keyed-shown, name-place, name-shown, pick-text, union-typed}
+use Rattle.nest_flat.specs.AnyPrimitive.{primitive_kind, primitive_layout}
+use Rattle.json_write.specs.Formats.{format_of_type, has_format}
+use Rattle.json_write.specs.JsonText.{comma, field_name, json_items, json_members, json_of_native, field_name_at, slot_json}
+use Rattle.json_write.proofs.KeyedText.{keyed-kind, keyed-shown, native-shown-keyed}
+use Rattle.json_write.proofs.TypeFormats.{shown-format-fits}
+use Rattle.json_write.proofs.Nesting.{items-next, row-text, list-row, map-row, fixed-row, record-text, first-member, member-text, members-none, name-place, name-shown, pick-text, union-typed}
 use Rattle.json_write.proofs.nested.+show.Goals as goal
 
 pub write_each_item-loop-k-init : goal.write_each_item-loop-k-init
@@ -175,11 +181,38 @@ write_struct-returns g t c plain ok =
     has_written_of_eq _ _ _ _ _ (record-text (layout_type a) _ _ _ x.typed c.fields.ensures (record-shown a cs c.args.i _ c.known.ensures.kind c.values.ensures c.is_null.ensures.place c.if-is_null.false))
     (has_written_append _ _ _ _ _ _ (has_written_append _ _ _ _ _ _ one two) three)
 
-pub write_dictionary-returns : goal.write_dictionary-returns
-write_dictionary-returns g t c plain ok =
+pub write_dictionary-write_any_primitive_as-requires : goal.write_dictionary-write_any_primitive_as-requires
+write_dictionary-write_any_primitive_as-requires g t c =
     let a = c.args.array.now in
     let valid = sym c.is_null.ensures.place ∙ c.if-is_null.false in
-    has_written_of_eq _ _ _ _ _ (keyed-shown a _ c.args.i _ c.known.ensures.fits c.known.ensures.kind valid c.values.ensures c.key_value.ensures.key) (c.write_slot.ensures plain ok)
+    let like = c.in-Some.ensures.1 ∙ c.values-values.ensures in
+    let at = keyed-place a c.args.i c.known.ensures.fits c.known.ensures.kind c.requires valid in
+    let e = ap to_index c.key_value-key.ensures.key in
+    let u = ap len like in
+    let kind = primitive_kind c.in-Some.natives.now in
+    let typed = shown-format-fits (layout_type a) kind (keyed-kind a (primitive_layout c.in-Some.natives.now) kind c.known.ensures.fits c.known.ensures.kind like c.known-in-Some.ensures.kind) in
+    record {
+      within = omega (arith, at, e, u);
+      format = subst (λ v. has_format kind v ≡ true) (ap format_of_type (sym c.data_type.ensures) ∙ sym c.of_type-format.ensures) typed;
+    }
+
+pub write_dictionary-returns-in-Some : goal.write_dictionary-returns-in-Some
+write_dictionary-returns-in-Some g t c plain ok =
+    let a = c.args.array.now in
+    let b = primitive_layout c.in-Some.natives.now in
+    let k = c.key_value-key.result in
+    let valid = sym c.is_null.ensures.place ∙ c.if-is_null.false in
+    let like = c.in-Some.ensures.1 ∙ c.values-values.ensures in
+    has_written_of_eq _ _ _ _ _
+    (ap (λ v. json_of_native v (slot b k)) (c.of_type-format.ensures ∙ ap format_of_type c.data_type.ensures)
+    ∙ native-shown-keyed a b c.args.i k _ c.known-in-Some.ensures.parts c.known.ensures.kind valid like c.key_value-key.ensures.key)
+    (c.write_any_primitive_as.ensures plain ok)
+
+pub write_dictionary-returns-in-None : goal.write_dictionary-returns-in-None
+write_dictionary-returns-in-None g t c plain ok =
+    let a = c.args.array.now in
+    let valid = sym c.is_null.ensures.place ∙ c.if-is_null.false in
+    has_written_of_eq _ _ _ _ _ (keyed-shown a _ c.args.i _ c.known.ensures.fits c.known.ensures.kind valid c.values-values.ensures c.in-None.ensures c.key_value-key.ensures.key) (c.write_slot.ensures plain ok)
 
 pub write_union-bounds-fields-k : goal.write_union-bounds-fields-k
 write_union-bounds-fields-k g t c =
