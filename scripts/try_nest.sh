@@ -388,12 +388,20 @@ for out in "$room/made" "$room/made.arrows"; do
 done
 "$program" rows "$room/made" | "$program" from-json "$rows" - - | cmp -s - "$room/made" || { echo 'nest from-json: its own lines'; failed=1; }
 printf '{"a":1}\n{"a":2147483648}\n' >"$room/past"
-expect 2 '' "nest: $room/past: line 2: integer out of range" from-json "$rows" "$room/past" "$room/as"
+expect 2 '' "nest: $room/past: line 2: number out of range" from-json "$rows" "$room/past" "$room/as"
 printf '{"a":1}\n\n' >"$room/past"
 expect 2 '' "nest: $room/past: line 2: invalid JSON" from-json "$rows" "$room/past" "$room/as"
 printf '{"d":1}' >"$room/past"
 expect 2 '' "nest: $room/past: line 1: unknown field" from-json "$rows" "$room/past" "$room/as"
-expect 2 '' "nest: struct<a: double>: cannot be read from JSON: floating-point type" from-json 'struct<a: double>' "$room/lines" "$room/as"
+expect 2 '' "nest: struct<a: halffloat>: cannot be read from JSON: floating-point type" from-json 'struct<a: halffloat>' "$room/lines" "$room/as"
+# Floats: the shortest decimals, and the names of the others; one past the largest.
+printf '{"x":0.1,"y":[1.5,null]}\n{"x":1e23,"y":[16777217]}\n{"x":"NaN","y":["-Infinity"]}\n{"x":-0.0,"y":null}\n' >"$room/floats.json"
+expect 0 '' '' from-json 'struct<x: double, y: list<item: float>>' "$room/floats.json" "$room/floats"
+expect 0 '{"x":0.1,"y":[1.5,null]}\n{"x":1e23,"y":[16777216.0]}\n{"x":"NaN","y":["-Infinity"]}\n{"x":-0.0,"y":null}\n' '' rows "$room/floats"
+expect 0 'x: double\ny: list<item: float>\n' '' schema "$room/floats"
+expect 0 '' '' equal "$room/floats" "$room/floats"
+printf '{"x":1e309}\n' >"$room/past"
+expect 2 '' "nest: $room/past: line 1: number out of range" from-json 'struct<x: double>' "$room/past" "$room/as"
 expect 2 '' "nest: $room/none: no such file" from-json "$rows" "$room/none" "$room/as"
 expect 2 '' "nest: $room/none/as: output cannot be written: no such directory" from-json "$rows" "$room/lines" "$room/none/as"
 expect 2 '' 'nest: int8: the type of a row is a struct' from-json int8 "$room/lines" "$room/as"
@@ -414,6 +422,7 @@ cp "$room/shorter" "$pages/shorter.arrows"
 cp "$room/negative" "$pages/invalid.arrows"
 cp "$room/packed" "$pages/packed.arrows"
 cp "$room/lines" "$pages/rows.json"
+printf '{"x":0.1}\n{"x":1e23}\n{"x":"NaN"}\n' >"$pages/floats.json"
 printf '{"a":1}\n{"a":2147483648}\n' >"$pages/invalid.json"
 python3 scripts/check_quotes.py --run "$program" "$pages" || failed=1
 exit $failed

@@ -26,9 +26,9 @@ use Rattle.std.specs.Str.{bytes_eq}
 use Rattle.json_read.specs.EmptyBuilders.{AreEmptyOf, HoldsEmpty, IsEmptyOf, is_float}
 use Rattle.nest_any.specs.Refusals.{AreFlat, IsOfLists, count_builders, empty_lists, first_rows, is_flat, struct_checks}
 use Rattle.json_read.specs.JsonSlots.{is_named}
-use Rattle.json_read.specs.UnsupportedTypes.{unsupported_field, unsupported_fields, has_duplicate_names, spec_is_variable_size_binary, unsupported_type, first_unsupported, unsupported_if}
+use Rattle.json_read.specs.UnsupportedTypes.{unsupported_field, unsupported_fields, has_duplicate_names, spec_is_half, spec_is_variable_size_binary, unsupported_type, first_unsupported, unsupported_if}
 use Rattle.json_read.specs.declared.error.UnsupportedTypeError.{UnsupportedTypeError}
-use Rattle.json_read.specs.declared.error.UnsupportedTypeError.TheVariants.{VariableSizeExtension, DictionaryValues, EmptyStruct, DuplicateFieldNames, ZeroSize}
+use Rattle.json_read.specs.declared.error.UnsupportedTypeError.TheVariants.{FloatingPoint, VariableSizeExtension, DictionaryValues, EmptyStruct, DuplicateFieldNames, ZeroSize}
 
 -- what a reason that is none says of its test, and of the others
 pub unless-then : (b : Bool) (e : UnsupportedTypeError) (rest : Option UnsupportedTypeError) → unsupported_if b e rest ≡ None → (b ≡ false) × (rest ≡ None)
@@ -39,6 +39,12 @@ pub first-then : (a b : Option UnsupportedTypeError) → first_unsupported a b �
 first-then None b h = (refl, h)
 first-then (Some e) b h = cc
 
+-- the storage of an extension type can be read
+storage-read : (x : Letters) (t : TypeTree) (m : Option Letters) → unsupported_type (types.extension x t m) ≡ None → (spec_is_variable_size_binary (physical_type t) ≡ false) × (unsupported_type t ≡ None)
+storage-read x t m h =
+    let binary = unsupported_if (spec_is_variable_size_binary (physical_type t)) VariableSizeExtension (unsupported_type t) in
+    unless-then (spec_is_variable_size_binary (physical_type t)) VariableSizeExtension (unsupported_type t) (unless-then (spec_is_half (types.extension x t m)) FloatingPoint binary h).1
+
 -- ---- without children
 
 pub flat-empty : (t : TypeTree) (a : Layout) → layout_type a ≡ t → slots_of a ≡ [] → IsEmptyOf t (builders.flat (layout_type a) (slots_of a))
@@ -47,20 +53,22 @@ flat-empty t a same none = record { complete = tt; no_slot = none; no_row = ap l
 pub text-is : (large : Bool) (t : TypeTree) → physical_type t ≡ utf8_of_width large → unsupported_type t ≡ None → t ≡ (if large then types.large_utf8 else types.utf8)
 text-is false types.utf8 h f = refl
 text-is true types.large_utf8 h f = refl
-text-is false (types.extension x t m) h f = cc
-text-is true (types.extension x t m) h f = cc
+text-is false (types.extension x t m) h f = let b = storage-read x t m f in cc
+text-is true (types.extension x t m) h f = let b = storage-read x t m f in cc
 text-is false t h f = cc
 text-is true t h f = cc
 
 pub binary-is : (large : Bool) (t : TypeTree) → physical_type t ≡ binary_of_width large → unsupported_type t ≡ None → t ≡ (if large then types.large_binary else types.binary)
 binary-is false types.binary h f = refl
 binary-is true types.large_binary h f = refl
+binary-is false (types.extension x t m) h f = let b = storage-read x t m f in cc
+binary-is true (types.extension x t m) h f = let b = storage-read x t m f in cc
 binary-is false t h f = cc
 binary-is true t h f = cc
 
 pub bytes-size : (t : TypeTree) → physical_type t ≡ physical.FixedSizeBinary → unsupported_type t ≡ None → nat_eq (size_of t) 0 ≡ false
 bytes-size (types.fixed_size_binary s) h f = (unless-then _ _ _ f).0
-bytes-size (types.extension x t m) h f = bytes-size t h (unless-then _ _ _ f).1
+bytes-size (types.extension x t m) h f = bytes-size t h (storage-read x t m f).1
 bytes-size t h f = cc
 
 abbrev is_float_kind : PhysicalType → Bool
@@ -74,7 +82,7 @@ no-float-kind types.float64 f = cc
 no-float-kind (types.interval YearMonth) f = refl
 no-float-kind (types.interval DayTime) f = refl
 no-float-kind (types.interval MonthDayNano) f = refl
-no-float-kind (types.extension x t m) f = no-float-kind t (unless-then _ _ _ f).1
+no-float-kind (types.extension x t m) f = no-float-kind t (storage-read x t m f).1
 no-float-kind t f = refl
 
 pub no-float : (p : PrimitiveType) (t : TypeTree) → physical_type t ≡ physical.Primitive p → unsupported_type t ≡ None → is_float p ≡ false
@@ -84,12 +92,12 @@ no-float p t h f = ap is_float_kind (sym h) ∙ no-float-kind t f
 
 pub no-union : (t : TypeTree) → physical_type t ≡ physical.Union → unsupported_type t ≡ None → ⊥
 no-union (types.union fs ids mode) h f = cc
-no-union (types.extension x t m) h f = no-union t h (unless-then _ _ _ f).1
+no-union (types.extension x t m) h f = no-union t h (storage-read x t m f).1
 no-union t h f = cc
 
 pub no-map : (t : TypeTree) → physical_type t ≡ physical.Map → unsupported_type t ≡ None → ⊥
 no-map (types.map e b) h f = cc
-no-map (types.extension x t m) h f = no-map t h (unless-then _ _ _ f).1
+no-map (types.extension x t m) h f = no-map t h (storage-read x t m f).1
 no-map t h f = cc
 
 -- ---- over a child
@@ -111,7 +119,7 @@ list-keys t h = refl
 
 list-sized : (t : TypeTree) → unsupported_type t ≡ None → physical_type t ≡ physical.FixedSizeList → 0 < size_of t
 list-sized (types.fixed_size_list f s) h k = some-fields s (unless-then (nat_eq s 0) ZeroSize (unsupported_field f) h).0
-list-sized (types.extension x t m) h k = list-sized t (unless-then _ _ _ h).1 k
+list-sized (types.extension x t m) h k = list-sized t (storage-read x t m h).1 k
 list-sized t h k = cc
 
 pub item-read : (t u : TypeTree) → item_type t ≡ Some u → unsupported_type t ≡ None → unsupported_type u ≡ None
@@ -119,7 +127,7 @@ item-read (types.list (field x v b es)) u e h = let q : v ≡ u = cc in ap unsup
 item-read (types.large_list (field x v b es)) u e h = let q : v ≡ u = cc in ap unsupported_type (sym q) ∙ h
 item-read (types.fixed_size_list (field x v b es) s) u e h = let q : v ≡ u = cc in ap unsupported_type (sym q) ∙ (unless-then _ _ _ h).1
 item-read (types.map f b) u e h = cc
-item-read (types.extension x t m) u e h = item-read t u e (unless-then _ _ _ h).1
+item-read (types.extension x t m) u e h = item-read t u e (storage-read x t m h).1
 item-read t u e h = cc
 
 pub item-there : (t : TypeTree) → IsOfLists (physical_type t) → item_type t ≢ None
@@ -159,7 +167,7 @@ value-read (types.dictionary j v b) u e h =
     let q : v ≡ u = cc in
     let parts = unless-then _ _ _ h in
     (ap (λ x. is_flat (physical_type x)) (sym q) ∙ not-false _ parts.0, ap unsupported_type (sym q) ∙ parts.1)
-value-read (types.extension x t m) u e h = value-read t u e (unless-then _ _ _ h).1
+value-read (types.extension x t m) u e h = value-read t u e (storage-read x t m h).1
 value-read t u e h = cc
 
 pub keys-hold : (k : IntegerType) (t u : TypeTree) → physical_type t ≡ physical.Dictionary k → unsupported_type t ≡ None → value_type t ≡ Some u → HoldsEmpty t u
@@ -178,7 +186,7 @@ pub fields-read : (t : TypeTree) → physical_type t ≡ physical.Struct → uns
 fields-read (types.struct fs) h f =
     let one = unless-then _ _ _ f in
     (some-fields (count_fields fs) one.0, (unless-then _ _ _ one.1).1)
-fields-read (types.extension x t m) h f = fields-read t h (unless-then _ _ _ f).1
+fields-read (types.extension x t m) h f = fields-read t h (storage-read x t m f).1
 fields-read t h f = cc
 
 all-whole : (fs : FieldTrees) (bs : BuilderTrees) → AreEmptyOf fs bs → AreEachComplete bs × AreComplete bs 0 × HaveRows bs 0 × (builder_types bs ≡ field_types fs) × (count_builders bs ≡ count_fields fs)
@@ -245,7 +253,7 @@ mutual
       (apart-fields fs two.0, fields-apart fs two.1)
   names-apart (types.map f b) h = cc
   names-apart (types.dictionary k t b) h = names-apart t (unless-then (not (is_flat (physical_type t))) DictionaryValues (unsupported_type t) h).1
-  names-apart (types.extension x t m) h = names-apart t (unless-then (spec_is_variable_size_binary (physical_type t)) VariableSizeExtension (unsupported_type t) h).1
+  names-apart (types.extension x t m) h = names-apart t (storage-read x t m h).1
   names-apart t h = tt
 
   field-apart : (f : FieldTree) → unsupported_field f ≡ None → FieldHasDistinctFieldNames f

@@ -2,6 +2,7 @@ pub mod ChildLaws
 mod Completing
 pub mod EmptyLaws
 mod Feeding
+mod FloatsBack
 pub mod Feeds
 mod Leaves
 pub mod LineLaws

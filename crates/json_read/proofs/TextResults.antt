@@ -14,7 +14,7 @@ use Rattle.json_read.specs.TextNumbers.{is_within_precision, numbers_of_text}
 use Rattle.json_read.specs.declared.value_error.ValueError.{ValueError}
 use Rattle.json_read.specs.declared.value_error.ValueError.TheVariants.{InvalidText, PrecisionExceeded}
 use Rattle.json_read.proofs.TextBack.{found-text, text-back}
-use Rattle.json_read.proofs.ValuesBack.{text-valid}
+use Rattle.json_read.proofs.ValuesBack.{text-valid, text-values}
 use Rattle.json_read.proofs.Wholes.{in-signed, signed-in}
 use Rattle.json_write.specs.Formats.{text_of_numbers}
 use Rattle.json_write.specs.TypedSlots.{NumbersFitIn128Bits}
@@ -159,7 +159,8 @@ pub number-result : (p : PrimitiveType) (v : ValueFormat) (r : Range) (T : ℤ �
 number-result p v r T Fits s make k read within kind None h res e = subst (λ x. ReadsNativeValue p v (string s) x) (sym e) (read ∙ one-none v r T Fits s k h)
 number-result p v r T Fits s make k read within kind (Some z) h res e =
     let some = one-some v r T Fits s z k h (within z) in
-    let made : ReadsNativeValue p v (string s) (Ok (make z)) = (read ∙ some.0, (kind z).0, (kind z).1 ∙ sym some.1) in
+    let values = text-values v (z ∷ []) (T z) s (k.text z h.0) in
+    let made : ReadsNativeValue p v (string s) (Ok (make z)) = (read ∙ some.0, (kind z).0, (kind z).1 ∙ sym some.1 ∙ sym values) in
     subst (λ x. ReadsNativeValue p v (string s) x) (sym e) made
 
 -- ---- intervals

@@ -9,6 +9,7 @@ use Rattle.nest_build.specs.Children.{list_child}
 use Rattle.json_read.specs.DistinctNames.{HasDistinctFieldNames, FieldHasDistinctFieldNames, FieldsHaveDistinctFieldNames}
 use Rattle.json_read.specs.FlatValues.{first_error}
 use Rattle.json_write.specs.Formats.{format_of_type}
+use Rattle.json_write.specs.declared.format.ValueFormat.{ValueFormat}
 use Rattle.json_read.specs.JsonSlots.{array_slot, array_error, json_item_count, values_physical_type, list_length_error}
 use Rattle.json_read.specs.declared.value_error.ValueError.{ValueError}
 use Rattle.nest_memory.specs.Physical.{physical_type}
@@ -44,14 +45,17 @@ first-none : (a : Option ValueError) → a ≡ first_error a None
 first-none None = refl
 first-none (Some e) = refl
 
+list-error-in : (v : ValueFormat) (t : TypeTree) (js : Items) (inside : Option ValueError) (n : ℕ) → IsOfLists (physical_type t) → n ≡ json_item_count js → array_error (values_physical_type t) (size_of (shown_type t)) v js inside ≡ first_error inside (list_length_error (fixed_size t) n)
+list-error-in v (types.list f) js inside n h e = first-none inside
+list-error-in v (types.large_list f) js inside n h e = first-none inside
+list-error-in v (types.fixed_size_list f s) js inside n h e = ap (λ m. first_error inside (list_length_error (Some s) m)) (sym e)
+list-error-in v (types.extension m t d) js inside n h e = list-error-in v t js inside n h e
+list-error-in v t js inside n (inl h) e = absurd cc
+list-error-in v t js inside n (inr (inl h)) e = absurd cc
+list-error-in v t js inside n (inr (inr h)) e = absurd cc
+
 pub list-error : (t : TypeTree) (js : Items) (inside : Option ValueError) (n : ℕ) → IsOfLists (physical_type t) → n ≡ json_item_count js → array_error (values_physical_type t) (size_of (shown_type t)) (format_of_type t) js inside ≡ first_error inside (list_length_error (fixed_size t) n)
-list-error (types.list f) js inside n h e = first-none inside
-list-error (types.large_list f) js inside n h e = first-none inside
-list-error (types.fixed_size_list f s) js inside n h e = ap (λ m. first_error inside (list_length_error (Some s) m)) (sym e)
-list-error (types.extension m t d) js inside n h e = list-error t js inside n h e
-list-error t js inside n (inl h) e = absurd cc
-list-error t js inside n (inr (inl h)) e = absurd cc
-list-error t js inside n (inr (inr h)) e = absurd cc
+list-error t js inside n h e = list-error-in (format_of_type t) t js inside n h e
 
 item-apart : (f : FieldTree) (u : TypeTree) → Some (types.field_type f) ≡ Some u → FieldHasDistinctFieldNames f → (types.field_type f ≡ u) × HasDistinctFieldNames u
 item-apart (field n t b es) u e a =

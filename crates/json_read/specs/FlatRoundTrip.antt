@@ -1,7 +1,8 @@
--- Slots without children are read back: numbers from their decimal digits, bytes from their hexadecimal digits.
+-- Slots without children are read back: numbers from their text, bytes from their hexadecimal digits.
 use Rattle.std.specs.Prelude.{◌≡◌, ℕ, ℤ, true, List, [], ◌∷◌, flat_map, None}
 use Rattle.json_read.specs.FlatValues.{Range, is_in, ranges_of, value_error_of, bytes_of_hex, hex_error}
 use Rattle.json_read.specs.NativeNumbers.{value_numbers}
+use Rattle.json_read.specs.RoundTrip.{IsReadable}
 use Rattle.json_read.specs.TextNumbers.{is_within_precision}
 use Rattle.nest_memory.specs.TypeTree.{TypeTree}
 use Rattle.nest_memory.specs.declared.datatypes.physical_type.PrimitiveType.{PrimitiveType}
@@ -17,9 +18,9 @@ AreInRange [] (z ∷ zs) = ⊥
 AreInRange (r ∷ rs) [] = ⊥
 AreInRange (r ∷ rs) (z ∷ zs) = (is_in r z ≡ true) × AreInRange rs zs
 
--- the numbers of a native value of the type, each in its range, and of a decimal within its precision
+-- the numbers of a native value of the type, each in its range, of a decimal within its precision, and of a float neither NaN nor a half
 abbrev pub AreNumbersOf : PrimitiveType → TypeTree → List ℤ → Type 0
-AreNumbersOf p t zs = AreInRange (ranges_of p) zs × (has_format p (format_of_type t) ≡ true) × (is_within_precision (format_of_type t) zs ≡ true)
+AreNumbersOf p t zs = AreInRange (ranges_of p) zs × (has_format p (format_of_type t) ≡ true) × (is_within_precision (format_of_type t) zs ≡ true) × IsReadable (format_of_type t) zs
 
 -- the numbers of a native value round-trip
 abbrev pub NumbersRoundTrip : PrimitiveType → TypeTree → List ℤ → Type 0

@@ -1,21 +1,24 @@
--- JSON values as slots without children, and their errors. Literals are booleans. An integer is a native value of one number, an array of
+-- JSON values as slots without children, and their errors. Literals are booleans. A number is a native value of one number, an array of
 -- integers one of several, and a string one that is written as text. Other strings are UTF-8, or binary data as pairs of hexadecimal
 -- digits.
-use Rattle.std.specs.Prelude.{ℕ, suc, ◌*◌, ◌+◌, ◌-◌, ◌^◌, ℤ, pos, neg_ℤ, List, [], ◌∷◌, Bool, true, false, nat_lt, int_lt, ◌==◌, ◌&&◌, not, length, Option, Some, None, unwrap_or, if◌then◌else◌}
+use Rattle.std.specs.Prelude.{ℕ, suc, ◌*◌, ◌+◌, ◌-◌, ◌^◌, ℤ, pos, neg_ℤ, List, [], ◌∷◌, Bool, true, false, nat_lt, int_lt, ◌==◌, ◌&&◌, not, length, Option, Some, None, is_some, unwrap_or, if◌then◌else◌}
 use Rattle.std.specs.Char.{digit_value}
 use Rattle.json.specs.Json as json
 use Rattle.json.specs.Json.{Json, Items, no_items, item}
+use Rattle.json_read.specs.FloatValues.{float_bits_of}
 use Rattle.json_read.specs.Integers.{integer_of}
 use Rattle.json_read.specs.TextNumbers.{numbers_of_text, is_within_precision}
 use Rattle.json_read.specs.declared.value_error.ValueError.{ValueError}
 use Rattle.json_read.specs.declared.value_error.ValueError.TheVariants.{WrongType, NotAnInteger, OutOfRange, InvalidText, PrecisionExceeded, InvalidHex, WrongLength}
+use Rattle.nest_memory.specs.declared.datatypes.floats.Precision.{Precision}
+use Rattle.nest_memory.specs.declared.datatypes.floats.Precision.TheVariants.{Half}
 use Rattle.nest_memory.specs.declared.datatypes.physical_type.PhysicalType.{PhysicalType}
 use Rattle.nest_memory.specs.declared.datatypes.physical_type.PhysicalType.TheVariants as physical
 use Rattle.nest_memory.specs.declared.datatypes.physical_type.PrimitiveType.{PrimitiveType}
 use Rattle.nest_memory.specs.declared.datatypes.physical_type.PrimitiveType.TheVariants as primitive
 use Rattle.json_write.specs.Formats.{has_format}
 use Rattle.json_write.specs.declared.format.ValueFormat.{ValueFormat}
-use Rattle.json_write.specs.declared.format.ValueFormat.TheVariants.{Number, Decimal}
+use Rattle.json_write.specs.declared.format.ValueFormat.TheVariants.{Number, Decimal, Float}
 
 -- one error before another
 abbrev pub first_error : Option ValueError → Option ValueError → Option ValueError
@@ -36,7 +39,7 @@ abbrev pub is_in : Range → ℤ → Bool
 is_in (signed bits) z = not (int_lt z (neg_ℤ (pos (2 ^ (bits - 1))))) && int_lt z (pos (2 ^ (bits - 1)))
 is_in (unsigned bits) z = not (int_lt z (pos 0)) && int_lt z (pos (2 ^ bits))
 
--- the numbers of a native value (Schema.fbs), the high half or the longest unit first; floating-point values cannot be read
+-- the numbers of a native value (Schema.fbs), the high half or the longest unit first; values of the types Float16, Float32 and Float64 cannot be read
 abbrev pub ranges_of : PrimitiveType → List Range
 ranges_of primitive.Int8 = signed 8 ∷ []
 ranges_of primitive.Int16 = signed 16 ∷ []
@@ -98,8 +101,20 @@ abbrev pub text_error : ValueFormat → List Range → Option (List ℤ) → Opt
 text_error v rs None = Some InvalidText
 text_error v rs (Some zs) = first_error (error_unless (are_in rs zs) InvalidText) (error_unless (is_within_precision v zs) PrecisionExceeded)
 
+-- ---- floating-point numbers
+
+-- a number past the range, or a string that is no name of a number
+abbrev pub float_error : Precision → Json → Option ValueError
+float_error Half j = Some WrongType
+float_error p (json.number s) = error_unless (is_some (float_bits_of p (json.number s))) OutOfRange
+float_error p (json.string s) = error_unless (is_some (float_bits_of p (json.string s))) InvalidText
+float_error p j = Some WrongType
+
+-- ---- native values
+
 -- a value that is never text is no string, a decimal is one
 abbrev pub value_error_of : PrimitiveType → ValueFormat → Json → Option ValueError
+value_error_of p (Float precision) j = float_error precision j
 value_error_of p Number (json.string s) = Some WrongType
 value_error_of p v (json.string s) = text_error v (ranges_of p) (numbers_of_text v s)
 value_error_of p (Decimal precision scale) j = Some WrongType

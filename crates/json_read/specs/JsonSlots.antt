@@ -1,12 +1,12 @@
 -- The slot of a JSON value under a data type, or its error. Null is a null of any type. An array is a list slot of its items. An object is
 -- a struct slot of its members, in any order; a field without a member is null.
-use Rattle.std.specs.Prelude.{ℕ, suc, ℤ, List, [], ◌∷◌, ◌++◌, Bool, false, ◌||◌, not, bytes_eq, ◌==◌, Option, Some, None, unwrap_or, if◌then◌else◌}
+use Rattle.std.specs.Prelude.{ℕ, suc, ℤ, List, [], ◌∷◌, ◌++◌, Bool, false, ◌||◌, not, bytes_eq, ◌==◌, Option, Some, None, if◌then◌else◌}
 use Rattle.std.specs.List.{list_any}
 use Rattle.json.specs.Json as json
 use Rattle.json.specs.Json.{Json, Items, no_items, item, Members, no_members, member}
 use Rattle.nest_array.specs.SeenScalar.{shown_type}
-use Rattle.json_read.specs.TextNumbers.{numbers_of_text}
-use Rattle.json_read.specs.FlatValues.{first_error, error_unless, item_numbers, number_in, bytes_of_hex, flat_error}
+use Rattle.json_read.specs.NativeNumbers.{number_values, string_values}
+use Rattle.json_read.specs.FlatValues.{first_error, error_unless, item_numbers, bytes_of_hex, flat_error}
 use Rattle.json_read.specs.declared.value_error.ValueError.{ValueError}
 use Rattle.json_read.specs.declared.value_error.ValueError.TheVariants.{WrongType, WrongLength, UnknownField, DuplicateField}
 use Rattle.nest_memory.specs.Physical.{physical_type}
@@ -23,7 +23,7 @@ use Rattle.json_write.specs.TypedSlots.{SlotKind, slot_kind, numbers, binaries}
 
 -- a string is UTF-8, or for binary types the bytes that its digits encode, or for native values the value with this text
 abbrev pub string_slot : SlotKind → ValueFormat → List ℕ → Slot
-string_slot numbers v s = slots.number (unwrap_or (numbers_of_text v s) [])
+string_slot numbers v s = slots.number (string_values v s)
 string_slot binaries v s = slots.bytes (bytes_of_hex s)
 string_slot _ v s = slots.utf8 s
 
@@ -56,7 +56,7 @@ abbrev mutual
   pub slot_of : TypeTree → Json → Slot
   slot_of t json.null = slots.null
   slot_of t (json.boolean b) = slots.boolean b
-  slot_of t (json.number s) = slots.number (number_in (json.number s) ∷ [])
+  slot_of t (json.number s) = slots.number (number_values (format_of_type t) s)
   slot_of t (json.string s) = string_slot (slot_kind t) (format_of_type t) s
   slot_of t (json.array js) = array_slot (slot_kind t) (item_numbers js) (item_slots (items_type t) js)
   slot_of t (json.object ms) = slots.record_of (field_slots (members_of t) (member_slots (members_of t) ms))

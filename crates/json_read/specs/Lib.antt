@@ -4,6 +4,8 @@ pub mod EmptyBuilders
 pub mod Examples
 pub mod StructMembers
 pub mod FlatValues
+pub mod FloatValues
+pub mod FloatExamples
 pub mod FlatRoundTrip
 pub mod JsonLines
 pub mod JsonSlots

@@ -1,15 +1,17 @@
 -- JSON values as integers of a range and as native values.
-use Rattle.std.specs.Prelude.{◌≡◌, ℕ, ℤ, pos, List, [], ◌∷◌, Option, Some, None, is_some, unwrap_or, Result, Ok, Err, if◌then◌else◌}
+use Rattle.std.specs.Prelude.{◌≡◌, ℕ, ℤ, pos, List, [], ◌∷◌, Some, None, is_some, unwrap_or, Result, Ok, Err, if◌then◌else◌}
 use Rattle.json.specs.Json as json
-use Rattle.json.specs.Json.{Json, Items, no_items, item}
+use Rattle.json.specs.Json.{Json}
 use Rattle.nest_flat.specs.AnyNative.{native_kind, native_numbers}
 use Rattle.nest_flat.specs.declared.any_native.AnyNative.{AnyNative}
 use Rattle.json_read.specs.FlatValues.{Range, signed, unsigned, number_error, number_in, item_numbers, native_error, ranges_of, value_error_of}
+use Rattle.json_read.specs.FloatValues.{float_numbers}
 use Rattle.json_read.specs.TextNumbers.{numbers_of_text}
 use Rattle.json_read.specs.Integers.{integer_of}
 use Rattle.json_read.specs.declared.value_error.ValueError.{ValueError}
 use Rattle.json_read.specs.declared.value_error.ValueError.TheVariants.{NotAnInteger, OutOfRange}
 use Rattle.json_write.specs.declared.format.ValueFormat.{ValueFormat}
+use Rattle.json_write.specs.declared.format.ValueFormat.TheVariants.{Float}
 use Rattle.nest_memory.specs.declared.datatypes.physical_type.PrimitiveType.{PrimitiveType}
 use Rattle.nest_memory.specs.declared.datatypes.physical_type.PrimitiveType.TheVariants as primitive
 
@@ -45,9 +47,20 @@ abbrev pub ReadsNative : PrimitiveType → Json → Result AnyNative ValueError 
 ReadsNative kind j (Ok x) = (native_error (ranges_of kind) j ≡ None) × (native_kind x ≡ kind) × (native_numbers x ≡ numbers_in j)
 ReadsNative kind j (Err e) = native_error (ranges_of kind) j ≡ Some e
 
--- the numbers of a JSON value that may be a text
+-- the numbers of a JSON number
+abbrev pub number_values : ValueFormat → List ℕ → List ℤ
+number_values (Float precision) s = float_numbers precision (json.number s)
+number_values v s = number_in (json.number s) ∷ []
+
+-- the numbers of a JSON string
+abbrev pub string_values : ValueFormat → List ℕ → List ℤ
+string_values (Float precision) s = float_numbers precision (json.string s)
+string_values v s = unwrap_or (numbers_of_text v s) []
+
+-- the numbers of a JSON value under a format
 abbrev pub value_numbers : ValueFormat → Json → List ℤ
-value_numbers v (json.string s) = unwrap_or (numbers_of_text v s) []
+value_numbers v (json.number s) = number_values v s
+value_numbers v (json.string s) = string_values v s
 value_numbers v j = numbers_in j
 
 -- the native value of that type and that format, or its error

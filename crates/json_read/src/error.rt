@@ -9,7 +9,7 @@ use thiserror::Error;
 /// A data type whose values cannot be read from JSON.
 #[derive(Clone, Copy, Debug, PartialEq, Eq, Error)]
 pub enum UnsupportedTypeError {
-    /// A floating-point type: no array of one can be built.
+    /// A half-precision floating-point type, or the type of a float array, of which none can be built.
     #[error("floating-point type")]
     FloatingPoint,
     /// A map.

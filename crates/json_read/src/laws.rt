@@ -6,7 +6,7 @@ ghost use Rattle.json_read.specs.FlatRoundTrip.{AreNumbersOf, BytesRoundTrip, Nu
 ghost use Rattle.json_read.specs.DistinctNames.{HasDistinctFieldNames};
 ghost use Rattle.json_read.specs.Examples.{struct_type, tags_and_id, id_and_tags};
 ghost use Rattle.json_read.specs.JsonSlots.{value_error, slot_of};
-ghost use Rattle.json_read.specs.RoundTrip.{AreBytes, CanRoundTrip};
+ghost use Rattle.json_read.specs.RoundTrip.{AreBytes, CanRoundTrip, HasReadableFloats};
 ghost use Rattle.json_read.specs.declared.value_error.ValueError.TheVariants.{InvalidHex, NotAnInteger, WrongType, OutOfRange, DuplicateField, UnknownField, WrongLength};
 ghost use Rattle.nest_memory.specs.TypeTree as types;
 ghost use Rattle.nest_memory.specs.TypeTree.{TypeTree, field};
@@ -18,6 +18,7 @@ ghost use Rattle.json_write.specs.TypedSlots.{IsSlotOf};
 ghost use Rattle.json_write.specs.JsonTree.{tree_of_slot};
 
 /// The numbers of a native value are read back from their JSON text: a number, an array of numbers or a string, as the data type has it.
+/// A floating-point number must be neither NaN nor a half.
 pub fn numbers_round_trip()
     ensures { (p : PrimitiveType) (t : TypeTree) (z : ℤ) (zs : List ℤ) → AreNumbersOf p t (z ∷ zs) → NumbersRoundTrip p t (z ∷ zs) }
 {}
@@ -27,9 +28,9 @@ pub fn bytes_round_trip()
     ensures { (bs : List ℕ) → AreBytes bs → BytesRoundTrip bs }
 {}
 
-/// The JSON value that is written for a slot is read as that slot.
+/// The JSON value that is written for a slot is read as that slot. A floating-point number must be neither NaN nor a half.
 pub fn slots_round_trip()
-    ensures { (t : TypeTree) (s : Slot) → HasDistinctFieldNames t → IsSlotOf t s → CanRoundTrip s → slot_of t (tree_of_slot t s) ≡ s }
+    ensures { (t : TypeTree) (s : Slot) → HasDistinctFieldNames t → IsSlotOf t s → CanRoundTrip s → HasReadableFloats t s → slot_of t (tree_of_slot t s) ≡ s }
 {}
 
 /// `{"tags":["a"],"id":1}` as a struct of `id` and `tags`, and `{}`, which has neither.

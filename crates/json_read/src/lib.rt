@@ -7,6 +7,7 @@ mod builders;
 mod error;
 mod fields;
 mod flat;
+mod floats;
 mod hexadecimal;
 pub mod laws;
 mod line_split;

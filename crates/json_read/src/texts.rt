@@ -11,6 +11,7 @@ ghost use Rattle.json_write.specs.Reading.{IsParsed};
 ghost use Rattle.json_write.specs.Times.{date_text, is_time_of_day, time_text, unit_digits};
 ghost use Rattle.nest_memory.specs.declared.datatypes.physical_type.PrimitiveType.TheVariants.{DaysMs, Int128, Int32, Int64, MonthDayNano};
 
+use crate::floats::{float_of, float_of_name};
 use crate::numbers::native_of;
 use crate::text_numbers::{
     parse_days_ms, parse_decimal, parse_duration, parse_month_day_nano, parse_months,
@@ -32,7 +33,7 @@ use nest_memory::types::{days_ms, months_days_ns};
 /// - `WrongType`: a string of a value that is never text, or another value for a decimal.
 /// - `InvalidText`: a string that is the text of no value.
 /// - `PrecisionExceeded`: a decimal of more digits than the precision.
-/// - those of `native_of` for numbers.
+/// - those of `float_of` and `native_of` for other values.
 pub(crate) fn value_of(
     kind: PrimitiveType,
     format: ValueFormat,
@@ -42,9 +43,10 @@ pub(crate) fn value_of(
     ensures { ReadsNativeValue kind format (value_view value.now) result }
 {
     match value {
-        Value::String(text) => value_of_text(kind, format, text.as_bytes()),
+        Value::String(text) => value_of_text(kind, format, text),
         _ => match format {
             ValueFormat::Decimal(_, _) => Err(ValueError::WrongType),
+            ValueFormat::Float(precision) => float_of(precision, value),
             _ => native_of(kind, value),
         },
     }
@@ -54,18 +56,22 @@ pub(crate) fn value_of(
 fn value_of_text(
     kind: PrimitiveType,
     format: ValueFormat,
-    text: &[u8],
+    text: &str,
 ) -> Result<AnyNative, ValueError>
     requires { has_format kind format ≡ true }
     ensures { ReadsNativeValue kind format (string text.now) result }
 {
+    let bytes = text.as_bytes();
     match kind {
-        PrimitiveType::Int32 => value_of_32(format, text),
-        PrimitiveType::Int64 => value_of_64(format, text),
-        PrimitiveType::Int128 => decimal_of(format, text),
-        PrimitiveType::DaysMs => days_ms_of_text(format, text),
-        PrimitiveType::MonthDayNano => month_day_nano_of_text(format, text),
-        _ => Err(ValueError::WrongType),
+        PrimitiveType::Int32 => value_of_32(format, bytes),
+        PrimitiveType::Int64 => value_of_64(format, bytes),
+        PrimitiveType::Int128 => decimal_of(format, bytes),
+        PrimitiveType::DaysMs => days_ms_of_text(format, bytes),
+        PrimitiveType::MonthDayNano => month_day_nano_of_text(format, bytes),
+        _ => match format {
+            ValueFormat::Float(precision) => float_of_name(precision, text),
+            _ => Err(ValueError::WrongType),
+        },
     }
 }
 

@@ -11,13 +11,14 @@ pub enum ValueError {
     /// The value has another JSON type than the data type requires, such as a string for an integer.
     #[error("value of another type")]
     WrongType,
-    /// The number has a fraction or an exponent.
+    /// The number of an integer type has a fraction or an exponent.
     #[error("number is not an integer")]
     NotAnInteger,
-    /// The integer is out of the range of its type.
-    #[error("integer out of range")]
+    /// The number is out of the range of its type.
+    #[error("number out of range")]
     OutOfRange,
-    /// The string is not the text of a value of the data type, such as a date that does not exist.
+    /// The string is not the text of a value of the data type, such as a date that does not exist, or for a floating-point type a string
+    /// other than "NaN", "Infinity" and "-Infinity".
     #[error("string is not the text of a value of the type")]
     InvalidText,
     /// The decimal has more digits than its precision.

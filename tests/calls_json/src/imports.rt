@@ -224,7 +224,7 @@ fn invalid_lines_are_errors(rt: HostRuntime) -> Result<(), Fail> {
     let alloc = rt.alloc();
     for (row_type, text, want) in [
         (
-            "struct<a: double>",
+            "struct<a: halffloat>",
             "{}",
             ImportError::Type(UnsupportedTypeError::FloatingPoint),
         ),
@@ -305,7 +305,7 @@ fn short_reads_change_nothing(rt: HostRuntime) -> Result<(), Fail> {
 fn nothing_is_written_of_unsupported_types(rt: HostRuntime) -> Result<(), Fail> {
     let alloc = rt.alloc();
     let input = text_of(alloc, b"{}", 1, NEVER)?;
-    let (done, _) = imported(alloc, "struct<a: double>", Format::Stream, input, 0)?;
+    let (done, _) = imported(alloc, "struct<a: halffloat>", Format::Stream, input, 0)?;
     assert!(&rt; done.err() == Some(ImportError::Type(UnsupportedTypeError::FloatingPoint)));
     Ok(())
 }

@@ -1,5 +1,6 @@
 //! Tests of `json_read` and of `cli_write` over lines of JSON.
 #![tactic(auto)]
 
+mod floats;
 mod imports;
 mod lines;

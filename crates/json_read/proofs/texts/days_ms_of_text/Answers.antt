@@ -1,8 +1,7 @@
 use Rattle.std.proofs.Common.{[], ◌∷◌, refl, sym, ap, ◌∙◌}
-use Rattle.std.specs.Prelude.{unwrap_or}
 use Rattle.json.specs.Json.{string}
 use Rattle.json_read.specs.FlatValues.{value_error_of}
-use Rattle.json_read.specs.TextNumbers.{numbers_of_text}
+use Rattle.json_read.specs.NativeNumbers.{string_values}
 use Rattle.json_read.proofs.NumberReading.{back-32}
 use Rattle.json_read.proofs.TextResults.{days-ms-none, days-ms-some}
 use Rattle.nest_memory.specs.declared.datatypes.physical_type.PrimitiveType.TheVariants.{DaysMs}
@@ -15,7 +14,7 @@ returns-in-Some c =
     let some = days-ms-some text c.in-Some.days c.in-Some.milliseconds read.0.0 read.0.1 read.1 in (
       ap (λ v. value_error_of DaysMs v (string text)) c.in-DaysMs.is ∙ some.0,
       refl,
-      (λ i. back-32 c.in-Some.days read.0.0 i ∷ back-32 c.in-Some.milliseconds read.0.1 i ∷ []) ∙ sym some.1 ∙ ap (λ v. unwrap_or (numbers_of_text v text) []) (sym c.in-DaysMs.is),
+      (λ i. back-32 c.in-Some.days read.0.0 i ∷ back-32 c.in-Some.milliseconds read.0.1 i ∷ []) ∙ sym some.1 ∙ ap (λ v. string_values v text) (sym c.in-DaysMs.is),
     )
 
 pub returns-in-None : goal.returns-in-None

@@ -1,9 +1,9 @@
 use Rattle.std.proofs.Common.{◌≡◌, FitsSigned, ◌^◌, [], ◌∷◌, nat_lt, true, false, unsigned_abs, Some, refl, sym, ap, ◌∙◌}
 use Rattle.std.specs.Int.{w128}
-use Rattle.std.specs.Prelude.{unwrap_or}
 use Rattle.json.specs.Json.{string}
 use Rattle.json_read.specs.FlatValues.{is_in, signed, value_error_of}
-use Rattle.json_read.specs.TextNumbers.{is_within_precision, numbers_of_text}
+use Rattle.json_read.specs.NativeNumbers.{string_values}
+use Rattle.json_read.specs.TextNumbers.{is_within_precision}
 use Rattle.json_read.proofs.NumberReading.{back-128}
 use Rattle.json_read.proofs.TextResults.{both, decimal-format, in-128, one-none, one-some, short-128, text-precise}
 use Rattle.json_write.specs.declared.format.ValueFormat.TheVariants.{Decimal}
@@ -29,7 +29,7 @@ returns-then-is_within c =
     let some = one-some (Decimal p k) (signed 128) (decimal_text k) (FitsSigned w128) text n (decimal-format p k) read within in (
       ap (λ v. value_error_of Int128 v (string text)) c.in-Decimal.is ∙ some.0,
       refl,
-      ap (λ z. z ∷ []) back ∙ sym some.1 ∙ ap (λ v. unwrap_or (numbers_of_text v text) []) (sym c.in-Decimal.is),
+      ap (λ z. z ∷ []) back ∙ sym some.1 ∙ ap (λ v. string_values v text) (sym c.in-Decimal.is),
     )
 
 pub returns-else-is_within : goal.returns-else-is_within

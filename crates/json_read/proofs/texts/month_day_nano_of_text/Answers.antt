@@ -1,8 +1,7 @@
 use Rattle.std.proofs.Common.{[], ◌∷◌, refl, sym, ap, ◌∙◌}
-use Rattle.std.specs.Prelude.{unwrap_or}
 use Rattle.json.specs.Json.{string}
 use Rattle.json_read.specs.FlatValues.{value_error_of}
-use Rattle.json_read.specs.TextNumbers.{numbers_of_text}
+use Rattle.json_read.specs.NativeNumbers.{string_values}
 use Rattle.json_read.proofs.NumberReading.{back-32, back-64}
 use Rattle.json_read.proofs.TextResults.{months-none, months-some}
 use Rattle.nest_memory.specs.declared.datatypes.physical_type.PrimitiveType.TheVariants.{MonthDayNano}
@@ -15,7 +14,7 @@ returns-in-Some c =
     let some = months-some text c.in-Some.months c.in-Some.days c.in-Some.ns read.0.0 read.0.1 read.0.2 read.1 in (
       ap (λ v. value_error_of MonthDayNano v (string text)) c.in-MonthDayNano.is ∙ some.0,
       refl,
-      (λ i. back-32 c.in-Some.months read.0.0 i ∷ back-32 c.in-Some.days read.0.1 i ∷ back-64 c.in-Some.ns read.0.2 i ∷ []) ∙ sym some.1 ∙ ap (λ v. unwrap_or (numbers_of_text v text) []) (sym c.in-MonthDayNano.is),
+      (λ i. back-32 c.in-Some.months read.0.0 i ∷ back-32 c.in-Some.days read.0.1 i ∷ back-64 c.in-Some.ns read.0.2 i ∷ []) ∙ sym some.1 ∙ ap (λ v. string_values v text) (sym c.in-MonthDayNano.is),
     )
 
 pub returns-in-None : goal.returns-in-None
