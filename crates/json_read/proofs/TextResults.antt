@@ -1,6 +1,6 @@
 -- What is read from the text of a native value.
 use Rattle.std.specs.Prelude.{unwrap_or, is_some, Result, Ok, Err, MatchOption, IsTrue, if◌then◌else◌}
-use Rattle.std.proofs.Common.{◌≡◌, ℕ, ◌<◌, ◌^◌, ℤ, Bool, true, false, ◌&&◌, List, [], ◌∷◌, Option, Some, None, FitsSigned, w32, w64, refl, sym, ap, ◌∙◌, subst, arith}
+use Rattle.std.proofs.Common.{◌≡◌, ℕ, ◌<◌, ◌^◌, ℤ, pos, negsuc, nat_lt, unsigned_abs, Bool, true, false, ◌&&◌, List, [], ◌∷◌, Option, Some, None, FitsSigned, w32, w64, refl, sym, ap, ◌∙◌, subst, arith}
 use Rattle.std.proofs.lemmas.Bool.{false≢true}
 use Rattle.std.proofs.lemmas.Option.{same_Some}
 use Rattle.std.specs.Int.{Width, w128}
@@ -8,21 +8,24 @@ use Rattle.std.specs.Int.Signed.{mag}
 use Rattle.json.specs.Json.{string}
 use Rattle.nest_flat.specs.AnyNative.{native_kind, native_numbers}
 use Rattle.nest_flat.specs.declared.any_native.AnyNative.{AnyNative}
-use Rattle.json_read.specs.FlatValues.{Range, signed, is_in, are_in, first_error, error_unless, text_error, value_error_of, ranges_of}
+use Rattle.json_read.specs.FlatValues.{Range, signed, unsigned, is_in, are_in, first_error, error_unless, text_error, value_error_of}
 use Rattle.json_read.specs.NativeNumbers.{ReadsNativeValue}
 use Rattle.json_read.specs.TextNumbers.{is_within_precision, numbers_of_text}
 use Rattle.json_read.specs.declared.value_error.ValueError.{ValueError}
 use Rattle.json_read.specs.declared.value_error.ValueError.TheVariants.{InvalidText, PrecisionExceeded}
 use Rattle.json_read.proofs.TextBack.{found-text, text-back}
 use Rattle.json_read.proofs.ValuesBack.{text-valid, text-values}
-use Rattle.json_read.proofs.Wholes.{in-signed, signed-in}
+use Rattle.json_read.proofs.Wholes.{in-signed, signed-in, unsigned-in}
 use Rattle.json_write.specs.Formats.{text_of_numbers}
 use Rattle.json_write.specs.TypedSlots.{NumbersFitIn128Bits}
 use Rattle.json_write.specs.declared.format.ValueFormat.{ValueFormat}
-use Rattle.json_write.specs.declared.format.ValueFormat.TheVariants.{Decimal, Date, MillisecondDate, Time, Timestamp, Duration, Months, DaysMs, MonthDayNano}
+use Rattle.json_write.specs.declared.format.ValueFormat.TheVariants.{Decimal, Decimal256, Date, MillisecondDate, Time, Timestamp, Duration, Months, DaysMs, MonthDayNano}
 use Rattle.nest_memory.specs.declared.datatypes.TimeUnit.{TimeUnit}
 use Rattle.nest_memory.specs.declared.datatypes.physical_type.PrimitiveType.TheVariants as primitive
 use Rattle.json_write.specs.Decimals.{decimal_text}
+use Rattle.json_write.specs.Integers256.{HasHalves, int256_value, is_low_half, of_halves}
+use Rattle.json_write.proofs.Magnitudes.{low_half}
+use Rattle.nest_memory.specs.declared.types.i256.{i256}
 use Rattle.json_write.specs.Times.{unit_digits, date_text, millisecond_date_text, is_time_of_day, time_text, timestamp_text, duration_text, months_text, days_ms_text, month_day_nano_text}
 use Rattle.nest_memory.specs.declared.datatypes.physical_type.PrimitiveType.{PrimitiveType}
 use Rattle.json_write.specs.Reading.{IsParsed}
@@ -178,6 +181,48 @@ days-ms-none s none = text-none DaysMs (signed 32 ∷ signed 32 ∷ []) s (days-
 pub days-ms-some : (s : List ℕ) (a b : ℤ) → FitsSigned w32 a → FitsSigned w32 b → s ≡ days_ms_text a b → (value_error_of primitive.DaysMs DaysMs (string s) ≡ None) × (unwrap_or (numbers_of_text DaysMs s) [] ≡ a ∷ b ∷ [])
 days-ms-some s a b f g e =
     text-some DaysMs (signed 32 ∷ signed 32 ∷ []) (a ∷ b ∷ []) s (short-32 a f, (short-32 b g, tt)) (ap Some (sym e)) (both (is_in (signed 32) a) (is_in (signed 32) b && true) (in-32 a f) (both (is_in (signed 32) b) true (in-32 b g) refl)) refl
+
+-- ---- decimals of 256 bits
+
+halves-go : (p k : ℕ) (s : List ℕ) → ((v : i256) → HasHalves v → ¬ (s ≡ decimal_text k (int256_value v))) → (zs : List ℤ) → text_of_numbers (Decimal256 p k) zs ≡ Some s → are_in (signed 128 ∷ unsigned 128 ∷ []) zs ≡ true → ⊥
+halves-go p k s none [] e i = false≢true i
+halves-go p k s none (a ∷ []) e i = false≢true (right (is_in (signed 128) a) false i)
+halves-go p k s none (a ∷ pos n ∷ []) e i =
+    let low = left (is_in (unsigned 128) (pos n)) true (right (is_in (signed 128) a) (is_in (unsigned 128) (pos n) && true) i) in
+    none (record { high = a; low = n }) (fits-128 a (left (is_in (signed 128) a) (is_in (unsigned 128) (pos n) && true) i), unsigned-in 128 n low) (told (is_low_half (pos n)) (decimal_text k (of_halves a (pos n))) s e).1
+halves-go p k s none (a ∷ negsuc n ∷ []) e i = false≢true (right (is_in (signed 128) a) false i)
+halves-go p k s none (a ∷ b ∷ x ∷ xs) e i = false≢true (right (is_in (unsigned 128) b) false (right (is_in (signed 128) a) (is_in (unsigned 128) b && false) i))
+
+pub halves-none : (p k : ℕ) (s : List ℕ) → ((v : i256) → HasHalves v → ¬ (s ≡ decimal_text k (int256_value v))) → value_error_of primitive.Int256 (Decimal256 p k) (string s) ≡ Some InvalidText
+halves-none p k s none = text-none (Decimal256 p k) (signed 128 ∷ unsigned 128 ∷ []) s (halves-go p k s none)
+
+-- an integer of 256 bits and its text
+record IsRead (p k : ℕ) (s : List ℕ) (v : i256) : Type 0 where
+  pub short : NumbersFitIn128Bits (v.high ∷ pos v.low ∷ [])
+  pub text : text_of_numbers (Decimal256 p k) (v.high ∷ pos v.low ∷ []) ≡ Some s
+  pub within : are_in (signed 128 ∷ unsigned 128 ∷ []) (v.high ∷ pos v.low ∷ []) ≡ true
+
+is-read : (p k : ℕ) (s : List ℕ) (v : i256) → HasHalves v → s ≡ decimal_text k (int256_value v) → IsRead p k s v
+is-read p k s v h e =
+    let low : is_in (unsigned 128) (pos v.low) ≡ true = sym (low_half v.low h.1) in
+    record {
+      short = (short-128 v.high h.0, (h.1, tt));
+      text = ap (λ b. if b then Some (decimal_text k (int256_value v)) else None) low ∙ ap Some (sym e);
+      within = both (is_in (signed 128) v.high) (is_in (unsigned 128) (pos v.low) && true) (in-128 v.high h.0) (both (is_in (unsigned 128) (pos v.low)) true low refl);
+    }
+
+pub halves-some : (p k : ℕ) (s : List ℕ) (v : i256) → HasHalves v → s ≡ decimal_text k (int256_value v) → nat_lt (unsigned_abs (int256_value v)) (10 ^ p) ≡ true
+    → (value_error_of primitive.Int256 (Decimal256 p k) (string s) ≡ None) × (unwrap_or (numbers_of_text (Decimal256 p k) s) [] ≡ v.high ∷ pos v.low ∷ [])
+halves-some p k s v h e l =
+    let r = is-read p k s v h e in
+    text-some (Decimal256 p k) (signed 128 ∷ unsigned 128 ∷ []) (v.high ∷ pos v.low ∷ []) s r.short r.text r.within l
+
+pub halves-precise : (p k : ℕ) (s : List ℕ) (v : i256) → HasHalves v → s ≡ decimal_text k (int256_value v) → nat_lt (unsigned_abs (int256_value v)) (10 ^ p) ≡ false → value_error_of primitive.Int256 (Decimal256 p k) (string s) ≡ Some PrecisionExceeded
+halves-precise p k s v h e l =
+    let r = is-read p k s v h e in
+    text-precise (Decimal256 p k) (signed 128 ∷ unsigned 128 ∷ []) (v.high ∷ pos v.low ∷ []) s r.short r.text r.within l
+
+-- ---- intervals of months, days and nanoseconds
 
 months-go : (s : List ℕ) → ((p : ℤ × ℤ × ℤ) → FitsSigned w32 p.0 × FitsSigned w32 p.1 × FitsSigned w64 p.2 → ¬ (s ≡ month_day_nano_text p.0 p.1 p.2)) → (zs : List ℤ) → text_of_numbers MonthDayNano zs ≡ Some s → are_in (signed 32 ∷ signed 32 ∷ signed 64 ∷ []) zs ≡ true → ⊥
 months-go s none [] e i = false≢true i

@@ -1,14 +1,13 @@
 -- The numbers of a native value are read back from their text.
-use Rattle.std.specs.Prelude.{is_some, unwrap_or}
-use Rattle.std.proofs.Common.{◌≡◌, ℕ, ◌≤◌, lit≤, ℤ, Bool, true, false, List, [], ◌∷◌, Option, Some, None, refl, sym, ap, ◌∙◌}
+use Rattle.std.specs.Prelude.{is_some, unwrap_or, if◌then◌else◌}
+use Rattle.std.proofs.Common.{◌≡◌, ℕ, ◌≤◌, lit≤, ℤ, true, List, [], ◌∷◌, Option, Some, None, refl, sym, ap, ◌∙◌}
 use Rattle.std.proofs.lemmas.Bool.{false≢true}
 use Rattle.json.specs.Json.{string}
 use Rattle.json_read.specs.FlatRoundTrip.{AreInRange, AreNumbersOf, NumbersRoundTrip}
-use Rattle.json_read.specs.FlatValues.{Range, signed, unsigned, are_in, first_error, error_unless, ranges_of, text_error, value_error_of}
+use Rattle.json_read.specs.FlatValues.{Range, signed, unsigned, is_in, are_in, first_error, error_unless, ranges_of, text_error, value_error_of}
 use Rattle.json_read.specs.NativeNumbers.{string_values, value_numbers}
 use Rattle.json_read.specs.RoundTrip.{IsReadable}
 use Rattle.json_read.specs.TextNumbers.{is_within_precision, numbers_of_text}
-use Rattle.json_read.specs.declared.value_error.ValueError.{ValueError}
 use Rattle.json_read.specs.declared.value_error.ValueError.TheVariants.{InvalidText, PrecisionExceeded}
 use Rattle.json_read.proofs.FloatsBack.{float-back}
 use Rattle.json_read.proofs.ReadBack.{numbers-back, signed-mag, unsigned-mag}
@@ -17,11 +16,13 @@ use Rattle.nest_memory.specs.TypeTree.{TypeTree}
 use Rattle.nest_memory.specs.declared.datatypes.floats.Precision.{Precision}
 use Rattle.nest_memory.specs.declared.datatypes.physical_type.PrimitiveType.{PrimitiveType}
 use Rattle.nest_memory.specs.declared.datatypes.physical_type.PrimitiveType.TheVariants as primitive
+use Rattle.json_write.specs.Decimals.{decimal_text}
+use Rattle.json_write.specs.Integers256.{of_halves}
 use Rattle.json_write.specs.Formats.{format_of_type, has_format, text_of_numbers}
 use Rattle.json_write.specs.JsonTree.{tree_of_numbers, tree_of_text}
 use Rattle.json_write.specs.TypedSlots.{NumbersFitIn128Bits}
 use Rattle.json_write.specs.declared.format.ValueFormat.{ValueFormat}
-use Rattle.json_write.specs.declared.format.ValueFormat.TheVariants.{Number, Decimal, Float}
+use Rattle.json_write.specs.declared.format.ValueFormat.TheVariants.{Number, Decimal, Decimal256, Float}
 
 abbrev AreNarrow : List Range → Type 0
 AreNarrow [] = Unit {0}
@@ -76,12 +77,20 @@ one-float primitive.UInt32 q z y zs h i = i.1
 one-float primitive.UInt64 q z y zs h i = i.1
 one-float p q z y zs h i = false≢true h
 
+-- the halves of an integer have a text
+halves-some : (a b : ℕ) (z y : ℤ) → is_in (unsigned 128) y ≡ true → text_of_numbers (Decimal256 a b) (z ∷ y ∷ []) ≡ None → ⊥
+halves-some a b z y h e = false≢true (sym (ap is_some (sym (ap (λ c. if c then Some (decimal_text b (of_halves z y)) else None) h) ∙ e)))
+
 -- a value without text is read as numbers, and a float from its JSON
 plain-back : (p : PrimitiveType) (v : ValueFormat) (z : ℤ) (zs : List ℤ) → has_format p v ≡ true → AreInRange (ranges_of p) (z ∷ zs) → IsReadable v (z ∷ zs) → text_of_numbers v (z ∷ zs) ≡ None
     → (value_error_of p v (tree_of_numbers v (z ∷ zs)) ≡ None) × (value_numbers v (tree_of_numbers v (z ∷ zs)) ≡ z ∷ zs)
 plain-back primitive.Int128 (Decimal a b) z [] h i r e = absurd (false≢true (sym (ap is_some e)))
 plain-back primitive.Int128 (Decimal a b) z (y ∷ ys) h i r e = absurd i.1
 plain-back p (Decimal a b) z zs h i r e = absurd (false≢true h)
+plain-back primitive.Int256 (Decimal256 a b) z [] h i r e = absurd i.1
+plain-back primitive.Int256 (Decimal256 a b) z (y ∷ []) h i r e = absurd (halves-some a b z y i.1.0 e)
+plain-back primitive.Int256 (Decimal256 a b) z (y ∷ x ∷ xs) h i r e = absurd i.1.1
+plain-back p (Decimal256 a b) z zs h i r e = absurd (false≢true h)
 plain-back p (Float q) z [] h i r e = float-back q z r
 plain-back p (Float q) z (y ∷ ys) h i r e = absurd (one-float p q z y ys h i)
 plain-back p v z [] h i r e = numbers-back p z [] i

@@ -18,7 +18,7 @@ use Rattle.nest_memory.specs.declared.datatypes.physical_type.PrimitiveType.{Pri
 use Rattle.nest_memory.specs.declared.datatypes.physical_type.PrimitiveType.TheVariants as primitive
 use Rattle.json_write.specs.Formats.{has_format}
 use Rattle.json_write.specs.declared.format.ValueFormat.{ValueFormat}
-use Rattle.json_write.specs.declared.format.ValueFormat.TheVariants.{Number, Decimal, Float}
+use Rattle.json_write.specs.declared.format.ValueFormat.TheVariants.{Number, Decimal, Decimal256, Float}
 
 -- one error before another
 abbrev pub first_error : Option ValueError → Option ValueError → Option ValueError
@@ -118,6 +118,7 @@ value_error_of p (Float precision) j = float_error precision j
 value_error_of p Number (json.string s) = Some WrongType
 value_error_of p v (json.string s) = text_error v (ranges_of p) (numbers_of_text v s)
 value_error_of p (Decimal precision scale) j = Some WrongType
+value_error_of p (Decimal256 precision scale) j = Some WrongType
 value_error_of p v j = native_error (ranges_of p) j
 
 -- ---- bytes

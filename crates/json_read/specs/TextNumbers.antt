@@ -2,9 +2,10 @@
 use Rattle.std.specs.Prelude.{ℕ, zero, suc, ◌^◌, ℤ, pos, neg_ℤ, ◌+ℤ◌, unsigned_abs, Bool, true, false, nat_lt, bytes_eq, List, [], ◌∷◌, Option, Some, None, if◌then◌else◌}
 use Rattle.std.specs.Option.{option_map}
 use Rattle.json_write.specs.Decimals.{decimal_text}
+use Rattle.json_write.specs.Integers256.{of_halves}
 use Rattle.json_write.specs.Formats.{text_of_numbers, numbers_count}
 use Rattle.json_write.specs.declared.format.ValueFormat.{ValueFormat}
-use Rattle.json_write.specs.declared.format.ValueFormat.TheVariants.{Decimal}
+use Rattle.json_write.specs.declared.format.ValueFormat.TheVariants.{Decimal, Decimal256}
 
 abbrev pub first_found : Option (List ℤ) → Option (List ℤ) → Option (List ℤ)
 first_found None rest = rest
@@ -31,6 +32,7 @@ numbers_of_text v s = numbers_that (numbers_count v) (λ zs. has_text (text_of_n
 -- a decimal has at most so many digits
 abbrev pub is_within_precision : ValueFormat → List ℤ → Bool
 is_within_precision (Decimal precision scale) (z ∷ []) = nat_lt (unsigned_abs z) (10 ^ precision)
+is_within_precision (Decimal256 precision scale) (high ∷ low ∷ []) = nat_lt (unsigned_abs (of_halves high low)) (10 ^ precision)
 is_within_precision v zs = true
 
 -- the text of a decimal that is not negative

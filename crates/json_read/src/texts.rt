@@ -1,5 +1,5 @@
 //! Native values from JSON strings and numbers, in the format of their data type.
-ghost use Rattle.std.specs.Prelude.{◌≡◌, ◌^◌, ◌<◌, Err, FitsSigned, IsTrue, MatchOption, Ok, SomeIff, nat_lt, true, unsigned_abs};
+ghost use Rattle.std.specs.Prelude.{◌≡◌, Err, FitsSigned, IsTrue, MatchOption, Ok, SomeIff, true};
 ghost use Rattle.std.specs.Int.{w32, w64};
 ghost use Rattle.json.specs.Json.{string};
 ghost use Rattle.json.specs.Value.{value_view};
@@ -9,18 +9,19 @@ ghost use Rattle.json_write.specs.Formats.{has_format};
 ghost use Rattle.nest_flat.specs.declared.any_native.AnyNative.TheVariants as native;
 ghost use Rattle.json_write.specs.Reading.{IsParsed};
 ghost use Rattle.json_write.specs.Times.{date_text, is_time_of_day, time_text, unit_digits};
-ghost use Rattle.nest_memory.specs.declared.datatypes.physical_type.PrimitiveType.TheVariants.{DaysMs, Int128, Int32, Int64, MonthDayNano};
+ghost use Rattle.nest_memory.specs.declared.datatypes.physical_type.PrimitiveType.TheVariants.{DaysMs, Int128, Int256, Int32, Int64, MonthDayNano};
 
 use crate::floats::{float_of, float_of_name};
 use crate::numbers::native_of;
 use crate::text_numbers::{
-    parse_days_ms, parse_decimal, parse_duration, parse_month_day_nano, parse_months,
+    parse_days_ms, parse_decimal, parse_decimal_256, parse_duration, parse_month_day_nano,
+    parse_months,
 };
 use crate::value_error::ValueError;
 use json::Value;
 use json_write::ValueFormat;
 use json_write::value_text::{
-    is_time, parse_date, parse_millisecond_date, parse_time, parse_timestamp,
+    Magnitude, is_time, parse_date, parse_millisecond_date, parse_time, parse_timestamp,
 };
 use nest_flat::any_native::AnyNative;
 use nest_memory::datatypes::TimeUnit;
@@ -45,7 +46,9 @@ pub(crate) fn value_of(
     match value {
         Value::String(text) => value_of_text(kind, format, text),
         _ => match format {
-            ValueFormat::Decimal(_, _) => Err(ValueError::WrongType),
+            ValueFormat::Decimal(_, _) | ValueFormat::Decimal256(_, _) => {
+                Err(ValueError::WrongType)
+            }
             ValueFormat::Float(precision) => float_of(precision, value),
             _ => native_of(kind, value),
         },
@@ -66,6 +69,7 @@ fn value_of_text(
         PrimitiveType::Int32 => value_of_32(format, bytes),
         PrimitiveType::Int64 => value_of_64(format, bytes),
         PrimitiveType::Int128 => decimal_of(format, bytes),
+        PrimitiveType::Int256 => decimal_256_of(format, bytes),
         PrimitiveType::DaysMs => days_ms_of_text(format, bytes),
         PrimitiveType::MonthDayNano => month_day_nano_of_text(format, bytes),
         _ => match format {
@@ -155,7 +159,7 @@ fn time_of_day(text: &[u8], unit: TimeUnit) -> Option<i64>
     }
 }
 
-// Returns a decimal.
+// Returns a decimal of 128 bits.
 fn decimal_of(format: ValueFormat, text: &[u8]) -> Result<AnyNative, ValueError>
     requires { has_format Int128 format ≡ true }
     ensures { ReadsNativeValue Int128 format (string text.now) result }
@@ -166,7 +170,11 @@ fn decimal_of(format: ValueFormat, text: &[u8]) -> Result<AnyNative, ValueError>
     match parse_decimal(text, scale) {
         None => Err(ValueError::InvalidText),
         Some(number) => {
-            if is_within(number, precision) {
+            let magnitude = Magnitude {
+                high: 0,
+                low: number.unsigned_abs(),
+            };
+            if magnitude.has_at_most(precision) {
                 Ok(AnyNative::Int128(number))
             } else {
                 Err(ValueError::PrecisionExceeded)
@@ -175,11 +183,24 @@ fn decimal_of(format: ValueFormat, text: &[u8]) -> Result<AnyNative, ValueError>
     }
 }
 
-// Returns whether a number has at most so many digits.
-fn is_within(number: i128, precision: usize) -> bool
-    ensures { result ≡ nat_lt (unsigned_abs number) (10 ^ precision) }
+// Returns a decimal of 256 bits.
+fn decimal_256_of(format: ValueFormat, text: &[u8]) -> Result<AnyNative, ValueError>
+    requires { has_format Int256 format ≡ true }
+    ensures { ReadsNativeValue Int256 format (string text.now) result }
 {
-    precision > 38 || number.unsigned_abs() < 10u128.pow(precision as u32)
+    let ValueFormat::Decimal256(precision, scale) = format else {
+        return Err(ValueError::WrongType);
+    };
+    match parse_decimal_256(text, scale) {
+        None => Err(ValueError::InvalidText),
+        Some(number) => {
+            if Magnitude::of(number).has_at_most(precision) {
+                Ok(AnyNative::Int256(number))
+            } else {
+                Err(ValueError::PrecisionExceeded)
+            }
+        }
+    }
 }
 
 // Returns an interval of days and milliseconds.

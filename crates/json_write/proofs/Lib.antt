@@ -4,6 +4,7 @@ pub mod Years
 pub mod Days
 pub mod DigitFacts
 pub mod DecimalFacts
+pub mod Magnitudes
 pub mod TimeFacts
 pub mod ReadingFacts
 pub mod TimeReadingFacts

@@ -6,29 +6,32 @@ use Rattle.nest_flat.specs.AnyNative.{native_kind, native_numbers}
 use Rattle.nest_flat.specs.declared.any_native.AnyNative.{AnyNative}
 use Rattle.nest_flat.specs.declared.any_native.AnyNative.TheVariants as any
 use Rattle.nest_memory.specs.declared.datatypes.TimeUnit.{TimeUnit}
+use Rattle.nest_memory.specs.declared.types.days_ms.{days_ms}
+use Rattle.nest_memory.specs.declared.types.i256.{i256}
+use Rattle.nest_memory.specs.declared.types.months_days_ns.{months_days_ns}
 use Rattle.nest_memory.specs.declared.datatypes.floats.Precision.{Precision}
 use Rattle.nest_memory.specs.declared.datatypes.physical_type.PrimitiveType.{PrimitiveType}
 use Rattle.nest_memory.specs.declared.datatypes.physical_type.PrimitiveType.TheVariants as primitive
 use Rattle.json_write.specs.Formats.{has_format, text_in, text_of_numbers}
 use Rattle.json_write.specs.declared.format.ValueFormat.{ValueFormat}
-use Rattle.json_write.specs.declared.format.ValueFormat.TheVariants.{Number, Decimal, Date, MillisecondDate, Time, Timestamp, Duration, Months, DaysMs, MonthDayNano, Float}
-use Rattle.json_write.specs.Decimals.{decimal_text}
+use Rattle.json_write.specs.declared.format.ValueFormat.TheVariants.{Number, Decimal, Decimal256, Date, MillisecondDate, Time, Timestamp, Duration, Months, DaysMs, MonthDayNano, Float}
 use Rattle.json_write.specs.Times.{days_ms_text, month_day_nano_text}
 
--- all values of a format but numbers, floats and times are text
-pub always-text : (v : ValueFormat) (x : AnyNative) → has_format (native_kind x) v ≡ true → (v ≡ Number → ⊥) → ((p : Precision) → v ≡ Float p → ⊥) → ((u : TimeUnit) → v ≡ Time u → ⊥) → true ≡ is_some (text_of_numbers v (native_numbers x))
-always-text Number x h a c b = absurd (a refl)
-always-text (Float p) x h a c b = absurd (c p refl)
-always-text (Time u) x h a c b = absurd (b u refl)
-always-text (Decimal p s) (any.Int128 n) h a c b = refl
-always-text Date (any.Int32 n) h a c b = refl
-always-text MillisecondDate (any.Int64 n) h a c b = refl
-always-text (Timestamp u utc) (any.Int64 n) h a c b = refl
-always-text (Duration u) (any.Int64 n) h a c b = refl
-always-text Months (any.Int32 n) h a c b = refl
-always-text DaysMs (any.DaysMs n) h a c b = refl
-always-text MonthDayNano (any.MonthDayNano n) h a c b = refl
-always-text v x h a c b = absurd (false≢true h)
+-- all values of a format but numbers, floats, times and decimals of 256 bits are text
+pub always-text : (v : ValueFormat) (x : AnyNative) → has_format (native_kind x) v ≡ true → (v ≡ Number → ⊥) → ((p : Precision) → v ≡ Float p → ⊥) → ((u : TimeUnit) → v ≡ Time u → ⊥) → ((p s : ℕ) → v ≡ Decimal256 p s → ⊥) → true ≡ is_some (text_of_numbers v (native_numbers x))
+always-text Number x h a c b d = absurd (a refl)
+always-text (Float p) x h a c b d = absurd (c p refl)
+always-text (Time u) x h a c b d = absurd (b u refl)
+always-text (Decimal256 p s) x h a c b d = absurd (d p s refl)
+always-text (Decimal p s) (any.Int128 n) h a c b d = refl
+always-text Date (any.Int32 n) h a c b d = refl
+always-text MillisecondDate (any.Int64 n) h a c b d = refl
+always-text (Timestamp u utc) (any.Int64 n) h a c b d = refl
+always-text (Duration u) (any.Int64 n) h a c b d = refl
+always-text Months (any.Int32 n) h a c b d = refl
+always-text DaysMs (any.DaysMs n) h a c b d = refl
+always-text MonthDayNano (any.MonthDayNano n) h a c b d = refl
+always-text v x h a c b d = absurd (false≢true h)
 
 -- the only format of these values that has text
 pub days-text : (v : ValueFormat) (a b : ℤ) → has_format primitive.DaysMs v ≡ true → is_some (text_of_numbers v (a ∷ b ∷ [])) ≡ true → days_ms_text a b ≡ text_in v (a ∷ b ∷ [])
@@ -62,3 +65,16 @@ no-64 (Time u) n h t a b c d = b u refl
 no-64 (Timestamp u utc) n h t a b c d = c u utc refl
 no-64 (Duration u) n h t a b c d = d u refl
 no-64 v n h t a b c d = false≢true h
+
+-- no value of another kind has a text
+pub no-other : (v : ValueFormat) (x : AnyNative) → has_format (native_kind x) v ≡ true → is_some (text_of_numbers v (native_numbers x)) ≡ true
+    → ((n : ℤ) → x ≡ any.Int32 n → ⊥) → ((n : ℤ) → x ≡ any.Int64 n → ⊥) → ((n : ℤ) → x ≡ any.Int128 n → ⊥) → ((n : i256) → x ≡ any.Int256 n → ⊥) → ((n : days_ms) → x ≡ any.DaysMs n → ⊥) → ((n : months_days_ns) → x ≡ any.MonthDayNano n → ⊥) → ⊥
+no-other v (any.Int32 n) h t a b c d e f = a n refl
+no-other v (any.Int64 n) h t a b c d e f = b n refl
+no-other v (any.Int128 n) h t a b c d e f = c n refl
+no-other v (any.Int256 n) h t a b c d e f = d n refl
+no-other v (any.DaysMs n) h t a b c d e f = e n refl
+no-other v (any.MonthDayNano n) h t a b c d e f = f n refl
+no-other Number x h t a b c d e f = false≢true t
+no-other (Float p) x h t a b c d e f = false≢true t
+no-other v x h t a b c d e f = false≢true h

@@ -12,9 +12,10 @@ use Rattle.json.proofs.Printed.Strings.{escape_byte_plain}
 use Rattle.json_write.specs.Formats.{text_of_numbers, text_in}
 use Rattle.json_write.specs.JsonText.{json_of_numbers, json_of_value, string_or}
 use Rattle.json_write.specs.declared.format.ValueFormat.{ValueFormat}
-use Rattle.json_write.specs.declared.format.ValueFormat.TheVariants.{Decimal, Date, MillisecondDate, Time, Timestamp, Duration, Months, DaysMs, MonthDayNano}
+use Rattle.json_write.specs.declared.format.ValueFormat.TheVariants.{Decimal, Decimal256, Date, MillisecondDate, Time, Timestamp, Duration, Months, DaysMs, MonthDayNano}
 use Rattle.json_write.specs.Calendar.{date_of}
 use Rattle.json_write.specs.Decimals.{decimal_text}
+use Rattle.json_write.specs.Integers256.{is_low_half, of_halves}
 use Rattle.json_write.specs.Digits.{digit, number_text, signed_integer_text, last_digits, at_least, fraction_text}
 use Rattle.json_write.specs.Times.{year_text, calendar_text, date_text, clock_text, is_time_of_day, time_text, zone_text, timestamp_text, millisecond_date_text, duration_text, months_text, days_text, month_day_nano_text, unit_digits, whole_seconds, subseconds}
 use Rattle.json_write.specs.declared.value_text.calendar.Date.{Date as CalendarDate}
@@ -142,6 +143,8 @@ plain-unless false text bs h e = absurd (let none : None ≡ Some bs = e in cc)
 
 plain-text : (v : ValueFormat) (zs : List ℤ) (bs : List ℕ) → text_of_numbers v zs ≡ Some bs → IsPlain bs
 plain-text (Decimal precision scale) (n ∷ []) bs e = subst IsPlain (same_Some _ _ e) (plain-decimal scale n)
+plain-text (Decimal256 precision scale) (high ∷ low ∷ []) bs e =
+    plain-unless (is_low_half low) (decimal_text scale (of_halves high low)) bs (plain-decimal scale (of_halves high low)) e
 plain-text Date (n ∷ []) bs e = subst IsPlain (same_Some _ _ e) (plain-date (date_of n))
 plain-text MillisecondDate (n ∷ []) bs e = subst IsPlain (same_Some _ _ e) (plain-millisecond-date n)
 plain-text (Time u) (n ∷ []) bs e = plain-unless (is_time_of_day (unit_digits u) n) (time_text (unit_digits u) n) bs (plain-time (unit_digits u) n) e

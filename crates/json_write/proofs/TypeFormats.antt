@@ -50,6 +50,7 @@ extension-fits n t m k (Some p) e h fits =
 -- the values of a scalar or a dictionary have the format of their data type
 pub shown-format-fits : (t : TypeTree) (k : PrimitiveType) → physical_type (shown_type t) ≡ physical.Primitive k → has_format k (format_of_type t) ≡ true
 shown-format-fits (types.decimal p s) k e = same-native (format_of_type (types.decimal p s)) primitive.Int128 k refl e
+shown-format-fits (types.decimal256 p s) k e = same-native (format_of_type (types.decimal256 p s)) primitive.Int256 k refl e
 shown-format-fits types.date32 k e = same-native (format_of_type types.date32) primitive.Int32 k refl e
 shown-format-fits types.date64 k e = same-native (format_of_type types.date64) primitive.Int64 k refl e
 shown-format-fits (types.time32 u) k e = same-native (format_of_type (types.time32 u)) primitive.Int32 k refl e

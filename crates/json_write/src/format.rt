@@ -13,6 +13,8 @@ pub enum ValueFormat {
     Number,
     /// As a decimal: the precision, and the number of digits after the point.
     Decimal(usize, usize),
+    /// As a decimal of 256 bits: the precision, and the number of digits after the point.
+    Decimal256(usize, usize),
     /// As the date of a day.
     Date,
     /// As the date of a millisecond, with the time if it is not midnight.
@@ -41,6 +43,7 @@ impl ValueFormat {
     {
         match data_type {
             DataType::Decimal(precision, scale) => ValueFormat::Decimal(*precision, *scale),
+            DataType::Decimal256(precision, scale) => ValueFormat::Decimal256(*precision, *scale),
             DataType::Date32 => ValueFormat::Date,
             DataType::Date64 => ValueFormat::MillisecondDate,
             DataType::Time32(unit) | DataType::Time64(unit) => ValueFormat::Time(*unit),

@@ -10,8 +10,8 @@ use crate::flat::write_number;
 use crate::floats::write_float_value;
 use crate::format::ValueFormat;
 use crate::value_text::{
-    is_time, write_date, write_days_ms, write_decimal, write_duration, write_millisecond_date,
-    write_month_day_nano, write_months, write_time, write_timestamp,
+    is_time, write_date, write_days_ms, write_decimal, write_decimal_256, write_duration,
+    write_millisecond_date, write_month_day_nano, write_months, write_time, write_timestamp,
 };
 use nest_flat::any_native::AnyNative;
 use std::fmt;
@@ -49,6 +49,13 @@ fn is_string(format: ValueFormat, value: AnyNative) -> bool
             AnyNative::Int64(n) => is_time(unit, n),
             _ => false,
         },
+        ValueFormat::Decimal256(_, _) => match value {
+            AnyNative::Int256(n) => {
+                let _low = n.low;
+                true
+            }
+            _ => false,
+        },
         _ => true,
     }
 }
@@ -83,6 +90,10 @@ fn write_text<W: fmt::Write>(
         AnyNative::Int64(n) => write_text_64(f, format, n),
         AnyNative::Int128(n) => match format {
             ValueFormat::Decimal(_, scale) => write_decimal(f, n, scale),
+            _ => Ok(()),
+        },
+        AnyNative::Int256(n) => match format {
+            ValueFormat::Decimal256(_, scale) => write_decimal_256(f, n, scale),
             _ => Ok(()),
         },
         AnyNative::DaysMs(n) => write_days_ms(f, n.days, n.milliseconds),

@@ -82,3 +82,8 @@ fn typed_forty_values(rt: HostRuntime) {
 fn parsed_types(rt: HostRuntime) {
     expect_count(&rt, parsed::types, 38);
 }
+
+#[test]
+fn parsed_decimals(rt: HostRuntime) {
+    expect_count(&rt, parsed::decimals, 8);
+}

@@ -47,23 +47,12 @@ fn lines_of(alloc: Global, sample: &Sample) -> Result<Vec<u8>, BatchError> {
     Ok(lines)
 }
 
-fn line_count(text: &[u8]) -> usize {
-    let mut count = 0;
-    for byte in text {
-        count += (*byte == b'\n') as usize;
-    }
-    count
-}
-
-/// Returns what the table says of a sample: `rows` if the rows are those of its text, `numbers` if there are as many, and the name of an error.
+/// Returns what the table says of a sample: `rows` if the rows are those of its text, or the name of the error.
 fn state_of(alloc: Global, sample: &Sample) -> Result<String, AllocError> {
     match lines_of(alloc, sample) {
         Ok(lines) => {
-            let expected = sample.text.as_bytes();
-            let state = if lines.as_slice() == expected {
+            let state = if lines.as_slice() == sample.text.as_bytes() {
                 "rows"
-            } else if line_count(&lines) == line_count(expected) {
-                "numbers"
             } else {
                 "other-rows"
             };

@@ -1,10 +1,12 @@
 //! The text of single values, and values read from text. The dates and timestamps are those of Python's `datetime` and of NumPy.
 use json_write::value_text::{
-    is_time, parse_date, parse_millisecond_date, parse_time, parse_timestamp, write_date,
-    write_days_ms, write_decimal, write_decimal_digits, write_duration, write_millisecond_date,
-    write_month_day_nano, write_months, write_time, write_timestamp,
+    Magnitude, is_time, parse_date, parse_millisecond_date, parse_time, parse_timestamp,
+    write_date, write_days_ms, write_decimal, write_decimal_256, write_decimal_digits,
+    write_duration, write_millisecond_date, write_month_day_nano, write_months, write_time,
+    write_timestamp,
 };
 use nest_memory::datatypes::TimeUnit;
+use nest_memory::types::i256;
 use std::alloc::Global;
 use std::fmt;
 use std::fmt::{Display, Formatter};
@@ -23,6 +25,7 @@ enum Value {
     DaysMs(i32, i32),
     MonthDayNano(i32, i32, i64),
     Decimal(i128, usize),
+    Decimal256(i128, u128, usize),
     Digits(bool, &'static str, usize),
 }
 
@@ -38,6 +41,9 @@ impl Display for Value {
             Value::DaysMs(days, milliseconds) => write_days_ms(f, days, milliseconds),
             Value::MonthDayNano(months, days, ns) => write_month_day_nano(f, months, days, ns),
             Value::Decimal(value, scale) => write_decimal(f, value, scale),
+            Value::Decimal256(high, low, scale) => {
+                write_decimal_256(f, i256::from_words(high, low), scale)
+            }
             Value::Digits(negative, digits, scale) => {
                 write_decimal_digits(f, negative, digits, scale)
             }
@@ -211,8 +217,73 @@ fn durations_intervals_and_decimals_are_written(rt: HostRuntime) -> Result<(), F
             (Value::Decimal(0, 3), "0.000"),
             (Value::Decimal(-7, 0), "-7"),
             (Value::Decimal(i128::MIN, 38), "-1.70141183460469231731687303715884105728"),
+            (
+                Value::Decimal256(
+                    3_628_068_951_366_785_029_352_481_634_746_183_932,
+                    98_730_458_594_047_848_209_239_609_727_044_598_464,
+                    5,
+                ),
+                "12345678901234567890123456789012345678901234567890123456789012345678901.23456",
+            ),
+            (
+                Value::Decimal256(
+                    -29_387_358_770_557_187_699_218_413_430_556_141_946,
+                    181_493_370_963_361_119_677_159_889_420_079_333_377,
+                    0,
+                ),
+                "-9999999999999999999999999999999999999999999999999999999999999999999999999999",
+            ),
+            (Value::Decimal256(100, 0, 2), "340282366920938463463374607431768211456.00"),
+            (Value::Decimal256(-100, 0, 2), "-340282366920938463463374607431768211456.00"),
+            (Value::Decimal256(-2, u128::MAX, 2), "-3402823669209384634633746074317682114.57"),
+            (Value::Decimal256(-1, u128::MAX - 4, 2), "-0.05"),
+            (Value::Decimal256(0, 0, 3), "0.000"),
+            (Value::Decimal256(0, 7, 0), "7"),
+            (
+                Value::Decimal256(i128::MIN, 0, 0),
+                "-57896044618658097711785492504343953926634992332820282019728792003956564819968",
+            ),
+            (
+                Value::Decimal256(i128::MAX, u128::MAX, 80),
+                "0.00057896044618658097711785492504343953926634992332820282019728792003956564819967",
+            ),
             (Value::Digits(true, "5", 2), "-0.05"),
             (Value::Digits(false, "115792", 4), "11.5792"),
         ],
     )
+}
+
+/// The most of 256 bits, with and without a sign, and powers of ten.
+#[test]
+fn magnitudes_have_256_bits(rt: HostRuntime) {
+    let most = Magnitude {
+        high: u128::MAX,
+        low: u128::MAX,
+    };
+    let tenth = Magnitude {
+        high: 34_028_236_692_093_846_346_337_460_743_176_821_145,
+        low: 204_169_420_152_563_078_078_024_764_459_060_926_873,
+    };
+    assert!(&rt; tenth.with_digit(5) == Some(most));
+    assert!(&rt; tenth.with_digit(6) == None);
+    assert!(&rt; most.has_at_most(78) && !most.has_at_most(77));
+    let power = Magnitude {
+        high: 29_387_358_770_557_187_699,
+        low: 74_322_239_116_966_006_171_368_701_637_485_920_256,
+    };
+    assert!(&rt; power.has_at_most(59) && !power.has_at_most(58));
+    let zero = Magnitude { high: 0, low: 0 };
+    assert!(&rt; zero.has_at_most(0));
+    assert!(&rt; zero.with_sign(true) == Some(i256::from_words(0, 0)));
+    let half = Magnitude {
+        high: 1 << 127,
+        low: 0,
+    };
+    let least = i256::from_words(i128::MIN, 0);
+    assert!(&rt; half.with_sign(true) == Some(least) && half.with_sign(false) == None);
+    assert!(&rt; Magnitude::of(least) == half);
+    let above = Magnitude { low: 1, ..half };
+    assert!(&rt; above.with_sign(true) == None);
+    let minus_one = i256::from_words(-1, u128::MAX);
+    assert!(&rt; Magnitude::of(minus_one) == Magnitude { high: 0, low: 1 });
 }

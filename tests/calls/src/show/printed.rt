@@ -261,7 +261,7 @@ fn values_of_several_numbers(rt: HostRuntime) -> Result<(), Error> {
     let wide = PrimitiveArray::try_new(DataType::Decimal256(40, 2), wide, None)?;
     assert_eq!(rt;
         text(alloc, AnyArray::Primitive(AnyPrimitive::Int256(wide)))?.as_str(),
-        "[[1,5]]"
+        "[\"3402823669209384634633746074317682114.61\"]"
     );
     let days = buffer(
         alloc,

@@ -1,6 +1,6 @@
 use Rattle.std.proofs.Common.{◌∙◌, rules, sym}
 use Rattle.std.proofs.Output.{has_written_append, has_written_of_eq}
-use Rattle.json_write.proofs.FloatTexts.{name-text, number-text}
+use Rattle.json_write.proofs.FloatTexts.{name-text}
 use Rattle.json_write.proofs.floats.write_bits.Goals as goal
 
 pub returns : goal.returns
