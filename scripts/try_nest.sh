@@ -53,6 +53,13 @@ for file in "$room/stream" "$room/file" -; do
     expect 0 '{"a":1,"b":"a"}\n' '' rows --count=1 "$file"
     expect 0 "$all" '' head "$file"
     expect 0 '{"a":1,"b":"a"}\n{"a":null,"b":"b"}\n' '' head "$file" 2
+    expect 0 "$all" '' tail "$file"
+    expect 0 '{"a":null,"b":"b"}\n{"a":3,"b":null}\n' '' tail "$file" 2
+    expect 0 '{"b":null}\n' '' tail --columns b "$file" 1
+    expect 0 '' '' tail "$file" 0
+    expect 0 "$all" '' tail "$file" 18446744073709551615
+    expect 0 '3\n' '' count "$file"
+    expect 0 '3\n' '' count "$file" --columns b
     expect 0 '{"a":null,"b":"b"}\n{"a":3,"b":null}\n' '' slice "$file" 1 5
     expect 0 '{"a":null,"b":"b"}\n{"a":3,"b":null}\n' '' cut -- "$file" 1 5
     expect 2 '' "nest: $file: the column is not boolean" where "$file" b
@@ -105,6 +112,24 @@ expect 2 "$two" "nest: $room/negative: record batch 2: $negative" rows "$room/ne
 expect 0 "$two" '' rows "$room/negative" --start 0 --count 2
 expect 0 '{"a":1,"b":"a"}\n' '' take "$room/negative" 0
 expect 2 '' "nest: $room/negative: record batch 2: $negative" take "$room/negative" 0 2
+# The last rows of a file whose first record batch is truncated, and its number of rows; errors; a pipe.
+expect 2 '' "nest: $room/negative: record batch 2: $negative" tail "$room/negative" 1
+expect 2 '' "nest: $room/negative: record batch 2: $negative" count "$room/negative"
+expect 2 '' "nest: $room/packed: record batch 0: $truncated" tail "$room/packed"
+expect 2 '' "nest: $room/bare: record batch 0: the record batch has no columns of the schema" tail "$room/bare"
+expect 0 '3\n' '' count "$room/bare"
+expect 2 '' "nest: $room/csv: $text" count "$room/csv"
+expect 2 '' "nest: $room/cut: $magic" tail "$room/cut"
+expect 2 '' "nest: $room/none: no such file" count "$room/none"
+expect 2 '' "nest: $room: is a directory" tail "$room"
+for input in stream file; do
+    [ "$(cat "$room/$input" | "$program" tail - 1)" = '{"a":3,"b":null}' ] || { echo 'nest tail: a pipe'; failed=1; }
+    [ "$(cat "$room/$input" | "$program" count /dev/stdin)" = 3 ] || { echo 'nest count: a pipe'; failed=1; }
+done
+for command in tail count; do
+    said=$("$program" "$command" "$room/file" 2>&1 >/dev/full)
+    [ "$? $said" = "2 nest: $room/file: output cannot be written" ] || { echo "nest $command to a full device: $said"; failed=1; }
+done
 [ "$("$program" rows - <"$room/file")" = "$("$program" rows "$room/file")" ] || { echo 'nest rows: a file as standard input'; failed=1; }
 for input in stream file; do
     [ "$(cat "$room/$input" | "$program" cut /dev/stdin 1 1)" = '{"a":null,"b":"b"}' ] || { echo 'nest cut: a pipe'; failed=1; }
@@ -139,7 +164,7 @@ for file in "$room/stream" "$room/file" -; do
     expect 0 'a: int32\nb: string\n' '' schema --columns b,a "$file"
     expect 0 '{"b":"a"}\n{"b":"b"}\n{"b":null}\n' '' rows --columns b "$file"
     expect 0 '{"a":3}\n' '' take "$file" --columns a 2
-    for command in schema rows head; do
+    for command in schema rows head tail count; do
         expect 2 '' "nest: $file: there is no column \"c\"" "$command" "$file" --columns b,c,d
     done
     expect 2 '' "nest: $file: there is no column \"c\"" take "$file" 0 --columns c
@@ -355,7 +380,7 @@ shows() {
 }
 shows 'Usage: nest <COMMAND>' --help
 shows 'Usage: nest <COMMAND>' help
-for command in schema rows head slice take where equal concat convert from-json; do
+for command in schema rows head tail count slice take where equal concat convert from-json; do
     shows "Usage: nest $command" help "$command"
     shows "Example: nest $command" "$command" --help
 done

@@ -70,6 +70,12 @@ rows_app = with_rule (with_rule (file_app (codes "rows")) start_rule) count_rule
 abbrev pub head_app : App
 head_app = with_rule (file_app (codes "head")) optional_count_rule
 
+abbrev pub tail_app : App
+tail_app = with_rule (file_app (codes "tail")) optional_count_rule
+
+abbrev pub count_app : App
+count_app = file_app (codes "count")
+
 abbrev pub slice_app : App
 slice_app = with_rule (with_rule (with_rule (with_alias (codes "cut") (file_app (codes "slice"))) (required_integer_rule (codes "START"))) (required_integer_rule (codes "COUNT"))) out_rule
 
@@ -98,8 +104,11 @@ top_app = on_top (λ (s : Shape). record s { has_version = true; subcommand_requ
 abbrev pub printing_app : App
 printing_app = with_subcommand (with_subcommand (with_subcommand top_app (file_app (codes "schema")).top) rows_app.top) head_app.top
 
+abbrev pub counting_app : App
+counting_app = with_subcommand (with_subcommand printing_app tail_app.top) count_app.top
+
 abbrev pub slicing_app : App
-slicing_app = with_subcommand (with_subcommand printing_app slice_app.top) take_app.top
+slicing_app = with_subcommand (with_subcommand counting_app slice_app.top) take_app.top
 
 abbrev pub comparing_app : App
 comparing_app = with_subcommand (with_subcommand slicing_app where_app.top) equal_app.top

@@ -1,6 +1,6 @@
 -- The models of `Command` and `Arguments`.
 use Rattle.std.specs.Prelude.{map, option_map}
-use Rattle.cli_args.specs.Commands.{ArgumentsTree, CommandTree, schema, select, equal, concat, convert, from_json}
+use Rattle.cli_args.specs.Commands.{ArgumentsTree, CommandTree, schema, select, tail, count, equal, concat, convert, from_json}
 use Rattle.cli_args.specs.RequestTrees.{selection_tree}
 use Rattle.cli_args.specs.declared.arguments.Arguments.{Arguments}
 use Rattle.cli_args.specs.declared.command.Command.{Command}
@@ -9,6 +9,8 @@ use Rattle.cli_args.specs.declared.command.Command.TheVariants as commands
 abbrev pub command_tree : Command → CommandTree
 command_tree (commands.Schema file) = schema file.now
 command_tree (commands.Select file selection out) = select file.now (selection_tree selection) (option_map (λ o. o.now) out)
+command_tree (commands.Tail file n) = tail file.now n
+command_tree (commands.Count file) = count file.now
 command_tree (commands.Equal file other) = equal file.now other.now
 command_tree (commands.Concat files out) = concat (map (λ f. f.now) files.items) out.now
 command_tree (commands.Convert file out) = convert file.now out.now

@@ -13,6 +13,10 @@ pub data CommandTree : Type 0 where
   schema : Text → CommandTree
   -- rows of a file, and the output, if they are not printed
   select : Text → SelectionTree → Option Text → CommandTree
+  -- `tail FILE COUNT`
+  tail : Text → ℕ → CommandTree
+  -- `count FILE`
+  count : Text → CommandTree
   -- `equal FILE OTHER`
   equal : Text → Text → CommandTree
   -- `concat FILE.. -o OUT`
@@ -57,9 +61,9 @@ required_integer id found = unwrap_or (integer_in id found) 0
 -- the slice of `rows`, by its options `--start` and `--count`
 abbrev pub rows_selection : Option ℕ → Option ℕ → SelectionTree
 rows_selection None None = all
-rows_selection None (Some count) = slice 0 count
+rows_selection None (Some n) = slice 0 n
 rows_selection (Some start) None = slice start 18446744073709551615
-rows_selection (Some start) (Some count) = slice start count
+rows_selection (Some start) (Some n) = slice start n
 
 -- the rows that a command selects, by its name
 abbrev pub selection_of : Text → List Row → Option SelectionTree
@@ -77,6 +81,8 @@ select_of name found = option_map (λ s. select (argument_text (codes "FILE") fo
 abbrev pub command_of : Text → List Row → Option CommandTree
 command_of name found =
     if bytes_eq name (codes "schema") then Some (schema (argument_text (codes "FILE") found))
+    else if bytes_eq name (codes "tail") then Some (tail (argument_text (codes "FILE") found) (required_integer (codes "COUNT") found))
+    else if bytes_eq name (codes "count") then Some (count (argument_text (codes "FILE") found))
     else if bytes_eq name (codes "equal") then Some (equal (argument_text (codes "FILE") found) (argument_text (codes "OTHER") found))
     else if bytes_eq name (codes "concat") then Some (concat (texts_of (codes "FILE") found) (argument_text (codes "OUT") found))
     else if bytes_eq name (codes "convert") then Some (convert (argument_text (codes "FILE") found) (argument_text (codes "OUT") found))

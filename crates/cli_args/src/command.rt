@@ -19,6 +19,10 @@ pub enum Command<'a> {
     Schema(&'a str),
     /// `rows`, `head`, `slice`, `take` and `where`: select rows of a file, and write them to an output or print them.
     Select(&'a str, Selection, Option<&'a str>),
+    /// `tail`: print so many last rows of a file at most.
+    Tail(&'a str, usize),
+    /// `count`: print the number of rows of a file.
+    Count(&'a str),
     /// `equal`: compare two files.
     Equal(&'a str, &'a str),
     /// `concat`: write all files to an output.

@@ -1,6 +1,6 @@
 //! The command line of `nest`, as clap parses it.
 ghost use Rattle.std.specs.Prelude.{IfOk, codes};
-ghost use Rattle.cli_args.specs.CommandLine.{IsArg, IsCommand, columns_rule, command_app, comparing_app, concat_app, convert_app, copying_app, count_rule, equal_app, file_app, files_rule, from_json_app, head_app, indices_rule, nest_app, optional_count_rule, out_rule, printing_app, required_integer_rule, required_rule, rows_app, slice_app, slicing_app, start_rule, take_app, top_app, where_app, with_alias};
+ghost use Rattle.cli_args.specs.CommandLine.{IsArg, IsCommand, columns_rule, command_app, comparing_app, concat_app, convert_app, copying_app, count_app, count_rule, counting_app, equal_app, file_app, files_rule, from_json_app, head_app, indices_rule, nest_app, optional_count_rule, out_rule, printing_app, required_integer_rule, required_rule, rows_app, slice_app, slicing_app, start_rule, tail_app, take_app, top_app, where_app, with_alias};
 
 use clap::{Arg, Command, value_parser};
 use std::alloc::{AllocError, Global};
@@ -148,6 +148,21 @@ fn head<'a>(alloc: Global) -> Result<Command<'a>, AllocError>
     command.arg(optional_count(alloc))
 }
 
+fn tail<'a>(alloc: Global) -> Result<Command<'a>, AllocError>
+    ensures { IfOk result (IsCommand tail_app) }
+{
+    let about = "Print the last rows";
+    let command = file_command(alloc, "tail", about, "Example: nest tail table.arrow 5")?;
+    command.arg(optional_count(alloc))
+}
+
+fn row_count<'a>(alloc: Global) -> Result<Command<'a>, AllocError>
+    ensures { IfOk result (IsCommand count_app) }
+{
+    let about = "Print the number of rows";
+    file_command(alloc, "count", about, "Example: nest count table.arrow")
+}
+
 fn slice<'a>(alloc: Global) -> Result<Command<'a>, AllocError>
     ensures { IfOk result (IsCommand slice_app) }
 {
@@ -236,11 +251,19 @@ fn with_printing<'a>(alloc: Global, top: Command<'a>) -> Result<Command<'a>, All
     second.subcommand(head(alloc)?)
 }
 
-fn with_slices<'a>(alloc: Global, printing: Command<'a>) -> Result<Command<'a>, AllocError>
+fn with_tail<'a>(alloc: Global, printing: Command<'a>) -> Result<Command<'a>, AllocError>
     requires { IsCommand printing_app printing }
+    ensures { IfOk result (IsCommand counting_app) }
+{
+    let first = printing.subcommand(tail(alloc)?)?;
+    first.subcommand(row_count(alloc)?)
+}
+
+fn with_slices<'a>(alloc: Global, counting: Command<'a>) -> Result<Command<'a>, AllocError>
+    requires { IsCommand counting_app counting }
     ensures { IfOk result (IsCommand slicing_app) }
 {
-    let first = printing.subcommand(slice(alloc)?)?;
+    let first = counting.subcommand(slice(alloc)?)?;
     first.subcommand(take(alloc)?)
 }
 
@@ -278,7 +301,8 @@ pub(crate) fn nest<'a>(alloc: Global) -> Result<Command<'a>, AllocError>
         .subcommand_required(true)
         .arg_required_else_help(true);
     let printing = with_printing(alloc, top)?;
-    let slicing = with_slices(alloc, printing)?;
+    let counting = with_tail(alloc, printing)?;
+    let slicing = with_slices(alloc, counting)?;
     let comparing = with_comparison(alloc, slicing)?;
     let copying = with_copies(alloc, comparing)?;
     with_import(alloc, copying)

@@ -3,7 +3,7 @@ ghost use Rattle.std.specs.Prelude.{◌≡◌, [], ◌∷◌, Some, None, codes}
 ghost use Rattle.clap.specs.declared.error.kind.ErrorKind.TheVariants.{InvalidValue, MissingRequiredArgument, UnknownArgument, ValueValidation};
 ghost use Rattle.cli_args.specs.ColumnNames.{column_names};
 ghost use Rattle.cli_args.specs.Requests.{all, indices, named, slice, where_true};
-ghost use Rattle.cli_args.specs.Commands.{concat, from_json, schema};
+ghost use Rattle.cli_args.specs.Commands.{concat, count, from_json, schema, tail};
 ghost use Rattle.cli_args.specs.Examples.{ParsedAs, RefusedWith, Selects};
 
 /// `rows f`; `rows --count 4 f --start=3`; `head f`; `cut f 1 2 -o g`.
@@ -12,6 +12,13 @@ pub fn slices_are_parsed()
     ensures slice { Selects (codes "rows" ∷ codes "--count" ∷ codes "4" ∷ codes "f" ∷ codes "--start=3" ∷ []) (slice 3 4) None }
     ensures head { Selects (codes "head" ∷ codes "f" ∷ []) (slice 0 10) None }
     ensures cut { Selects (codes "cut" ∷ codes "f" ∷ codes "1" ∷ codes "2" ∷ codes "-o" ∷ codes "g" ∷ []) (slice 1 2) (Some (codes "g")) }
+{}
+
+/// `tail f`; `tail f 3 --columns a`; `count -`.
+pub fn last_rows_and_counts_are_parsed()
+    ensures ten { ParsedAs (codes "tail" ∷ codes "f" ∷ []) None (tail (codes "f") 10) }
+    ensures three { ParsedAs (codes "tail" ∷ codes "f" ∷ codes "3" ∷ codes "--columns" ∷ codes "a" ∷ []) (Some (codes "a")) (tail (codes "f") 3) }
+    ensures count { ParsedAs (codes "count" ∷ codes "-" ∷ []) None (count (codes "-")) }
 {}
 
 /// `take f 7 0 7`; `where -- f ok`.

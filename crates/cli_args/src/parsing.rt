@@ -112,6 +112,10 @@ fn command_named<'a>(
     let file = text(matches, "FILE");
     if name == "schema" {
         Ok(Some(Command::Schema(file)))
+    } else if name == "tail" {
+        Ok(Some(Command::Tail(file, required_integer(matches, "COUNT"))))
+    } else if name == "count" {
+        Ok(Some(Command::Count(file)))
     } else if name == "equal" {
         Ok(Some(Command::Equal(file, text(matches, "OTHER"))))
     } else if name == "concat" {

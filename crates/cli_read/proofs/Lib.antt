@@ -17,3 +17,9 @@ mod Positions
 mod RowsAtIndices
 mod IndexedRows
 mod TakeSteps
+mod LastRows
+mod StreamTails
+mod FileTails
+mod Counted
+mod TailLaws
+mod CountLaws

@@ -15,3 +15,7 @@ pub mod Takes
 pub mod TakeStates
 pub mod TakeSteps
 pub mod CompareSteps
+pub mod Counts
+pub mod CountSteps
+pub mod Tails
+pub mod TailSteps

@@ -1,20 +1,26 @@
 //! Examples and laws of inputs read in part. Each function's contract is an example or a law, and its body is empty.
-ghost use Rattle.std.specs.Prelude.{◌≡◌, ◌<◌, ℕ, List, [], ◌∷◌, length, Option, None, Some, Ok, Err, true, false};
+ghost use Rattle.std.specs.Prelude.{◌≡◌, ◌<◌, ◌-◌, ◌++◌, ℕ, List, [], ◌∷◌, length, take, Option, None, Some, Ok, Err, true, false};
+ghost use Rattle.std.specs.List.{AllByRecursion, flat_map};
 ghost use Rattle.ipc_flatbuf.specs.declared.error.IpcReadError as read_errors;
 ghost use Rattle.ipc_flatbuf.specs.declared.error.IpcReadError.TheVariants.{Truncated};
 ghost use Rattle.ipc_schema.specs.Projections.{ProjectionModel};
 ghost use Rattle.cli_args.specs.Requests.{RequestTree, all, indices, rows};
 ghost use Rattle.cli_rows.specs.SelectedTables.{IsSelectedFrom};
 ghost use Rattle.cli_rows.specs.TableExamples.{boolean_table, columnless_table, three_booleans};
-ghost use Rattle.cli_rows.specs.Tables.{TableTree, decoded_table, is_file_prefix};
+ghost use Rattle.ipc.specs.Files.{file_reader_in};
+ghost use Rattle.cli_rows.specs.Rows.{RowSlot};
+ghost use Rattle.cli_rows.specs.Tables.{TableTree, decoded_table, is_file_prefix, record_rows};
+ghost use Rattle.cli_rows.specs.Text.{json_line, text_of_rows};
 ghost use Rattle.cli_rows.specs.declared.difference.Difference.{Difference};
 ghost use Rattle.cli_rows.specs.declared.difference.Difference.TheVariants.{Row, Schema};
 ghost use Rattle.cli_rows.specs.declared.error.CliError.TheVariants.{IndexOutOfRange, Read};
 ghost use Rattle.cli_read.specs.Comparisons.{FailsIn, FailsInSecond, FindsDifference, FindsTableDifference};
+ghost use Rattle.cli_read.specs.Counts.{HasColumnOfRows, total_rows};
 ghost use Rattle.cli_read.specs.Decoded.{Decoded, file_contents, stream_contents};
 ghost use Rattle.cli_read.specs.InputExamples.{broken_input, complete_input, first_batches, unreadable_input};
 ghost use Rattle.cli_read.specs.Inputs.{IsDecodedFrom};
 ghost use Rattle.cli_read.specs.Printed.{HasText, SufficientBatchesPrint};
+ghost use Rattle.cli_read.specs.Tails.{AreLastRows, file_ends, last, stream_ends};
 ghost use Rattle.cli_read.specs.Takes.{IsTakeError, Takes};
 
 /// All record batches of a stream or a file are its decoded table, by the first bytes.
@@ -33,6 +39,19 @@ pub fn an_error_in_a_prefix_is_the_error()
 pub fn prefixes_are_the_first_batches()
     ensures stream { (picks : ProjectionModel) (bytes : List ℕ) (k : ℕ) (h : TableTree) → (stream_contents picks bytes).whole ≡ Ok h → (stream_contents picks bytes).first k ≡ Ok (first_batches h k) }
     ensures file { (picks : ProjectionModel) (bytes : List ℕ) (k : ℕ) (h : TableTree) → (file_contents picks bytes).whole ≡ Ok h → (file_contents picks bytes).first k ≡ Ok (first_batches h k) }
+{}
+
+/// If all record batches decode, the last rows that are found are those of the table. Their lines are the last of those that `rows` prints.
+pub fn last_rows_are_those_of_the_table()
+    ensures stream { (picks : ProjectionModel) (bytes : List ℕ) (n : ℕ) (h : TableTree) (found : List RowSlot) → (stream_contents picks bytes).whole ≡ Ok h → AreLastRows n (Some (stream_ends (stream_contents picks bytes))) found → found ≡ last n (record_rows h) }
+    ensures file { (picks : ProjectionModel) (bytes : List ℕ) (n : ℕ) (h : TableTree) (found : List RowSlot) → (file_contents picks bytes).whole ≡ Ok h → AreLastRows n (Some (file_ends (file_reader_in picks bytes))) found → found ≡ last n (record_rows h) }
+    ensures lines { (n : ℕ) (h : TableTree) → HasText (rows all) h (text_of_rows (take (length (record_rows h) - n) (record_rows h)) ++ text_of_rows (last n (record_rows h))) }
+{}
+
+/// If each record batch has as many rows as its first column, the number of rows is the number of lines that `rows` prints, one for each row.
+pub fn counted_rows_are_the_lines()
+    ensures rows { (h : TableTree) → AllByRecursion HasColumnOfRows h.batches → total_rows h ≡ length (record_rows h) }
+    ensures lines { (h : TableTree) → HasText (rows all) h (flat_map json_line (record_rows h)) }
 {}
 
 /// If the first record batches have all selected rows, they print the text that all record batches print.

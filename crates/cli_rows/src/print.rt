@@ -1,5 +1,5 @@
 //! The text that a request prints.
-ghost use Rattle.std.specs.Prelude.{◌≡◌, IfErr, IfOk, Some, map, option_map, string_bytes};
+ghost use Rattle.std.specs.Prelude.{◌≡◌, IfErr, IfOk, IsOkUnless, Some, map, option_map, string_bytes};
 ghost use Rattle.std.specs.List.{flat_map};
 ghost use Rattle.nest_array.specs.Seen.{layout_of};
 ghost use Rattle.cli_args.specs.Requests.{columns, rows};
@@ -10,6 +10,7 @@ ghost use Rattle.cli_rows.specs.Rows.{rows_of};
 ghost use Rattle.cli_rows.specs.Selection.{selected_rows};
 ghost use Rattle.cli_rows.specs.Tables.{table_of, table_of_parts};
 ghost use Rattle.cli_rows.specs.Text.{text_of_rows};
+ghost use Rattle.cli_rows.specs.declared.error.CliError.TheVariants.{Memory};
 
 use crate::columns::selection_error;
 use crate::error::CliError;
@@ -35,6 +36,20 @@ fn selected_lines(
     match select_rows(alloc, selection, arrays)? {
         None => Err(CliError::IndexOutOfRange),
         Some(windows) => Ok(row_lines(alloc, &windows)?),
+    }
+}
+
+/// Returns the rows of arrays as lines.
+///
+/// # Errors
+/// `Memory` if an allocation fails.
+pub fn array_lines(alloc: Global, arrays: &[AnyArray]) -> Result<String, CliError>
+    ensures text { IfOk result (λ text. string_bytes text ≡ text_of_rows (flat_map rows_of (map layout_of arrays.now))) }
+    ensures error { IsOkUnless result Memory }
+{
+    match selected_lines(alloc, &Selection::All, arrays) {
+        Ok(text) => Ok(text),
+        Err(_) => Err(CliError::Memory),
     }
 }
 

@@ -73,6 +73,21 @@ pub(crate) fn record_arrays(
     }
 }
 
+/// Returns a record batch as one array of records of its columns.
+///
+/// # Errors
+/// `MismatchedColumns` if the columns do not match the schema, or there is no column. `Memory` if an allocation fails.
+pub fn batch_records(alloc: Global, schema: &Schema, batch: Batch) -> Result<AnyArray, CliError>
+    ensures made { IfOk result (λ a. layout_of a ≡ records (record_type (schema_of schema.now).fields) (record_batch_of batch).columns) }
+    ensures error { IfErr result (λ e. IsRowError e (Fits (records (record_type (schema_of schema.now).fields) (record_batch_of batch).columns))) }
+{
+    let fields = schema.fields.as_slice();
+    match record_array(alloc, fields, batch.columns) {
+        Ok(array) => Ok(array),
+        Err(error) => Err(error),
+    }
+}
+
 /// Returns as many nulls as a record batch without a column has rows.
 fn columnless_array(batch: &Batch) -> AnyArray
     ensures { layout_of result ≡ batch_array [] (record_batch_of batch.now) }

@@ -5,3 +5,4 @@ mod StreamSteps
 mod StreamResults
 mod Ranges
 mod FileSteps
+mod Metadata

@@ -10,3 +10,4 @@ pub mod ReaderLaws
 pub mod Seeks
 pub mod FileReaders
 pub mod FileReaderLaws
+pub mod FileMetadata

@@ -78,7 +78,11 @@ fn fill<R: Read>(reader: &mut R, buf: &mut Vec<u8>, want: usize) -> Result<(), R
 
 // Reads the next `n` bytes.
 #[tactic(auto, using(crate::proofs::Messages::failed, crate::proofs::Messages::bytes_fetched, crate::proofs::Messages::bytes_missing))]
-fn fetch_bytes<R: Read>(alloc: Global, reader: &mut R, n: usize) -> Result<Vec<u8>, ReadError>
+pub(crate) fn fetch_bytes<R: Read>(
+    alloc: Global,
+    reader: &mut R,
+    n: usize,
+) -> Result<Vec<u8>, ReadError>
     ensures read { Fetches (spec_first_bytes n) (λ v. v.items) (R.remaining reader.old) (R.remaining reader.new) result }
     ensures length { IfOk result (λ v. length v.items ≡ n) }
 {
@@ -116,7 +120,10 @@ fn metadata_length(word: u32) -> Result<usize, IpcReadError>
 
 // Reads the length of the metadata, after the continuation indicator if there is one. It is 0 at the end of the stream.
 #[tactic(auto, using(crate::proofs::Messages::length_unread, crate::proofs::Messages::length_of_none, crate::proofs::Messages::length_unmarked, crate::proofs::Messages::length_unmarked_invalid, crate::proofs::Messages::length_cut, crate::proofs::Messages::length_unread_after, crate::proofs::Messages::length_invalid, crate::proofs::Messages::length_read))]
-fn fetch_metadata_length<R: Read>(alloc: Global, reader: &mut R) -> Result<usize, ReadError>
+pub(crate) fn fetch_metadata_length<R: Read>(
+    alloc: Global,
+    reader: &mut R,
+) -> Result<usize, ReadError>
     ensures read { Fetches metadata_length_at (λ size. size) (R.remaining reader.old) (R.remaining reader.new) result }
     ensures small { IfOk result (λ size. size < 2 ^ 31) }
 {

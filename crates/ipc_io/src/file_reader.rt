@@ -58,7 +58,7 @@ fn find_footer<R: SeekRead>(alloc: Global, reader: &mut R) -> Result<(usize, usi
 }
 
 // Reads the footer of a file.
-fn find_blocks<R: SeekRead>(
+pub(crate) fn find_blocks<R: SeekRead>(
     alloc: Global,
     columns: Projection<'_>,
     reader: &mut R,

@@ -17,7 +17,7 @@ use copy::{copy_file, copy_selection};
 use ipc_schema::Projection;
 use json_import::from_json;
 use messages::{failed, report_arguments};
-use print::{equal, print_rows, print_schema};
+use print::{equal, print_count, print_rows, print_schema, print_tail};
 use std::env;
 use std::io::ErrorKind;
 use std::process::ExitCode;
@@ -56,6 +56,8 @@ fn run(rt: &HostRuntime, columns: Projection<'_>, command: Command<'_>) -> ExitC
             None => print_rows(rt, columns, file, selection),
             Some(out) => copy_selection(rt, columns, file, selection, out),
         },
+        Command::Tail(file, count) => print_tail(rt, columns, file, count),
+        Command::Count(file) => print_count(rt, columns, file),
         Command::Equal(file, other) => equal(rt, columns, file, other),
         Command::Concat(files, out) => concat(rt, columns, &files, out),
         Command::Convert(file, out) => copy_file(rt, columns, file, Selection::All, out),

@@ -1,11 +1,11 @@
-//! The commands that print: `schema`, `equal`, and those that select rows, without an output.
+//! The commands that print: `schema`, `tail`, `count`, `equal`, and those that select rows, without an output.
 use crate::input::open_input;
 use crate::messages::{InputError, print_comparison, report, report_input};
 use crate::output::StandardOutput;
 use crate::take::print_taken;
 use cli_args::{Request, Selection};
-use cli_read::compare;
-use cli_rows::in_row_order;
+use cli_read::{compare, count_lines, tail_lines};
+use cli_rows::{in_row_order, write_output};
 use ipc_schema::Projection;
 use std::io;
 use std::io::Write;
@@ -76,6 +76,45 @@ pub fn print_rows(
 pub fn print_schema(rt: &HostRuntime, columns: Projection<'_>, file: &str) -> ExitCode {
     let mut out = StandardOutput::new(io::writer(rt));
     let printed = print_fields(rt, columns, file, &mut out);
+    report_printed(rt, columns, file, printed, &out)
+}
+
+fn print_last<W: Write>(
+    rt: &HostRuntime,
+    columns: Projection<'_>,
+    file: &str,
+    count: usize,
+    out: &mut W,
+) -> Result<(), InputError> {
+    let input = open_input(rt, file)?;
+    let text = tail_lines(rt.alloc(), columns, count, input)?;
+    write_output(out, text.as_bytes())?;
+    Ok(())
+}
+
+fn print_row_count<W: Write>(
+    rt: &HostRuntime,
+    columns: Projection<'_>,
+    file: &str,
+    out: &mut W,
+) -> Result<(), InputError> {
+    let input = open_input(rt, file)?;
+    let text = count_lines(rt.alloc(), columns, input)?;
+    write_output(out, text.as_bytes())?;
+    Ok(())
+}
+
+/// Prints the last rows of a file.
+pub fn print_tail(rt: &HostRuntime, columns: Projection<'_>, file: &str, count: usize) -> ExitCode {
+    let mut out = StandardOutput::new(io::writer(rt));
+    let printed = print_last(rt, columns, file, count, &mut out);
+    report_printed(rt, columns, file, printed, &out)
+}
+
+/// Prints the number of rows of a file.
+pub fn print_count(rt: &HostRuntime, columns: Projection<'_>, file: &str) -> ExitCode {
+    let mut out = StandardOutput::new(io::writer(rt));
+    let printed = print_row_count(rt, columns, file, &mut out);
     report_printed(rt, columns, file, printed, &out)
 }
 

@@ -35,6 +35,38 @@ fn slice_of(alloc: Global, arguments: &[&str]) -> Result<Option<(usize, usize)>,
 }
 
 #[test]
+fn last_rows_and_counts_are_parsed(rt: HostRuntime) -> Result<(), Fail> {
+    for (arguments, want) in [
+        (["tail", "f"].as_slice(), Some(10)),
+        (["tail", "f", "3"].as_slice(), Some(3)),
+        (["tail", "--", "f", "+03"].as_slice(), Some(3)),
+        (["tail", "f", "0", "--columns", "a"].as_slice(), Some(0)),
+        (["count", "f"].as_slice(), None),
+        (["count", "--columns=a,b", "f"].as_slice(), None),
+    ] {
+        let all = words(rt.alloc(), arguments)?;
+        match parse_arguments(rt.alloc(), &all)?.command {
+            Command::Tail(file, count) => assert!(rt; file == "f" && want == Some(count)),
+            Command::Count(file) => assert!(rt; file == "f" && want == None),
+            _ => return Err(Fail::from("another command")),
+        }
+    }
+    for arguments in [
+        ["tail"].as_slice(),
+        &["tail", "f", "x"],
+        &["tail", "f", "-1"],
+        &["tail", "f", "1", "2"],
+        &["count"],
+        &["count", "f", "1"],
+        &["count", "f", "-o", "g"],
+    ] {
+        let error = error_of(rt.alloc(), arguments)?;
+        assert!(rt; error.use_stderr());
+    }
+    Ok(())
+}
+
+#[test]
 fn rows_are_selected(rt: HostRuntime) -> Result<(), Fail> {
     let all = Some((0, usize::MAX));
     for (arguments, want) in [
@@ -72,6 +104,8 @@ fn files_of(alloc: Global, arguments: &[&str]) -> Result<String, Fail> {
             format!(in alloc; "where {file} {}", out.unwrap_or(""))?
         }
         Command::Select(_, _, _) => format!(in alloc; "rows")?,
+        Command::Tail(file, count) => format!(in alloc; "tail {file} {count}")?,
+        Command::Count(file) => format!(in alloc; "count {file}")?,
         Command::Equal(file, other) => format!(in alloc; "equal {file} {other}")?,
         Command::Concat(files, out) => {
             format!(in alloc; "concat {} {} {out}", files[0], files.len())?

@@ -5,6 +5,8 @@
 //! | `arguments` | Commands, indices, slices, options and names of outputs |
 //! | `tables` | Schemas and rows as text, errors, and projected columns |
 //! | `printing` | Printing one record batch at a time; errors, and batches that are not read |
+//! | `counting` | Numbers of rows; bodies that are not read; hostile bytes |
+//! | `tailing` | The last rows as lines; record batches that are not read; hostile bytes |
 //! | `comparing` | The first difference of two inputs; which input has an error, and when |
 //! | `copying` | Copies of all rows, of slices, and of rows where a column is true, in either format |
 //! | `concatenating` | Inputs appended to an output; which input has an error |
@@ -23,6 +25,8 @@ mod concatenating;
 #[cfg(test)]
 mod copying;
 #[cfg(test)]
+mod counting;
+#[cfg(test)]
 mod devices;
 #[cfg(test)]
 mod names;
@@ -34,5 +38,7 @@ mod printing;
 mod samples;
 #[cfg(test)]
 mod tables;
+#[cfg(test)]
+mod tailing;
 #[cfg(test)]
 mod taking;

@@ -19,6 +19,13 @@ pub const COMPRESSED: &[u8] = include_bytes!("cli/compressed.arrows");
 /// A file of a column `a` without a record batch.
 pub const EMPTY: &[u8] = include_bytes!("files/valid/no_batches.arrow");
 
+/// A stream with a dictionary, and a file with one.
+pub const DICTIONARIES: &[u8] = include_bytes!("dictionaries/valid/dictionary.arrows");
+pub const DICTIONARY_FILE: &[u8] = include_bytes!("dictionary_files/valid/dictionary.arrow");
+
+/// A file whose messages have no continuation indicator.
+pub const LEGACY_FILE: &[u8] = include_bytes!("files/valid/legacy_framing.arrow");
+
 /// Returns a copy of a sample.
 pub fn bytes_of(alloc: Global, sample: &[u8]) -> Result<Vec<u8>, AllocError> {
     sample.to_vec(alloc)

@@ -1,0 +1,15 @@
+use Rattle.std.proofs.Common.{refl}
+use Rattle.clap.proofs.OnLiterals.{clap_on_literals}
+use Rattle.cli_args.proofs.laws.last_rows_and_counts_are_parsed.Goals as goal
+
+pub returns-clause-ten : goal.returns-clause-ten
+unfolding clap_on_literals
+returns-clause-ten c = (refl, refl)
+
+pub returns-clause-three : goal.returns-clause-three
+unfolding clap_on_literals
+returns-clause-three c = (refl, refl)
+
+pub returns-clause-count : goal.returns-clause-count
+unfolding clap_on_literals
+returns-clause-count c = (refl, refl)

@@ -1,0 +1,17 @@
+use Rattle.std.proofs.lemmas.Result.{IfErr-weaker}
+use Rattle.std.specs.Option.{option_map}
+use Rattle.ipc_schema.specs.Projections.{projection_of}
+use Rattle.cli_read.specs.Decoded.{stream_contents}
+use Rattle.cli_read.specs.Readers.{decoded_reader, reader_schema, remaining_batches}
+use Rattle.cli_read.proofs.Counted.{fails-alike, opened-alike}
+use Rattle.cli_read.proofs.counting.count_stream.Goals as goal
+
+pub returns-in-Ok-clause-error : goal.returns-in-Ok-clause-error
+returns-in-Ok-clause-error g c =
+    let remaining = g.R.Read.remaining in
+    let position = g.R.Seek.stream_position in
+    let bytes = g.R.Seek.stream_bytes in
+    let picks = projection_of c.args.columns in
+    let x = option_map (stream_contents picks) (remaining c.args.device) in
+    let r = c.in-Ok.reader in
+    IfErr-weaker c.count_batches.result _ _ (λ e h. fails-alike picks x (decoded_reader remaining position bytes r) e (opened-alike x (reader_schema r) (remaining_batches remaining position bytes r) c.in-Ok.ensures.opened) c.in-Ok.ensures.names h) c.count_batches.ensures.error

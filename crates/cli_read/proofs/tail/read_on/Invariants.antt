@@ -1,0 +1,13 @@
+use Rattle.std.proofs.Common.{◌≡◌}
+use Rattle.cli_rows.specs.Rows.{rows_of_arrays}
+use Rattle.cli_read.specs.Readers.{reader_schema, remaining_batches}
+use Rattle.cli_read.proofs.StreamTails.{TailState}
+use Rattle.cli_read.proofs.tail.read_on.Given as goal
+
+abbrev pub invariant-loop-k : goal.invariant-loop-k
+invariant-loop-k g l =
+    let left = remaining_batches g.R.Read.remaining g.R.Seek.stream_position g.R.Seek.stream_bytes in
+    record {
+      schema : reader_schema l.reader ≡ reader_schema l.fn.reader;
+      on : TailState l.fn.count (reader_schema l.fn.reader) l.k (left l.fn.reader) (left l.reader) (rows_of_arrays l.found.arrays.items);
+    }
