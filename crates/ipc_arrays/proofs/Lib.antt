@@ -17,3 +17,5 @@ pub mod Needed
 pub mod Keyed
 pub mod PlainBodies
 pub mod WrittenBuffers
+pub mod PackedViews
+pub mod Converting

@@ -46,3 +46,8 @@ pub mod WrittenBuffers
 pub mod CompressedBodies
 pub mod PlainBodyLaws
 pub mod FlatErrorExamples
+-- arrays that are stored otherwise than they are read
+pub mod Views
+pub mod Stored
+pub mod StoredExamples
+pub mod StoredLaws

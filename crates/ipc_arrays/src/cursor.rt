@@ -51,7 +51,9 @@ fn node_counts(node: FieldNode) -> Result<NodeCounts, IpcReadError>
 
 // Returns the counts of the first field node, and the remaining nodes.
 #[tactic(auto, unfolding(crate::specs::Decoding::first_counts))]
-fn split_first_node(nodes: &[FieldNode]) -> Result<(NodeCounts, &[FieldNode]), IpcReadError>
+pub(crate) fn split_first_node(
+    nodes: &[FieldNode],
+) -> Result<(NodeCounts, &[FieldNode]), IpcReadError>
     ensures { Returns (λ x. (x.0, x.1.now)) result (first_counts nodes.now) }
 {
     match nodes {
@@ -61,7 +63,7 @@ fn split_first_node(nodes: &[FieldNode]) -> Result<(NodeCounts, &[FieldNode]), I
 }
 
 #[tactic(auto, unfolding(crate::specs::Decoding::buffer_slice))]
-fn buffer_bytes(body: &[u8], region: BufferSpec) -> Result<&[u8], IpcReadError>
+pub(crate) fn buffer_bytes(body: &[u8], region: BufferSpec) -> Result<&[u8], IpcReadError>
     ensures { Returns (λ x. x.now) result (buffer_slice body.now region.offset region.length) }
 {
     if region.offset < 0 || region.length < 0 {

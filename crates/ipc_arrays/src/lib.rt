@@ -27,6 +27,7 @@ mod projected;
 mod projected_buffers;
 pub mod read_examples;
 mod reading;
+pub mod stored;
 mod strings;
 mod struct_;
 mod union;

@@ -23,7 +23,7 @@ pub struct ProjectionCursor<'a> {
 }
 
 #[tactic(auto, unfolding(crate::specs::Projection::skip_first))]
-fn skip_nodes(count: usize, nodes: &[FieldNode]) -> Result<&[FieldNode], IpcReadError>
+pub(crate) fn skip_nodes(count: usize, nodes: &[FieldNode]) -> Result<&[FieldNode], IpcReadError>
     ensures { Returns (λ s. s.now) result (skip_first NodeCount count nodes.now) }
 {
     if count <= nodes.len() {
@@ -85,7 +85,7 @@ pub(crate) fn skip_views<'a>(
 
 // Skips a column.
 #[tactic(auto, unfolding(crate::specs::Projection::skipped_column))]
-fn pass(
+pub(crate) fn skip_column(
     span: SkippedField,
     ahead: ProjectionCursor<'_>,
 ) -> Result<ProjectionCursor<'_>, IpcReadError>
@@ -117,7 +117,7 @@ fn read_steps<'a, A: HasDataType>(
     let mut at = ahead;
     for step in steps {
         match *step {
-            FieldAction::Skip(span) => match pass(span, at) {
+            FieldAction::Skip(span) => match skip_column(span, at) {
                 Err(error) => return Err(error),
                 Ok(tail) => at = tail,
             },

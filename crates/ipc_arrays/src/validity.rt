@@ -25,7 +25,7 @@ fn keep_if_nulls(nulls: usize, bits: Bitmap) -> Option<Bitmap>
 }
 
 #[tactic(auto, unfolding(crate::specs::Decoding::decoded_validity))]
-fn read_validity(
+pub(crate) fn read_validity(
     alloc: Global,
     counts: NodeCounts,
     bytes: &[u8],

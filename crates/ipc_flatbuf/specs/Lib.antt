@@ -17,6 +17,7 @@ pub mod MessageExamples
 pub mod Compression
 pub mod Batches
 pub mod VariadicBuffers
+pub mod StoredArrays
 pub mod BatchBytes
 pub mod BatchLaws
 pub mod DictionaryBytes

@@ -19,7 +19,7 @@ pub use batch::{BufferSpec, FieldNode};
 pub use compression::{CompressionCodec, CompressionError};
 pub use error::{IpcReadError, IpcWriteError};
 pub use numbers::{i16_at, i32_at, i64_at, non_negative, offset_at, u8_at, u16_at, u32_at, u64_at};
-pub use projection::{FieldAction, SkippedField};
+pub use projection::{FieldAction, SkippedField, StoredArray, are_read_as_stored, are_views_read};
 pub use tables::{
     FlatbufferTable, field_position, i16_field, i32_field, i64_field, offset_field, table_at,
     u8_field,
