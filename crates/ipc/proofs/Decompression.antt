@@ -8,11 +8,12 @@ use Rattle.ipc_flatbuf.specs.declared.compression.error.CompressionError.{Compre
 use Rattle.ipc_flatbuf.specs.ReadResults.{FailsOrRunsOut}
 use Rattle.ipc_flatbuf.specs.Compression.{read_error_of}
 use Rattle.ipc_arrays.specs.CompressionResults as decoding
-use Rattle.ipc.specs.PlainBuffers.{read_result_of, all_needed}
+use Rattle.ipc_arrays.specs.Stored.{with_read_error}
+use Rattle.ipc.specs.PlainBuffers.{all_needed}
 
 -- an error other than Memory is not read as Memory
-pub read_fails : {A : Type 0} (e : CompressionError) (f : IpcReadError) (read : Result A CompressionError) → f ≡ read_error_of e → decoding.FailsOrRunsOut e read → FailsOrRunsOut f (read_result_of read)
-read_fails {A} e f read is h = λ known. ap read_result_of (h (λ memory. known (is ∙ ap read_error_of memory))) ∙ ap (λ (g : IpcReadError). Err g) (sym is)
+pub read_fails : {A : Type 0} (e : CompressionError) (f : IpcReadError) (read : Result A CompressionError) → f ≡ read_error_of e → decoding.FailsOrRunsOut e read → FailsOrRunsOut f (with_read_error read)
+read_fails {A} e f read is h = λ known. ap with_read_error (h (λ memory. known (is ∙ ap read_error_of memory))) ∙ ap (λ (g : IpcReadError). Err g) (sym is)
 
 -- one more flag
 pub needed_more : (buffers : List BufferSpec) (i : ℕ) (old new : List Bool) → i < length buffers → new ≡ old ++ true ∷ [] → old ≡ all_needed (take i buffers) → new ≡ all_needed (take (i + 1) buffers)

@@ -16,14 +16,12 @@ use Rattle.ipc.specs.FileDictionaries.{spec_any_replaced}
 use Rattle.ipc_schema.specs.ProjectionLaws.{all_written}
 use Rattle.ipc_schema.specs.ProjectedSchemas.{stream_projected_schema_at}
 use Rattle.ipc_schema.specs.Projections.{all}
-use Rattle.ipc_schema.specs.Schemas.{SchemaModel, stream_schema_at}
+use Rattle.ipc_schema.specs.Schemas.{SchemaModel}
 use Rattle.ipc_schema.specs.SchemaBytes.{schema_message}
-use Rattle.ipc_schema.specs.SchemaLaws.{with_dictionary_ids}
 use Rattle.ipc.specs.Streams.{RecordBatchTree, StateTree, start}
 use Rattle.ipc.specs.SliceStreamReaders.{state_in}
 use Rattle.ipc.specs.EncodedStreams.{batch_tree, pending_by, stream_dictionary_batches, spec_is_column, spec_are_columns, or_error, size_error_if, message_error, record_batch_error, dictionary_error, each_error, batch_error, IsErrorOrMemory}
 use Rattle.ipc.specs.EncodedFiles.{state_or, FileState, file_dictionary_batches, record_batch_block_error, replaced_error, dictionary_batches_error, file_batch_error}
-use Rattle.ipc.specs.EncodedStreamLaws.{whole_schema}
 use Rattle.ipc.specs.EncodedBatches.{IsMetadata, first_refused, later_refused, both_accepted}
 
 -- ---- columns
@@ -143,8 +141,8 @@ module _ (types : List TypeTree) (b : RecordBatchTree) (are : spec_are_columns t
 -- ---- the schema
 
 -- after a written schema nothing is known
-pub known_start : (s : SchemaModel) (message : List ℕ) (t : StateTree) → message ≡ schema_message s → ((after : List ℕ) → stream_schema_at (schema_message s ++ after) ≡ Ok (with_dictionary_ids s, after)) → state_in message ≡ Ok t → t ≡ start (all_written s)
+pub known_start : (s : SchemaModel) (message : List ℕ) (t : StateTree) → message ≡ schema_message s → ((after : List ℕ) → stream_projected_schema_at all (schema_message s ++ after) ≡ Ok (all_written s, after)) → state_in message ≡ Ok t → t ≡ start (all_written s)
 known_start s message t is keyed read =
-    let whole : stream_projected_schema_at all (schema_message s) ≡ Ok (all_written s, []) = ap (stream_projected_schema_at all) (sym (append-nil (schema_message s))) ∙ whole_schema s [] (keyed []) in
+    let whole : stream_projected_schema_at all (schema_message s) ≡ Ok (all_written s, []) = ap (stream_projected_schema_at all) (sym (append-nil (schema_message s))) ∙ keyed [] in
     let again : state_in message ≡ Ok (start (all_written s)) = ap state_in is ∙ rw whole refl in
     ap (state_or t) (sym read ∙ again)

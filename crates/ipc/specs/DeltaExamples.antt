@@ -53,6 +53,7 @@ abbrev shelves : ProjectedSchemaModel
 shelves = record {
   schema = record { fields = field (97 ∷ []) (by_key record_type) false [] ∷ []; metadata = [] };
   steps = [];
+  arrays = [];
   seen = record { ids = pos 0 ∷ pos 1 ∷ []; named = (pos 0, record { values = record_type; inside = pos 1 ∷ [] }) ∷ (pos 1, record { values = types.utf8; inside = [] }) ∷ [] };
 }
 

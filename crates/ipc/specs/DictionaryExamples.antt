@@ -11,6 +11,7 @@ use Rattle.nest_memory.specs.declared.datatypes.physical_type.PrimitiveType.TheV
 use Rattle.nest_model.specs.Layout.{Layout, primitive, utf8, dictionary}
 use Rattle.ipc_flatbuf.specs.declared.error.IpcReadError.TheVariants.{MissingDictionary, UnknownDictionary, DuplicateDictionary}
 use Rattle.ipc_flatbuf.specs.declared.projection.FieldAction.TheVariants.{Read, Skip}
+use Rattle.ipc_flatbuf.specs.declared.projection.StoredArray.TheVariants.{Plain, Skipped}
 use Rattle.ipc_flatbuf.specs.Flatbuffers.{spec_offset_at, spec_back_from, spec_table_at, spec_field_position, spec_charge_budget, spec_read_table, spec_read_vector, structs_at, spec_items_at, vector_at}
 use Rattle.ipc_flatbuf.specs.Messages.{MessageModel}
 use Rattle.ipc_flatbuf.specs.declared.message.types.MessageKind.{MessageKind}
@@ -59,6 +60,7 @@ abbrev pub colors : ProjectedSchemaModel
 colors = record {
   schema = record { fields = field (97 ∷ []) (types.dictionary Int32 types.utf8 false) false [] ∷ []; metadata = [] };
   steps = Read ∷ [];
+  arrays = Plain 2 ∷ [];
   seen = record { ids = pos 0 ∷ []; named = (pos 0, record { values = types.utf8; inside = [] }) ∷ [] };
 }
 
@@ -76,11 +78,11 @@ rows one other = record {
 
 -- the same stream with the column skipped
 abbrev passed : StateTree
-passed = start (record { schema = record { fields = []; metadata = [] }; steps = Skip (record { nodes = 1; buffers = 2; views = 0; has_union = false; has_dictionary = true }) ∷ []; seen = record { ids = []; named = [] } })
+passed = start (record { schema = record { fields = []; metadata = [] }; steps = Skip (record { nodes = 1; buffers = 2; views = 0; has_union = false; has_dictionary = true }) ∷ []; arrays = Skipped (record { nodes = 1; buffers = 2; views = 0; has_union = false; has_dictionary = true }) ∷ []; seen = record { ids = []; named = [] } })
 
 -- one without a dictionary field
 abbrev plain : StateTree
-plain = start (record { schema = record { fields = []; metadata = [] }; steps = []; seen = record { ids = []; named = [] } })
+plain = start (record { schema = record { fields = []; metadata = [] }; steps = []; arrays = []; seen = record { ids = []; named = [] } })
 
 text_97 : is_utf8 (97 ∷ []) ≡ true
 text_97 = is_utf8-from_IsUtf8 (97 ∷ []) (IsUtf8-from_ascii (97 ∷ []) (search (rules, arith)))

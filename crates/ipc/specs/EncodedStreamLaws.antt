@@ -25,12 +25,13 @@ use Rattle.ipc_flatbuf.specs.declared.message.types.MetadataVersion.TheVariants.
 use Rattle.ipc_schema.specs.Dictionaries.{ValueTypeModel, DictionaryTypesModel}
 use Rattle.ipc_schema.specs.WriteChecks.{check_fields}
 use Rattle.ipc_schema.specs.OutermostIds.{spec_outermost_ids}
-use Rattle.ipc_schema.specs.ProjectionLaws.{read_actions, all_projected, all_written, stream_projection_of_all_is_schema}
+use Rattle.ipc_schema.specs.ProjectionLaws.{read_actions, all_written, written_as_stored}
+use Rattle.ipc_schema.specs.StoredArrays.{stored_arrays}
+use Rattle.ipc_schema.specs.StoredArrayLaws.{no_views}
 use Rattle.ipc_schema.specs.ProjectedSchemas.{ProjectedSchemaModel, stream_projected_schema_at, spec_check_projected_version}
 use Rattle.ipc_schema.specs.Projections.{all}
-use Rattle.ipc_schema.specs.Schemas.{SchemaModel, stream_schema_at}
+use Rattle.ipc_schema.specs.Schemas.{SchemaModel}
 use Rattle.ipc_schema.specs.SchemaBytes.{schema_message}
-use Rattle.ipc_schema.specs.SchemaLaws.{with_dictionary_ids}
 use Rattle.ipc_flatbuf.specs.Batches.{batch_at}
 use Rattle.ipc_flatbuf.specs.BatchLaws.{BatchRoundTrips as BatchMetadataRoundTrips}
 use Rattle.ipc_flatbuf.specs.DictionaryBytes.{delta_byte}
@@ -113,7 +114,7 @@ arrays_again b m s batch body over reads =
     ap (λ (ts : List TypeTree). decoded_columns ts b.rows (columns_body columns) rest) (types_are types b.rows columns reads.columns) ∙ back.read b.rows (lengths_are types b.rows columns reads.columns) in
     let picked : decoded_projection (read_actions fields) types b.rows (columns_body columns) (record { rest = rest; more = [] }) ≡ Ok (read_columns s.known columns) =
     ap (λ (steps : List FieldAction). decoded_projection steps types b.rows (columns_body columns) (record { rest = rest; more = [] })) (steps_same fields) ∙ projection_same types b.rows (columns_body columns) (record { rest = rest; more = [] }) ∙ read in
-    rw (batch, whole.steps, none_viewed fields, values, body, picked) refl
+    rw (batch, whole.steps, none_viewed fields, no_views s.picked.arrays whole.arrays, whole.arrays, values, body, picked) refl
 
 pub batch_again : (b : RecordBatchTree) → BatchMetadataRoundTrips (batch_tree b) (batch_head b) (columns_body b.columns) → RoundTripOverExtensions b.columns → RecordBatchRoundTrips b
 unfolding batch_bytes
@@ -178,7 +179,7 @@ values_known p once s message over reads =
     only_of v.values (len c) (columns_body (c ∷ [])) (written_rest (c ∷ []) (again.entry_values s.known (own_entries (suc id) c))) (read_values s.known id c) back.read in
     let at : data_in once (is_some (known_at s.known p.1.0)) m.metadata message.table ≡ Ok (message.position, p.0) = data_again p once s message reads in
     let same : read_values s.known id c ≡ read_values s.known (number_of p.1.0) c = ap (λ (n : ℕ). read_values s.known n c) (sym number) in
-    rw (message.visited, message.same_id, named.values, at, message.same_batch, values, message.same_body, column, same) refl
+    rw (message.visited, message.same_id, named.values, at, message.same_batch, no_views (stored_arrays v.values) named.stored, named.stored, values, message.same_body, column, same) refl
 
 pub dictionary_again : (p : DictionaryBatchTree) → IsBack p → RoundTripOverExtensions (p.1.1 ∷ []) → DictionaryRoundTrips p
 unfolding dictionary_bytes
@@ -261,7 +262,7 @@ pub part_named : (s : StateTree) (emitted : DictionaryEntries) (b : RecordBatchT
 part_named s emitted b ok behind columns = are_named s.picked.schema.fields b.columns behind.form (types_are (column_types s.picked.schema) b.rows b.columns columns) ok.fits
 
 pub still_behind : (s : StateTree) (emitted : DictionaryEntries) (b : RecordBatchTree) → BatchRoundTrips (stream_dictionary_batches emitted b) b → IsBehind s emitted → IsBehind (behind_batch s emitted b) (emitted_after emitted b)
-still_behind s emitted b ok behind = record { whole = record { steps = behind.whole.steps; seen = behind.whole.seen }; form = behind.form; follows = (part_known s emitted b ok behind).follows }
+still_behind s emitted b ok behind = record { whole = record { steps = behind.whole.steps; arrays = behind.whole.arrays; seen = behind.whole.seen }; form = behind.form; follows = (part_known s emitted b ok behind).follows }
 
 -- a record batch after its pending dictionaries is the next one, and these are known
 pub part_next : (s : StateTree) (emitted : DictionaryEntries) (b : RecordBatchTree) (rest : List ℕ) → BatchRoundTrips (stream_dictionary_batches emitted b) b → IsBehind s emitted → spec_are_columns (column_types s.picked.schema) b.rows b.columns ≡ true
@@ -274,7 +275,7 @@ part_next s emitted b rest ok behind columns =
     let each : AllByRecursion (IsNamed (seen_of_fields s.picked.schema.fields).named) es = columns_needed_of (IsNamed (seen_of_fields s.picked.schema.fields).named) emitted 0 b.columns named.each in
     let here : AllByRecursion (IsNamed s.picked.seen.named) es = subst (λ (seen : DictionaryTypesModel). AllByRecursion (IsNamed seen.named) es) (sym behind.whole.seen) each in
     let next : StateTree = behind_batch s emitted b in
-    let reads : CanReadBatch next b = record { whole = record { steps = behind.whole.steps; seen = behind.whole.seen }; columns = columns; named = named; known = covers_all next.known (columns_own 0 b.columns) all.own } in
+    let reads : CanReadBatch next b = record { whole = record { steps = behind.whole.steps; arrays = behind.whole.arrays; seen = behind.whole.seen }; columns = columns; named = named; known = covers_all next.known (columns_own 0 b.columns) all.own } in
     ap (next_in s) (append_assoc (flat_map dictionary_bytes (stream_dictionary_batches emitted b)) (batch_bytes b) rest)
     ∙ all_values_next es s (batch_bytes b ++ rest) ok.dictionaries here all.order
     ∙ batch_next b ok.batch next rest reads
@@ -326,16 +327,12 @@ nothing_follows : Follows [] []
 nothing_follows id c h = cc
 
 pub starts_behind : (s : SchemaModel) → check_fields s.fields ≡ Ok tt → IsBehind (written_start s) []
-starts_behind s form = record { whole = record { steps = refl; seen = refl }; form = form; follows = nothing_follows }
+starts_behind s form = record { whole = record { steps = refl; arrays = written_as_stored s form; seen = refl }; form = form; follows = nothing_follows }
 
 pub same_batches : (s : SchemaModel) (bs : List RecordBatchTree) → check_fields s.fields ≡ Ok tt → BatchesRoundTrip stream_dictionary_batches [] bs → AreSameBatches bs (decoded_batches bs)
 same_batches s bs form ok = same_each (written_start s) [] bs ok (starts_behind s form)
 
--- a written schema is read with all of its columns
-pub whole_schema : (s : SchemaModel) (after : List ℕ) → stream_schema_at (schema_message s ++ after) ≡ Ok (with_dictionary_ids s, after) → stream_projected_schema_at all (schema_message s ++ after) ≡ Ok (all_written s, after)
-whole_schema s after keyed = stream_projection_of_all_is_schema (schema_message s ++ after) ∙ ap (λ (r : Result ((SchemaModel × DictionaryTypesModel) × List ℕ) IpcReadError). r >>= λ x. Ok (all_projected x.0.0 x.0.1, x.1)) keyed
-
-pub stream_round_trips : (s : SchemaModel) (bs : List RecordBatchTree) (rest : List ℕ) → ((after : List ℕ) → stream_schema_at (schema_message s ++ after) ≡ Ok (with_dictionary_ids s, after)) → check_fields s.fields ≡ Ok tt → batches_error (column_types s) [] bs ≡ None → BatchesRoundTrip stream_dictionary_batches [] bs
+pub stream_round_trips : (s : SchemaModel) (bs : List RecordBatchTree) (rest : List ℕ) → ((after : List ℕ) → stream_projected_schema_at all (schema_message s ++ after) ≡ Ok (all_written s, after)) → check_fields s.fields ≡ Ok tt → batches_error (column_types s) [] bs ≡ None → BatchesRoundTrip stream_dictionary_batches [] bs
     → stream_in (encoded_stream s bs ++ rest) ≡ Ok (decoded_stream s bs (length (encoded_stream s bs)))
 unfolding encoded_messages projected_stream_in
 stream_round_trips s bs rest keyed form none ok =
@@ -343,4 +340,4 @@ stream_round_trips s bs rest keyed form none ok =
     let bytes : encoded_stream s bs ++ rest ≡ schema_message s ++ behind = simp append_assoc in
     let size : length (encoded_stream s bs ++ rest) - length rest ≡ length (encoded_stream s bs) = omega (arith, length-append (encoded_stream s bs) rest) in
     let again : length (schema_message s ++ behind) - length rest ≡ length (encoded_stream s bs) = ap (λ (x : List ℕ). length x - length rest) (sym bytes) ∙ size in
-    rw (bytes, whole_schema s behind (keyed behind), batches_again (written_start s) [] bs rest ok (starts_behind s form) none, again) refl
+    rw (bytes, keyed behind, batches_again (written_start s) [] bs rest ok (starts_behind s form) none, again) refl

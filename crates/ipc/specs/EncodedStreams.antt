@@ -12,6 +12,7 @@ use Rattle.ipc_flatbuf.specs.Messages.{MessageModel, message_at}
 use Rattle.ipc_flatbuf.specs.MessageBytes.{metadata_size, end_of_stream}
 use Rattle.ipc_flatbuf.specs.declared.message.types.MessageKind.TheVariants.{DictionaryBatch, RecordBatch}
 use Rattle.ipc_flatbuf.specs.declared.message.types.MetadataVersion.TheVariants.{V5}
+use Rattle.ipc_flatbuf.specs.StoredArrays.{reads_as_stored}
 use Rattle.ipc_schema.specs.Schemas.{SchemaModel}
 use Rattle.ipc_schema.specs.WriteChecks.{check_fields}
 use Rattle.ipc_schema.specs.ProjectionLaws.{read_actions}
@@ -198,6 +199,7 @@ pub record IsMessage (bytes head body : List ℕ) (m : MessageModel) : Type 0 wh
 -- a state after a written schema, with all columns
 pub record HasAllColumns (s : StateTree) : Type 0 where
   pub steps : s.picked.steps ≡ read_actions s.picked.schema.fields
+  pub arrays : reads_as_stored s.picked.arrays ≡ true
   pub seen : s.picked.seen ≡ seen_of_fields s.picked.schema.fields
 
 -- a record batch can be read in a state: the dictionaries that its columns name are known

@@ -1,6 +1,6 @@
 -- The dictionary batches of a file: values that begin with others have their slots, then those of the delta, which is an array over the same dictionaries, under
 -- the same id.
-use Rattle.std.proofs.Common.{◌≡◌, ℕ, suc, ◌+◌, ◌-◌, ◌*◌, ◌≤◌, Bool, true, false, List, [], ◌∷◌, ◌++◌, length, take, drop, Option, Some, None, refl, sym, ap, ◌∙◌, arith}
+use Rattle.std.proofs.Common.{◌≡◌, ℕ, suc, ◌+◌, ◌-◌, ◌*◌, ◌≤◌, Bool, true, false, List, [], ◌∷◌, ◌++◌, length, take, drop, Option, Some, None, refl, sym, ap, subst, ◌∙◌, arith}
 use Rattle.std.specs.Prelude.{ℤ, pos, ◌==◌, nat_le, if◌then◌else◌}
 use Rattle.std.specs.Cmp.{first_so, second_so}
 use Rattle.std.specs.List.{AllByRecursion}
@@ -21,6 +21,8 @@ use Rattle.ipc_schema.specs.DictionaryIds.{ids_from}
 use Rattle.ipc_schema.specs.OutermostIds.{ValueTypes, spec_outermost_ids}
 use Rattle.ipc.specs.DictionaryEntries.{DictionaryEntries, count_dictionaries, count_each_dictionaries, own_entries, each_own, entries_in, each_entries, columns_entries}
 use Rattle.ipc.specs.KnownDictionaryLaws.{all_both, columns_needed_of}
+use Rattle.ipc_flatbuf.specs.StoredArrays.{reads_as_stored}
+use Rattle.ipc_schema.specs.StoredArrays.{stored_arrays}
 use Rattle.ipc.specs.SchemaIds.{entry_ids, values_of, IsNamed}
 use Rattle.ipc.specs.PendingDictionaries.{entry_at, pending}
 use Rattle.ipc.specs.FileDictionaries.{DictionaryBatchTree, spec_delta_values, spec_begins_with, batches_for, spec_dictionary_batches}
@@ -99,6 +101,7 @@ named_behind named id c n h =
       number = h.number;
       values = h.values ∙ ap (λ (v : ValueTypeModel). Some v) same;
       outer = ap (λ (v : ValueTypeModel). spec_outermost_ids named v.inside) (sym same) ∙ h.outer ∙ ap entry_ids (sym (own_cut (suc h.id) c n (len c - n)));
+      stored = subst (λ (v : ValueTypeModel). reads_as_stored (stored_arrays v.values) ≡ true) same h.stored;
     }
 
 -- ---- pending dictionaries, and their batches

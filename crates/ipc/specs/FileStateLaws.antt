@@ -36,6 +36,8 @@ use Rattle.ipc.specs.DistinctIdLaws.{AreDistinct, needed_apart}
 use Rattle.ipc.specs.DictionaryEntries.{DictionaryEntries, own_entries, columns_own}
 use Rattle.ipc.specs.KnownDictionaries.{IsKnown, AreKnown, Covers, Follows, number_of, read_values, known_with}
 use Rattle.ipc.specs.KnownDictionaryLaws.{entry_put, entry_kept, known_by, IsOther, IsSent, AreSentInOrder, all_parts, columns_needed_of, columns_own_of, needed_sent}
+use Rattle.ipc_flatbuf.specs.StoredArrays.{reads_as_stored}
+use Rattle.ipc_schema.specs.ProjectionLaws.{written_as_stored}
 use Rattle.ipc.specs.SchemaIds.{IsNamed, AreNamed, seen_of_fields}
 use Rattle.ipc.specs.SchemaIdLaws.{are_named}
 use Rattle.ipc.specs.PendingDictionaries.{entry_at, with_entries}
@@ -326,7 +328,7 @@ pub record IsBehindFile (f : FileState) : Type 0 where
 -- after the schema nothing was emitted, and nothing is known
 pub starts_file : (s : SchemaModel) → check_fields s.fields ≡ Ok tt → IsBehindFile (file_state_start s)
 starts_file s form = record {
-  whole = record { steps = refl; seen = refl };
+  whole = record { steps = refl; arrays = written_as_stored s form; seen = refl };
   form = form;
   keeps = record { follows = λ id c h. cc; just = λ id none. refl; arrays = λ id. tt };
 }
@@ -359,6 +361,7 @@ is_accepted types f b none =
 still_whole : (s t : StateTree) → t.picked ≡ s.picked → HasAllColumns s → HasAllColumns t
 still_whole s t same at = record {
   steps = subst (λ (p : ProjectedSchemaModel). p.steps ≡ read_actions p.schema.fields) (sym same) at.steps;
+  arrays = subst (λ (p : ProjectedSchemaModel). reads_as_stored p.arrays ≡ true) (sym same) at.arrays;
   seen = subst (λ (p : ProjectedSchemaModel). p.seen ≡ seen_of_fields p.schema.fields) (sym same) at.seen;
 }
 

@@ -1,5 +1,5 @@
 -- After the dictionary batches of a file only more is known, and record batches decode as before.
-use Rattle.std.specs.Prelude.{◌≡◌, ℕ, ℤ, pos, Bool, true, false, nat_lt, List, [], ◌∷◌, map, Option, Some, None, is_some, ◌⊎◌, IfSome, ◌++◌, Result, Ok, Err, IfOk, refl, not, ◌&&◌}
+use Rattle.std.specs.Prelude.{◌≡◌, ℕ, ℤ, pos, Bool, true, false, nat_lt, List, [], ◌∷◌, map, Option, Some, None, is_some, ◌⊎◌, IfSome, ◌++◌, Result, Ok, Err, IfOk, refl, not, ◌&&◌, if◌then◌else◌}
 use Rattle.std.proofs.Common.{sym, ap, subst, inl, inr, ◌∙◌, append_assoc}
 use Rattle.std.specs.BTreeMap.{insert_entry}
 use Rattle.std.specs.Cmp.{Equal-is}
@@ -20,11 +20,15 @@ use Rattle.ipc_flatbuf.specs.Messages.{MessageModel}
 use Rattle.ipc_schema.specs.Dictionaries.{ValueTypeModel}
 use Rattle.ipc_schema.specs.OutermostIds.{spec_outermost_ids}
 use Rattle.ipc_schema.specs.ProjectedSchemas.{ProjectedSchemaModel}
+use Rattle.ipc_schema.specs.StoredArrays.{stored_arrays}
+use Rattle.ipc_schema.specs.StoredTypes.{read_type}
+use Rattle.ipc_flatbuf.specs.StoredArrays.{reads_as_stored}
 use Rattle.ipc_flatbuf.specs.declared.batch.parts.BufferSpec.{BufferSpec}
 use Rattle.ipc_flatbuf.specs.Batches.{BatchModel, batch_at}
 use Rattle.ipc_arrays.specs.Decoding.{Rest, with_buffers, decoded_column, checked_exhausted}
 use Rattle.ipc_arrays.specs.Projection.{decoded_projection}
 use Rattle.ipc_arrays.specs.NeededBuffers.{spec_needed_buffers}
+use Rattle.ipc_arrays.specs.Stored.{ConvertedParts, converted_batch}
 use Rattle.ipc_arrays.specs.DecodingLaws.{after, found, checked}
 use Rattle.ipc_arrays.specs.ReplacedValues.{IsExtendedBy}
 use Rattle.ipc_arrays.specs.declared.cursor.ExpectedLength.TheVariants.{Rows}
@@ -37,8 +41,8 @@ use Rattle.ipc.specs.ExtendedDictionaries.{IsExtended, AllExtended, HasExtendedD
 use Rattle.ipc.specs.ExtendedColumns.{read_too, read_weaker, AreReadAlike, column_fits, grown_self, picked_next}
 use Rattle.ipc.specs.ExtendedReads.{Anything, any_read, then_read, then_same}
 use Rattle.ipc.specs.UnionOffsets.{spec_union_offsets_overflow}
-use Rattle.ipc.specs.PlainBuffers.{plain_buffers, all_needed}
-use Rattle.ipc.specs.Streams.{Known, StateTree, RecordBatchTree, known_at, values_at, batch_rest, column_types, spec_variadic_counts, columns_in, record_batch_in, named_in, spec_data_position, spec_check_order, spec_only_column, spec_with_values, column_in_batch, data_in, new_values_in, found_values, found_in, with_found, dictionary_in, spec_contains_id, with_delta, spec_joined_values}
+use Rattle.ipc.specs.PlainBuffers.{plain_buffers, all_needed, without_dictionaries}
+use Rattle.ipc.specs.Streams.{Known, StateTree, RecordBatchTree, known_at, values_at, batch_rest, column_types, spec_variadic_counts, plain_columns_in, converted_columns_in, columns_in, record_batch_in, named_in, spec_data_position, spec_check_order, spec_only_column, plain_column_in, converted_column_in, only_column_in, counts_of_arrays, spec_with_values, column_in_batch, data_in, new_values_in, found_values, found_in, with_found, dictionary_in, spec_contains_id, with_delta, spec_joined_values}
 use Rattle.ipc.specs.EncodedStreams.{IsSameBatch}
 
 -- ---- more is known
@@ -106,10 +110,14 @@ abbrev columns_over : ProjectedSchemaModel → MessageModel → List ℤ → Bat
 columns_over p m counts batch known = columns_in batch.compression p batch.rows m.body (record { rest = batch_rest known (spec_outermost_ids p.seen.named p.seen.ids) batch; more = counts })
 
 abbrev batch_over : ProjectedSchemaModel → MessageModel → Known → Result RecordBatchTree IpcReadError
-batch_over p m known = batch_at m.metadata m.root.header m.root.left m.root.body_length >>= λ batch. spec_variadic_counts p.steps m >>= λ counts. columns_over p m counts batch known >>= λ columns. Ok (record { rows = batch.rows; columns = columns })
+batch_over p m known = batch_at m.metadata m.root.header m.root.left m.root.body_length >>= λ batch. spec_variadic_counts p m >>= λ counts. columns_over p m counts batch known >>= λ columns. Ok (record { rows = batch.rows; columns = columns })
 
-columns_later : (p : ProjectedSchemaModel) (m : MessageModel) (counts : List ℤ) (batch : BatchModel) (known more : Known) → KnowsMore known more → ReadTogether AreSameArrays (columns_over p m counts batch known) (columns_over p m counts batch more)
-columns_later p m counts batch known more h =
+-- where the arrays are read as they are stored
+abbrev plain_over : ProjectedSchemaModel → MessageModel → List ℤ → BatchModel → Known → Result (List Layout) IpcReadError
+plain_over p m counts batch known = plain_columns_in batch.compression p batch.rows m.body (record { rest = batch_rest known (spec_outermost_ids p.seen.named p.seen.ids) batch; more = counts })
+
+plain_later : (p : ProjectedSchemaModel) (m : MessageModel) (counts : List ℤ) (batch : BatchModel) (known more : Known) → KnowsMore known more → ReadTogether AreSameArrays (plain_over p m counts batch known) (plain_over p m counts batch more)
+plain_later p m counts batch known more h =
     let ids : List ℤ = spec_outermost_ids p.seen.named p.seen.ids in
     let types : List TypeTree = column_types p.schema in
     let plain : Result (List BufferSpec × List ℕ) IpcReadError = plain_buffers batch.compression m.body batch.buffers (spec_needed_buffers p.steps types counts batch.buffers) in
@@ -121,10 +129,34 @@ columns_later p m counts batch known more h =
     read_weaker (AreReadAlike r) AreSameArrays (decoded_projection p.steps types batch.rows x.1 (record { rest = r; more = counts })) (decoded_projection p.steps types batch.rows x.1 (record { rest = s; more = counts })) (λ xs ys alike. alike.same)
     (picked_next p.steps types batch.rows x.1 counts r s over))
 
+-- where some array is not
+abbrev converted_over : ProjectedSchemaModel → MessageModel → List ℤ → BatchModel → Known → Result (List Layout) IpcReadError
+converted_over p m counts batch known = converted_columns_in batch.compression p batch.rows m.body (record { rest = batch_rest known (spec_outermost_ids p.seen.named p.seen.ids) batch; more = counts })
+
+converted_later : (p : ProjectedSchemaModel) (m : MessageModel) (counts : List ℤ) (batch : BatchModel) (known more : Known) → KnowsMore known more → ReadTogether AreSameArrays (converted_over p m counts batch known) (converted_over p m counts batch more)
+converted_later p m counts batch known more h =
+    let ids : List ℤ = spec_outermost_ids p.seen.named p.seen.ids in
+    let types : List TypeTree = column_types p.schema in
+    let parts : Result ConvertedParts IpcReadError = converted_batch batch.compression p.arrays m.body (record { rest = record { nodes = batch.nodes; buffers = batch.buffers; dictionaries = [] }; more = counts }) in
+    then_same AreSameArrays Anything parts _ _ (any_read parts)
+    (λ x e _.
+    let r : Rest = with_buffers (batch_rest known ids batch) x.buffers in
+    let s : Rest = with_buffers (batch_rest more ids batch) x.buffers in
+    let over : HasExtendedDictionaries r s = record { nodes = refl; buffers = refl; dictionaries = values_grow ids known more h } in
+    read_weaker (AreReadAlike r) AreSameArrays (decoded_projection p.steps types batch.rows x.body (record { rest = r; more = x.more })) (decoded_projection p.steps types batch.rows x.body (record { rest = s; more = x.more })) (λ xs ys alike. alike.same)
+    (picked_next p.steps types batch.rows x.body x.more r s over))
+
+columns_later : (p : ProjectedSchemaModel) (m : MessageModel) (counts : List ℤ) (batch : BatchModel) (known more : Known) → KnowsMore known more → ReadTogether AreSameArrays (columns_over p m counts batch known) (columns_over p m counts batch more)
+columns_later p m counts batch known more h = by (reads_as_stored p.arrays)
+  where
+    by : (as_stored : Bool) → ReadTogether AreSameArrays (if as_stored then plain_over p m counts batch known else converted_over p m counts batch known) (if as_stored then plain_over p m counts batch more else converted_over p m counts batch more)
+    by true = plain_later p m counts batch known more h
+    by false = converted_later p m counts batch known more h
+
 batch_grows : (p : ProjectedSchemaModel) (m : MessageModel) (known more : Known) → KnowsMore known more → ReadTogether IsSameBatch (batch_over p m known) (batch_over p m more)
 batch_grows p m known more h =
     then_same IsSameBatch Anything (batch_at m.metadata m.root.header m.root.left m.root.body_length) _ _ (any_read (batch_at m.metadata m.root.header m.root.left m.root.body_length))
-    (λ batch e _. then_same IsSameBatch Anything (spec_variadic_counts p.steps m) _ _ (any_read (spec_variadic_counts p.steps m))
+    (λ batch e _. then_same IsSameBatch Anything (spec_variadic_counts p m) _ _ (any_read (spec_variadic_counts p m))
     (λ counts g _. then_read AreSameArrays IsSameBatch (columns_over p m counts batch known) (columns_over p m counts batch more) _ _ (columns_later p m counts batch known more h)
     (λ xs ys k same. record { rows = refl; types = same_types xs ys same; slots = same_slots xs ys same })))
 
@@ -207,6 +239,21 @@ only_fits t rows body rest all =
     after IsArray (decoded_column t (Rows rows) body rest) _
     (λ column e. after IsArray (checked_exhausted column.1) _ (λ none g. column_fits t (Rows rows) body rest column all e))
 
+-- the values of a dictionary batch are an array
+values_are_array : (s : StateTree) (m : MessageModel) (v : ValueTypeModel) (batch : BatchModel) (counts : List ℤ) → HasArrays s.known
+    → IfOk (only_column_in batch.compression v.values batch.rows m.body (record { rest = batch_rest s.known (spec_outermost_ids s.picked.seen.named v.inside) batch; more = counts })) IsArray
+values_are_array s m v batch counts all = by (reads_as_stored (stored_arrays v.values))
+  where
+    rest : Rest
+    rest = batch_rest s.known (spec_outermost_ids s.picked.seen.named v.inside) batch
+
+    fit : AreAllArrays (values_at s.known (spec_outermost_ids s.picked.seen.named v.inside))
+    fit = values_fit (spec_outermost_ids s.picked.seen.named v.inside) s.known all
+
+    by : (as_stored : Bool) → IfOk (if as_stored then plain_column_in batch.compression v.values batch.rows m.body rest else converted_column_in batch.compression v.values batch.rows m.body (record { rest = rest; more = counts })) IsArray
+    by true = after IsArray (plain_buffers batch.compression m.body rest.buffers (Ok (all_needed rest.buffers))) _ (λ plain q. only_fits v.values batch.rows plain.1 (with_buffers rest plain.0) fit)
+    by false = after IsArray (converted_batch batch.compression (stored_arrays v.values) m.body (without_dictionaries (record { rest = rest; more = counts }))) _ (λ parts q. only_fits (read_type v.values) batch.rows parts.body (with_buffers rest parts.buffers) fit)
+
 new_in : (s : StateTree) (m : MessageModel) (table : FlatbufferTable) (left : ℕ) (id : ℤ) (v : ValueTypeModel) → HasArrays s.known → IfOk (new_values_in true s m table left id v) (IsNew s id)
 new_in s m table left id v all =
     let there : Bool = is_some (known_at s.known id) in
@@ -214,10 +261,8 @@ new_in s m table left id v all =
     (λ at e. after (IsNew s id) (column_in_batch s m at.0 left v) _
     (λ values g. record {
       apart = λ none. not_there (known_at s.known id) (found (λ (at : ℕ × Bool). at.1 ≡ false → there ≡ false) _ _ e (data_once there m.metadata table) none);
-      fits = λ _. found IsArray _ _ g (after IsArray (batch_at m.metadata at.0 left m.root.body_length) _ (λ batch k.
-          let rest : Rest = batch_rest s.known (spec_outermost_ids s.picked.seen.named v.inside) batch in
-          after IsArray (plain_buffers batch.compression m.body rest.buffers (Ok (all_needed rest.buffers))) _
-          (λ plain q. only_fits v.values batch.rows plain.1 (with_buffers rest plain.0) (values_fit (spec_outermost_ids s.picked.seen.named v.inside) s.known all))));
+      fits = λ _. found IsArray _ _ g (after IsArray (batch_at m.metadata at.0 left m.root.body_length) _
+          (λ batch k. after IsArray (counts_of_arrays (stored_arrays v.values) m at.0 left) _ (λ counts p. values_are_array s m v batch counts all)));
     }))
 
 -- a delta appended to values

@@ -29,6 +29,9 @@ use Rattle.ipc_schema.specs.DictionaryIds.{index_type_of, next_after, total, eac
 use Rattle.ipc_schema.specs.DictionaryIdLaws.{Keys}
 use Rattle.ipc_schema.specs.OutermostIds.{ValueTypes, spec_outermost_ids, no_outermost_ids}
 use Rattle.ipc_schema.specs.OutermostIdLaws.{own_id_or, column_ids_from, Has, all_are_found, outermost_is, outermost_ids_are_column_ids}
+use Rattle.ipc_flatbuf.specs.StoredArrays.{reads_as_stored}
+use Rattle.ipc_schema.specs.StoredArrays.{stored_arrays}
+use Rattle.ipc_schema.specs.StoredArrayLaws.{values_read_as_stored}
 use Rattle.ipc_schema.specs.TypeLaws.{both, passes}
 use Rattle.ipc_schema.specs.Types.{spec_children_of, field_list}
 use Rattle.ipc.specs.DictionaryEntries.{DictionaryEntries, count_dictionaries, count_each_dictionaries, own_entries, each_own, columns_own, entries_in, each_entries, columns_entries}
@@ -245,7 +248,7 @@ keyless_agrees depth f n own entries none inner =
     }
 
 -- a field with one names its values, and the ids nested in them
-module _ (depth : ℕ) (f : FieldTree) (t : TypeTree) (ks c : Layout) (inner : AgreeWith depth (spec_children_of (spec_table_type (field_type f))) c) (logical : logical_type (layout_type c) ≡ logical_type (spec_table_type (field_type f))) where
+module _ (depth : ℕ) (f : FieldTree) (t : TypeTree) (ks c : Layout) (inner : AgreeWith depth (spec_children_of (spec_table_type (field_type f))) c) (logical : logical_type (layout_type c) ≡ logical_type (spec_table_type (field_type f))) (stored : reads_as_stored (stored_arrays (logical_type (spec_table_type (field_type f)))) ≡ true) where
   inside_outer : (next : ℕ) (all : ValueTypes) → Has all (flattened (each_from (count_type_dictionaries depth) (value_types_from depth) next (spec_children_of (spec_table_type (field_type f))))) → spec_outermost_ids all (ids_from next (count_dictionaries c)) ≡ entry_ids (own_entries next c)
   inside_outer next all has =
       let cs : List FieldTree = spec_children_of (spec_table_type (field_type f)) in
@@ -264,7 +267,7 @@ module _ (depth : ℕ) (f : FieldTree) (t : TypeTree) (ks c : Layout) (inner : A
   keyed_named (Some k) key is next all has =
       let values : TypeTree = spec_table_type (field_type f) in
       let found = has.0 ∙ (λ w. Some (record { values = sym logical w; inside = ids_from (suc next) (inner.count w) })) in
-      let one : IsNamed all (pos next, c) = record { id = next; number = refl; values = found; outer = inside_outer (suc next) all has.1 } in
+      let one : IsNamed all (pos next, c) = record { id = next; number = refl; values = found; outer = inside_outer (suc next) all has.1; stored = subst (λ (t : TypeTree). reads_as_stored (stored_arrays t) ≡ true) (sym logical) stored } in
       all_both (IsNamed all) (entries_in (suc next) c) ((pos next, c) ∷ []) (inner.named (suc next) all has.1) (one, tt)
 
   keyed_agrees : (key : IntegerType × Bool) → index_type_of (spec_storage_type (field_type f)) ≡ Some key → AgreeWith (suc depth) (f ∷ []) (dictionary t ks c)
@@ -346,7 +349,7 @@ values_agree t ks c has below (suc depth) f typed form =
     let keyless : IsKeyless (layout_type c) = ap index_type_of (has.logically) ∙ plain.0 in
     let children : spec_children_of (spec_table_type (field_type f)) ≡ spec_children_of (logical_type (layout_type c)) = ap spec_children_of table ∙ plain.1 ∙ ap spec_children_of (sym has.logically) in
     let inner = below.inside keyless depth (subst (λ (fs : List FieldTree). spec_check_each (spec_check_field depth) fs ≡ Ok tt) children parts.1) in
-    keyed_agrees depth f t ks c (subst (λ (fs : List FieldTree). AgreeWith depth fs c) (sym children) inner) logical (has.key, has.ordered) (ap index_type_of same)
+    keyed_agrees depth f t ks c (subst (λ (fs : List FieldTree). AgreeWith depth fs c) (sym children) inner) logical (values_read_as_stored (suc depth) f form) (has.key, has.ordered) (ap index_type_of same)
 
 dictionary_agrees : (t : TypeTree) (ks c : Layout) → HasValues t (layout_type c) → Agrees c → Agrees (dictionary t ks c)
 dictionary_agrees t ks c has below =

@@ -1,5 +1,5 @@
 -- A reader of a stream in memory.
-use Rattle.std.specs.Prelude.{◌≡◌, ℕ, ℤ, Bool, List, [], ◌∷◌, Option, Some, None, Result, Ok, refl}
+use Rattle.std.specs.Prelude.{◌≡◌, ℕ, zero, suc, ℤ, Bool, List, [], ◌∷◌, Option, Some, None, Result, Ok, refl}
 use Rattle.std.specs.Coded.{Coded, code_by, coded×, coded_list, coded_option, coded_bool, coded_ℕ, coded_ℤ}
 use Rattle.nest_memory.specs.TypeTree.{Letters, Entries, TypeTree, FieldTree, field}
 use Rattle.nest_memory.specs.TypeCode.{coded_type}
@@ -9,6 +9,8 @@ use Rattle.ipc_flatbuf.specs.declared.error.IpcReadError.{IpcReadError}
 use Rattle.ipc_flatbuf.specs.declared.projection.SkippedField.{SkippedField}
 use Rattle.ipc_flatbuf.specs.declared.projection.FieldAction.{FieldAction}
 use Rattle.ipc_flatbuf.specs.declared.projection.FieldAction.TheVariants.{Read, Skip}
+use Rattle.ipc_flatbuf.specs.declared.projection.StoredArray.{StoredArray}
+use Rattle.ipc_flatbuf.specs.declared.projection.StoredArray.TheVariants.{Plain, View, Decimal32, Decimal64, Skipped}
 use Rattle.ipc_schema.specs.Dictionaries.{ValueTypeModel, DictionaryTypesModel}
 use Rattle.ipc_schema.specs.Projections.{ProjectionModel, all}
 use Rattle.ipc_schema.specs.ProjectedSchemas.{ProjectedSchemaModel, stream_projected_schema_at}
@@ -108,6 +110,34 @@ step_again (Skip s) = refl
 abbrev coded_step : Coded FieldAction
 coded_step = code_by (Option SkippedField) (coded_option coded_span) span_of step_of step_again
 
+-- how an array is stored, as a number or as a skipped field
+abbrev parts_of_array : StoredArray → ℕ × Option SkippedField
+parts_of_array View = (0, None)
+parts_of_array Decimal32 = (1, None)
+parts_of_array Decimal64 = (2, None)
+parts_of_array (Plain buffers) = (suc (suc (suc buffers)), None)
+parts_of_array (Skipped span) = (0, Some span)
+
+abbrev numbered_array : ℕ → StoredArray
+numbered_array zero = View
+numbered_array (suc zero) = Decimal32
+numbered_array (suc (suc zero)) = Decimal64
+numbered_array (suc (suc (suc buffers))) = Plain buffers
+
+abbrev array_of_parts : ℕ × Option SkippedField → StoredArray
+array_of_parts (n, None) = numbered_array n
+array_of_parts (n, Some span) = Skipped span
+
+pub array_again : (a : StoredArray) → array_of_parts (parts_of_array a) ≡ a
+array_again View = refl
+array_again Decimal32 = refl
+array_again Decimal64 = refl
+array_again (Plain buffers) = refl
+array_again (Skipped span) = refl
+
+abbrev coded_array : Coded StoredArray
+coded_array = code_by (ℕ × Option SkippedField) (coded× coded_ℕ (coded_option coded_span)) parts_of_array array_of_parts array_again
+
 abbrev coded_values : Coded ValueTypeModel
 coded_values = code_by (TypeTree × List ℤ) (coded× coded_type (coded_list coded_ℤ)) (λ v. (v.values, v.inside)) (λ p. record { values = p.0; inside = p.1 }) (λ _. refl)
 
@@ -116,7 +146,8 @@ coded_seen = code_by (List ℤ × List (ℤ × ValueTypeModel)) (coded× (coded_
 
 abbrev coded_picked : Coded ProjectedSchemaModel
 coded_picked =
-    code_by (SchemaModel × (List FieldAction × DictionaryTypesModel)) (coded× coded_schema (coded× (coded_list coded_step) coded_seen)) (λ s. (s.schema, (s.steps, s.seen))) (λ p. record { schema = p.0; steps = p.1.0; seen = p.1.1 }) (λ _. refl)
+    code_by (SchemaModel × (List FieldAction × (List StoredArray × DictionaryTypesModel))) (coded× coded_schema (coded× (coded_list coded_step) (coded× (coded_list coded_array) coded_seen))) (λ s. (s.schema, (s.steps, (s.arrays, s.seen))))
+    (λ p. record { schema = p.0; steps = p.1.0; arrays = p.1.1.0; seen = p.1.1.1 }) (λ _. refl)
 
 abbrev pub coded_known : Coded Known
 coded_known = coded_list (coded× coded_ℤ coded_layout)

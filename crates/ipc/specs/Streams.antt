@@ -1,5 +1,5 @@
 -- The stream in bytes, in the order of reading. Source: Columnar format, "IPC Streaming Format". Skipped columns of a record batch are not decoded.
-use Rattle.std.specs.Prelude.{ℕ, zero, suc, ◌-◌, ℤ, pos, List, [], ◌∷◌, map, length, Option, Some, None, is_some, Result, Ok, Err, Bool, true, false, not, ◌&&◌, nat_lt, if◌then◌else◌}
+use Rattle.std.specs.Prelude.{ℕ, zero, suc, ◌-◌, ℤ, pos, List, [], ◌∷◌, map, length, Option, Some, None, is_some, Result, Ok, Err, Bool, true, false, not, ◌&&◌, ◌||◌, nat_lt, if◌then◌else◌}
 use Rattle.std.specs.List.{filter, list_any}
 use Rattle.std.specs.Int.{w8, w64}
 use Rattle.std.specs.Map.{lookup}
@@ -19,6 +19,7 @@ use Rattle.ipc_flatbuf.specs.ReadResults.{◌>>=◌, check}
 use Rattle.ipc_flatbuf.specs.declared.error.IpcReadError.{IpcReadError}
 use Rattle.ipc_flatbuf.specs.declared.error.IpcReadError.TheVariants.{HeaderType, UnknownDictionary, MissingData, MissingDictionary, DuplicateDictionary, Delta, Memory}
 use Rattle.ipc_flatbuf.specs.declared.projection.FieldAction.{FieldAction}
+use Rattle.ipc_flatbuf.specs.declared.projection.StoredArray.{StoredArray}
 use Rattle.ipc_flatbuf.specs.declared.projection.FieldAction.TheVariants.{Read, Skip}
 use Rattle.ipc_flatbuf.specs.Flatbuffers.{number_at, signed_at, field, spec_offset_field, spec_read_table}
 use Rattle.ipc_flatbuf.specs.declared.tables.FlatbufferTable.{FlatbufferTable}
@@ -30,14 +31,18 @@ use Rattle.ipc_schema.specs.OutermostIds.{spec_outermost_ids}
 use Rattle.ipc_schema.specs.Projections.{ProjectionModel, all}
 use Rattle.ipc_schema.specs.ProjectedSchemas.{ProjectedSchemaModel, spec_check_projected_version, stream_projected_schema_at, projected_schema_of}
 use Rattle.ipc_schema.specs.Schemas.{SchemaModel, schema_of}
+use Rattle.ipc_schema.specs.StoredArrays.{stored_arrays}
+use Rattle.ipc_schema.specs.StoredTypes.{read_type}
 use Rattle.ipc_flatbuf.specs.declared.compression.codec.CompressionCodec.{CompressionCodec}
 use Rattle.ipc_flatbuf.specs.Batches.{BatchModel, batch_at}
 use Rattle.ipc_flatbuf.specs.VariadicBuffers.{variadic_buffer_counts_at}
+use Rattle.ipc_flatbuf.specs.StoredArrays.{reads_as_stored, reads_views}
 use Rattle.ipc_arrays.specs.Decoding.{Rest, with_buffers, decoded_column, checked_exhausted}
 use Rattle.ipc_arrays.specs.Projection.{ProjectionState, decoded_projection}
 use Rattle.ipc_arrays.specs.NeededBuffers.{spec_needed_buffers}
+use Rattle.ipc_arrays.specs.Stored.{converted_batch}
 use Rattle.ipc_arrays.specs.declared.cursor.ExpectedLength.TheVariants.{Rows}
-use Rattle.ipc.specs.PlainBuffers.{plain_buffers, all_needed, ahead_with_buffers}
+use Rattle.ipc.specs.PlainBuffers.{plain_buffers, all_needed, without_dictionaries, ahead_with_buffers}
 use Rattle.ipc.specs.UnionOffsets.{spec_union_offsets_overflow}
 use Rattle.ipc.specs.declared.batch.Batch.{Batch}
 use Rattle.ipc.specs.declared.state.KnownDictionaries.{KnownDictionaries}
@@ -87,20 +92,28 @@ abbrev pub spec_has_dictionary : FieldAction → Bool
 spec_has_dictionary Read = false
 spec_has_dictionary (Skip s) = s.has_dictionary
 
--- the variadic buffer counts, which are read only where a column with view arrays is skipped
-abbrev pub spec_variadic_counts : List FieldAction → MessageModel → Result (List ℤ) IpcReadError
-spec_variadic_counts steps m = if list_any spec_has_views steps then variadic_buffer_counts_at m.metadata m.root.header m.root.left else Ok []
+-- the variadic buffer counts, which are read only where a column with view arrays is skipped or read
+abbrev pub spec_variadic_counts : ProjectedSchemaModel → MessageModel → Result (List ℤ) IpcReadError
+spec_variadic_counts p m = if list_any spec_has_views p.steps || reads_views p.arrays then variadic_buffer_counts_at m.metadata m.root.header m.root.left else Ok []
 
 -- the projected columns of nodes and buffers, which are decompressed first where the batch is compressed
-abbrev pub columns_in : Option CompressionCodec → ProjectedSchemaModel → ℕ → List ℕ → ProjectionState → Result (List Layout) IpcReadError
-columns_in compression p rows body ahead =
+abbrev pub plain_columns_in : Option CompressionCodec → ProjectedSchemaModel → ℕ → List ℕ → ProjectionState → Result (List Layout) IpcReadError
+plain_columns_in compression p rows body ahead =
     plain_buffers compression body ahead.rest.buffers (spec_needed_buffers p.steps (column_types p.schema) ahead.more ahead.rest.buffers) >>= λ plain. decoded_projection p.steps (column_types p.schema) rows plain.1 (ahead_with_buffers ahead plain.0)
+
+-- those of a batch in which some array is stored otherwise than it is read
+abbrev pub converted_columns_in : Option CompressionCodec → ProjectedSchemaModel → ℕ → List ℕ → ProjectionState → Result (List Layout) IpcReadError
+converted_columns_in compression p rows body ahead =
+    converted_batch compression p.arrays body (without_dictionaries ahead) >>= λ batch. decoded_projection p.steps (column_types p.schema) rows batch.body (record { rest = with_buffers ahead.rest batch.buffers; more = batch.more })
+
+abbrev pub columns_in : Option CompressionCodec → ProjectedSchemaModel → ℕ → List ℕ → ProjectionState → Result (List Layout) IpcReadError
+columns_in compression p rows body ahead = if reads_as_stored p.arrays then plain_columns_in compression p rows body ahead else converted_columns_in compression p rows body ahead
 
 -- the projected columns of a record batch, over the dictionaries read so far
 unfoldable pub record_batch_in : StateTree → MessageModel → Result RecordBatchTree IpcReadError
 record_batch_in s m = do
   batch ← batch_at m.metadata m.root.header m.root.left m.root.body_length
-  more ← spec_variadic_counts s.picked.steps m
+  more ← spec_variadic_counts s.picked m
   columns ← columns_in batch.compression s.picked batch.rows m.body (record { rest = batch_rest s.known (spec_outermost_ids s.picked.seen.named s.picked.seen.ids) batch; more = more })
   Ok (record { rows = batch.rows; columns = columns })
 
@@ -131,8 +144,19 @@ abbrev pub spec_only_column : TypeTree → ℕ → List ℕ → Rest → Result 
 spec_only_column t rows body rest = decoded_column t (Rows rows) body rest >>= λ column. checked_exhausted column.1 >>= λ all. Ok column.0
 
 -- the same, of a batch that may be compressed
-abbrev pub only_column_in : Option CompressionCodec → TypeTree → ℕ → List ℕ → Rest → Result Layout IpcReadError
-only_column_in compression t rows body rest = plain_buffers compression body rest.buffers (Ok (all_needed rest.buffers)) >>= λ plain. spec_only_column t rows plain.1 (with_buffers rest plain.0)
+abbrev pub plain_column_in : Option CompressionCodec → TypeTree → ℕ → List ℕ → Rest → Result Layout IpcReadError
+plain_column_in compression t rows body rest = plain_buffers compression body rest.buffers (Ok (all_needed rest.buffers)) >>= λ plain. spec_only_column t rows plain.1 (with_buffers rest plain.0)
+
+-- the same, where some array of this type is stored otherwise than it is read
+abbrev pub converted_column_in : Option CompressionCodec → TypeTree → ℕ → List ℕ → ProjectionState → Result Layout IpcReadError
+converted_column_in compression t rows body ahead = converted_batch compression (stored_arrays t) body (without_dictionaries ahead) >>= λ batch. spec_only_column (read_type t) rows batch.body (with_buffers ahead.rest batch.buffers)
+
+abbrev pub only_column_in : Option CompressionCodec → TypeTree → ℕ → List ℕ → ProjectionState → Result Layout IpcReadError
+only_column_in compression t rows body ahead = if reads_as_stored (stored_arrays t) then plain_column_in compression t rows body ahead.rest else converted_column_in compression t rows body ahead
+
+-- the variadic buffer counts in the record batch at a position, where it has view arrays
+abbrev pub counts_of_arrays : List StoredArray → MessageModel → ℕ → ℕ → Result (List ℤ) IpcReadError
+counts_of_arrays arrays m position left = if reads_views arrays then variadic_buffer_counts_at m.metadata position left else Ok []
 
 -- whether these ids contain an id
 abbrev pub spec_contains_id : List ℤ → ℤ → Bool
@@ -176,7 +200,8 @@ spec_with_values true s id more = check (spec_contains_id s.appendable id) Delta
 
 -- the values in the record batch at a position, over the dictionaries nested in them
 abbrev pub column_in_batch : StateTree → MessageModel → ℕ → ℕ → ValueTypeModel → Result Layout IpcReadError
-column_in_batch s m position left v = batch_at m.metadata position left m.root.body_length >>= λ batch. only_column_in batch.compression v.values batch.rows m.body (batch_rest s.known (spec_outermost_ids s.picked.seen.named v.inside) batch)
+column_in_batch s m position left v =
+    batch_at m.metadata position left m.root.body_length >>= λ batch. counts_of_arrays (stored_arrays v.values) m position left >>= λ more. only_column_in batch.compression v.values batch.rows m.body (record { rest = batch_rest s.known (spec_outermost_ids s.picked.seen.named v.inside) batch; more = more })
 
 -- the position of the record batch in a dictionary batch, and whether it is a delta
 unfoldable pub data_in : Bool → Bool → List ℕ → FlatbufferTable → Result (ℕ × Bool) IpcReadError

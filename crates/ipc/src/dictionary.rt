@@ -1,5 +1,5 @@
 //! Reads dictionary batches. Source: Message.fbs, table DictionaryBatch.
-ghost use Rattle.std.specs.Prelude.{◌≡◌, ◌<◌, ◌^◌, length, is_some};
+ghost use Rattle.std.specs.Prelude.{◌≡◌, ◌<◌, ◌^◌, length, is_some, IfOk, Ok};
 ghost use Rattle.std.specs.List.{list_any};
 ghost use Rattle.std.specs.Option.{option_map};
 ghost use Rattle.ipc_flatbuf.specs.ReadResults.{ReturnsOrRunsOut};
@@ -7,24 +7,37 @@ ghost use Rattle.ipc_flatbuf.specs.Messages.{model_of};
 ghost use Rattle.nest_memory.specs.TypeOf.{type_of};
 ghost use Rattle.nest_array.specs.Seen.{layout_of};
 ghost use Rattle.ipc_arrays.specs.Decoding.{rest_of};
+ghost use Rattle.ipc_arrays.specs.Projection.{projection_state};
+ghost use Rattle.ipc_schema.specs.StoredArrays.{stored_arrays};
+ghost use Rattle.ipc_schema.specs.StoredTypes.{read_type};
 ghost use Rattle.ipc_schema.specs.ProjectedSchemas.{projected_schema_of};
 ghost use Rattle.ipc_schema.specs.DictionaryModels.{value_type_of};
-ghost use Rattle.ipc.specs.Streams.{spec_has_dictionary, named_in, spec_data_position, spec_check_order, spec_only_column, only_column_in, spec_with_values, column_in_batch, data_in, new_values_in, found_in, dictionary_in, known_at, state_of};
+ghost use Rattle.ipc.specs.Streams.{spec_has_dictionary, named_in, spec_data_position, spec_check_order, spec_only_column, plain_column_in, converted_column_in, only_column_in, counts_of_arrays, spec_with_values, column_in_batch, data_in, new_values_in, found_in, dictionary_in, known_at, state_of};
 
 use crate::deltas::more_values;
-use crate::plain_buffers::{decompress_buffers, need_all, replace_buffers};
+use crate::plain_buffers::{decompress_buffers, drop_dictionaries, need_all, replace_buffers};
 use crate::state::{DictionaryState, values_of as known_values};
-use ipc_arrays::{BatchCursor, ExpectedLength, check_exhausted, read_column};
-use ipc_flatbuf::batch::read_batch;
+use ipc_arrays::stored::convert_batch;
+use ipc_arrays::{BatchCursor, ExpectedLength, ProjectionCursor, check_exhausted, read_column};
+use ipc_flatbuf::batch::{read_batch, read_variadic_buffer_counts};
 use ipc_flatbuf::message::Message;
 use ipc_flatbuf::{
-    CompressionCodec, FieldAction, FlatbufferTable, IpcReadError, i64_field, offset_field,
-    read_table, u8_field,
+    CompressionCodec, FieldAction, FlatbufferTable, IpcReadError, StoredArray, are_read_as_stored,
+    are_views_read, i64_field, offset_field, read_table, u8_field,
 };
-use ipc_schema::{DictionaryValueType, ProjectedSchema, outermost_ids};
+use ipc_schema::{
+    DictionaryValueType, ProjectedSchema, outermost_ids, push_arrays, replace_stored,
+};
 use nest_array::any::AnyArray;
 use nest_memory::datatypes::DataType;
-use std::alloc::Global;
+use std::alloc::{AllocError, Global};
+
+// The type of the values of a dictionary, and how their arrays are stored.
+#[derive(Clone, Copy)]
+struct StoredValues<'a> {
+    data_type: &'a DataType,
+    arrays: &'a [StoredArray],
+}
 
 // Returns whether a step skips a column with a dictionary.
 fn has_dictionary(step: FieldAction) -> bool
@@ -99,8 +112,8 @@ fn only_column(
     }
 }
 
-// Reads the same column, whose buffers may be compressed.
-fn only_column_in_batch(
+// Reads the same column, whose arrays are read as they are stored, from buffers that may be compressed.
+fn plain_column(
     alloc: Global,
     data_type: &DataType,
     compression: Option<CompressionCodec>,
@@ -108,7 +121,7 @@ fn only_column_in_batch(
     body: &[u8],
     left: BatchCursor<'_>,
 ) -> Result<AnyArray, IpcReadError>
-    ensures { ReturnsOrRunsOut layout_of result (only_column_in compression (type_of data_type.now) rows body.now (rest_of left.entry)) }
+    ensures { ReturnsOrRunsOut layout_of result (plain_column_in compression (type_of data_type.now) rows body.now (rest_of left.entry)) }
 {
     match compression {
         None => only_column(alloc, data_type, rows, body, left),
@@ -118,6 +131,89 @@ fn only_column_in_batch(
             let plain = replace_buffers(left, &buffers);
             only_column(alloc, data_type, rows, &bytes, plain)
         }
+    }
+}
+
+// Returns the arrays that an array of this type has in a record batch, and how they are stored.
+fn arrays_of(alloc: Global, data_type: &DataType) -> Result<Vec<StoredArray>, AllocError>
+    ensures { IfOk result (λ v. v.items ≡ stored_arrays (type_of data_type.now)) }
+{
+    let mut arrays = Vec::new(alloc);
+    push_arrays(data_type, &mut arrays)?;
+    Ok(arrays)
+}
+
+// Returns a type as it is stored as the type that is read.
+fn read_type_of(alloc: Global, data_type: &DataType) -> Result<DataType, IpcReadError>
+    ensures { ReturnsOrRunsOut type_of result (Ok (read_type (type_of data_type.now))) }
+{
+    match data_type.clone(alloc) {
+        Err(_) => Err(IpcReadError::Memory),
+        Ok(mut copy) => {
+            replace_stored(&mut copy);
+            Ok(copy)
+        }
+    }
+}
+
+// Reads the same column, of which some array is stored otherwise than it is read.
+fn converted_column(
+    alloc: Global,
+    values: StoredValues<'_>,
+    compression: Option<CompressionCodec>,
+    rows: usize,
+    body: &[u8],
+    ahead: ProjectionCursor<'_>,
+) -> Result<AnyArray, IpcReadError>
+    requires { values.arrays.now ≡ stored_arrays (type_of values.data_type.now) }
+    ensures { ReturnsOrRunsOut layout_of result (converted_column_in compression (type_of values.entry.data_type.now) rows body.now (projection_state ahead.entry)) }
+{
+    let batch = convert_batch(
+        alloc,
+        compression,
+        values.arrays,
+        body,
+        drop_dictionaries(ahead),
+    )?;
+    let data_type = read_type_of(alloc, values.data_type)?;
+    let left = replace_buffers(ahead.left, &batch.buffers);
+    only_column(alloc, &data_type, rows, &batch.body, left)
+}
+
+// Reads the same column, whatever its arrays are.
+fn only_column_in_batch(
+    alloc: Global,
+    values: StoredValues<'_>,
+    compression: Option<CompressionCodec>,
+    rows: usize,
+    body: &[u8],
+    ahead: ProjectionCursor<'_>,
+) -> Result<AnyArray, IpcReadError>
+    requires { values.arrays.now ≡ stored_arrays (type_of values.data_type.now) }
+    ensures { ReturnsOrRunsOut layout_of result (only_column_in compression (type_of values.entry.data_type.now) rows body.now (projection_state ahead.entry)) }
+{
+    if are_read_as_stored(values.arrays) {
+        plain_column(alloc, values.data_type, compression, rows, body, ahead.left)
+    } else {
+        converted_column(alloc, values, compression, rows, body, ahead)
+    }
+}
+
+// Returns the variadic buffer counts in the record batch at a position. They are read only where there are view arrays.
+fn dictionary_counts(
+    alloc: Global,
+    arrays: &[StoredArray],
+    message: Message<'_>,
+    position: usize,
+    left: usize,
+) -> Result<Vec<i64>, IpcReadError>
+    requires { length message.metadata.now < 2 ^ 31 }
+    ensures { ReturnsOrRunsOut (λ v. v.items) result (counts_of_arrays arrays.now (model_of message.entry) position left) }
+{
+    if are_views_read(arrays) {
+        read_variadic_buffer_counts(alloc, message.metadata, position, left)
+    } else {
+        Ok(Vec::new(alloc))
     }
 }
 
@@ -137,6 +233,8 @@ fn read_column_over(
     let batch = read_batch(alloc, message.metadata, position, left, root.body_length)?;
     let ids = outermost_ids(alloc, &values.inside, &state.picked.dictionaries)?;
     let dictionaries = known_values(alloc, &state.known, &ids)?;
+    let arrays = arrays_of(alloc, &values.data_type)?;
+    let more = dictionary_counts(alloc, &arrays, message, position, left)?;
     let left = BatchCursor {
         nodes: &batch.nodes,
         buffers: &batch.buffers,
@@ -145,11 +243,14 @@ fn read_column_over(
     let compression = batch.compression;
     only_column_in_batch(
         alloc,
-        &values.data_type,
+        StoredValues {
+            data_type: &values.data_type,
+            arrays: &arrays,
+        },
         compression,
         batch.rows,
         message.body,
-        left,
+        ProjectionCursor { left, more: &more },
     )
 }
 

@@ -2,10 +2,11 @@
 ghost use Rattle.std.specs.Prelude.{◌≡◌, IfOk};
 ghost use Rattle.ipc_flatbuf.specs.ReadResults.{ReturnsOrRunsOut};
 ghost use Rattle.ipc_arrays.specs.Decoding.{rest_of, with_buffers};
-ghost use Rattle.ipc.specs.PlainBuffers.{decompressed_buffers, all_needed};
+ghost use Rattle.ipc_arrays.specs.Projection.{projection_state};
+ghost use Rattle.ipc.specs.PlainBuffers.{decompressed_buffers, without_dictionaries, all_needed};
 
-use ipc_arrays::BatchCursor;
 use ipc_arrays::compression::plain_body;
+use ipc_arrays::{BatchCursor, ProjectionCursor};
 use ipc_flatbuf::{BufferSpec, CompressionCodec, IpcReadError};
 use std::alloc::{AllocError, Global};
 
@@ -39,6 +40,21 @@ pub(crate) fn replace_buffers<'a>(
         buffers,
         dictionaries,
     }
+}
+
+/// Returns a cursor over the same nodes, buffers and variadic counts, without dictionaries.
+pub(crate) fn drop_dictionaries<'a>(ahead: ProjectionCursor<'a>) -> ProjectionCursor<'a>
+    ensures { projection_state result ≡ without_dictionaries (projection_state ahead.entry) }
+{
+    let nodes = ahead.left.nodes;
+    let buffers = ahead.left.buffers;
+    let more = ahead.more;
+    let left = BatchCursor {
+        nodes,
+        buffers,
+        dictionaries: &[],
+    };
+    ProjectionCursor { left, more }
 }
 
 /// Returns a flag for each buffer: it is needed.

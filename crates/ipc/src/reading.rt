@@ -10,16 +10,19 @@ ghost use Rattle.nest_array.specs.Seen.{layout_of};
 ghost use Rattle.ipc_schema.specs.ProjectedSchemas.{projected_schema_of};
 ghost use Rattle.ipc_arrays.specs.Projection.{decoded_projection, projection_state};
 ghost use Rattle.ipc_arrays.specs.NeededBuffers.{spec_needed_buffers};
-ghost use Rattle.ipc.specs.Streams.{spec_has_views, spec_variadic_counts, columns_in, record_batch_in, message_by_kind, message_in, next_in, record_batch_of, state_of};
+ghost use Rattle.ipc.specs.Streams.{spec_has_views, spec_variadic_counts, plain_columns_in, converted_columns_in, columns_in, record_batch_in, message_by_kind, message_in, next_in, record_batch_of, state_of};
 
 use crate::batch::Batch;
 use crate::dictionary::read_dictionary;
-use crate::plain_buffers::{decompress_buffers, replace_buffers};
+use crate::plain_buffers::{decompress_buffers, drop_dictionaries, replace_buffers};
 use crate::state::{DictionaryState, values_of};
+use ipc_arrays::stored::convert_batch;
 use ipc_arrays::{BatchCursor, ProjectionCursor, needed_buffers, read_projected};
 use ipc_flatbuf::batch::{read_batch, read_variadic_buffer_counts};
 use ipc_flatbuf::message::{Message, MessageKind, next_message};
-use ipc_flatbuf::{BufferSpec, CompressionCodec, FieldAction, IpcReadError};
+use ipc_flatbuf::{
+    BufferSpec, CompressionCodec, FieldAction, IpcReadError, are_read_as_stored, are_views_read,
+};
 use ipc_schema::{ProjectedSchema, check_projected_version, outermost_ids};
 use nest_array::any::AnyArray;
 use nest_memory::datatypes::Field;
@@ -42,16 +45,16 @@ fn skips_views(steps: &[FieldAction]) -> bool
     steps.iter().any(|step| has_views(*step))
 }
 
-// Returns the variadic buffer counts of a record batch. They are read only where a column with view arrays is skipped.
+// Returns the variadic buffer counts of a record batch. They are read only where a column with view arrays is skipped or read.
 fn variadic_counts(
     alloc: Global,
-    steps: &[FieldAction],
+    picked: &ProjectedSchema,
     message: Message<'_>,
 ) -> Result<Vec<i64>, IpcReadError>
     requires { length message.metadata.now < 2 ^ 31 }
-    ensures { ReturnsOrRunsOut (λ v. v.items) result (spec_variadic_counts steps.now (model_of message.entry)) }
+    ensures { ReturnsOrRunsOut (λ v. v.items) result (spec_variadic_counts (projected_schema_of picked.now) (model_of message.entry)) }
 {
-    if skips_views(steps) {
+    if skips_views(&picked.steps) || are_views_read(&picked.arrays) {
         let root = message.root;
         read_variadic_buffer_counts(alloc, message.metadata, root.header, root.left)
     } else {
@@ -86,8 +89,8 @@ fn needed_of(
     needed_buffers(alloc, steps, fields, more, buffers)
 }
 
-// Reads the projected columns of a record batch, whose buffers may be compressed.
-fn columns_in_batch(
+// Reads the projected columns of a record batch whose arrays are read as they are stored, from buffers that may be compressed.
+fn plain_columns(
     alloc: Global,
     picked: &ProjectedSchema,
     compression: Option<CompressionCodec>,
@@ -95,7 +98,7 @@ fn columns_in_batch(
     body: &[u8],
     ahead: ProjectionCursor<'_>,
 ) -> Result<Vec<AnyArray>, IpcReadError>
-    ensures { ReturnsOrRunsOut (λ v. map layout_of v.items) result (columns_in compression (projected_schema_of picked.now) rows body.now (projection_state ahead.entry)) }
+    ensures { ReturnsOrRunsOut (λ v. map layout_of v.items) result (plain_columns_in compression (projected_schema_of picked.now) rows body.now (projection_state ahead.entry)) }
 {
     let steps = &picked.steps;
     let fields = &picked.schema.fields;
@@ -124,6 +127,54 @@ fn columns_in_batch(
     }
 }
 
+// Reads the projected columns of a record batch of which some array is stored otherwise than it is read.
+fn converted_columns(
+    alloc: Global,
+    picked: &ProjectedSchema,
+    compression: Option<CompressionCodec>,
+    rows: usize,
+    body: &[u8],
+    ahead: ProjectionCursor<'_>,
+) -> Result<Vec<AnyArray>, IpcReadError>
+    ensures { ReturnsOrRunsOut (λ v. map layout_of v.items) result (converted_columns_in compression (projected_schema_of picked.now) rows body.now (projection_state ahead.entry)) }
+{
+    let batch = convert_batch(
+        alloc,
+        compression,
+        &picked.arrays,
+        body,
+        drop_dictionaries(ahead),
+    )?;
+    let left = replace_buffers(ahead.left, &batch.buffers);
+    let more = &batch.more;
+    columns_of(
+        alloc,
+        &picked.steps,
+        &picked.schema.fields,
+        rows,
+        &batch.body,
+        ProjectionCursor { left, more },
+    )
+}
+
+// Reads the projected columns of a record batch.
+fn columns_in_batch(
+    alloc: Global,
+    picked: &ProjectedSchema,
+    compression: Option<CompressionCodec>,
+    rows: usize,
+    body: &[u8],
+    ahead: ProjectionCursor<'_>,
+) -> Result<Vec<AnyArray>, IpcReadError>
+    ensures { ReturnsOrRunsOut (λ v. map layout_of v.items) result (columns_in compression (projected_schema_of picked.now) rows body.now (projection_state ahead.entry)) }
+{
+    if are_read_as_stored(&picked.arrays) {
+        plain_columns(alloc, picked, compression, rows, body, ahead)
+    } else {
+        converted_columns(alloc, picked, compression, rows, body, ahead)
+    }
+}
+
 /// Reads the projected columns of a record batch message.
 #[tactic(auto, unfolding(crate::specs::Streams::record_batch_in))]
 pub(crate) fn read_record_batch(
@@ -143,7 +194,7 @@ pub(crate) fn read_record_batch(
         root.body_length,
     )?;
     let picked = &state.picked;
-    let more = variadic_counts(alloc, &picked.steps, message)?;
+    let more = variadic_counts(alloc, picked, message)?;
     let ids = outermost_ids(alloc, &picked.dictionaries.ids, &picked.dictionaries)?;
     let dictionaries = values_of(alloc, &state.known, &ids)?;
     let left = BatchCursor {

@@ -14,7 +14,6 @@ use Rattle.ipc.specs.SliceStreamReaders.{state_in}
 use Rattle.ipc.specs.declared.batch.Batch.{Batch}
 use Rattle.ipc.specs.Streams.{StateTree, start, record_batch_of, message_in, next_in}
 use Rattle.ipc.specs.StreamLaws.{by_message}
-use Rattle.ipc.specs.EncodedStreamLaws.{whole_schema}
 use Rattle.ipc_io.specs.declared.fetching.FetchedMessage.{FetchedMessage}
 use Rattle.ipc_io.specs.declared.error.ReadError.{ReadError}
 use Rattle.ipc_io.specs.declared.error.ReadError.TheVariants.{Ipc, Io}
@@ -88,7 +87,7 @@ unfetched_first picks (Some xs) new (Io e) fetched = tt
 -- the state after its message
 pub known_first : (t : StateTree) (s : SchemaModel) (bytes : List ℕ) → bytes ≡ schema_message s → SchemaRoundTrips s → state_in bytes ≡ Ok t → t ≡ start (all_written s)
 known_first t s bytes is again read =
-    let whole : stream_projected_schema_at all (schema_message s ++ []) ≡ Ok (all_written s, []) = whole_schema s [] (again []) in
+    let whole : stream_projected_schema_at all (schema_message s ++ []) ≡ Ok (all_written s, []) = again [] in
     let picked : stream_projected_schema_at all bytes ≡ Ok (all_written s, []) = subst (λ (x : List ℕ). stream_projected_schema_at all x ≡ Ok (all_written s, [])) (append-nil (schema_message s) ∙ sym is) whole in
     let here : state_in bytes ≡ Ok (start (all_written s)) = rw picked refl in
     cc

@@ -3,9 +3,11 @@ use Rattle.std.specs.Prelude.{◌≡◌, ℕ, ⊤, Bool, true, false, List, [], 
 use Rattle.std.specs.Coded.{Coded, code_by, coded×, coded_bool}
 use Rattle.std.specs.Io.KnownBytes.{Appends}
 use Rattle.ipc_flatbuf.specs.declared.error.IpcWriteError as write_errors
-use Rattle.ipc_schema.specs.Schemas.{SchemaModel, stream_schema_at}
+use Rattle.ipc_schema.specs.Projections.{all}
+use Rattle.ipc_schema.specs.ProjectedSchemas.{stream_projected_schema_at}
+use Rattle.ipc_schema.specs.ProjectionLaws.{all_written}
+use Rattle.ipc_schema.specs.Schemas.{SchemaModel}
 use Rattle.ipc_schema.specs.SchemaBytes.{schema_message}
-use Rattle.ipc_schema.specs.SchemaLaws.{with_dictionary_ids}
 use Rattle.ipc.specs.DictionaryEntries.{DictionaryEntries}
 use Rattle.ipc.specs.SliceStreamReaders.{coded_schema, coded_known}
 use Rattle.ipc.specs.EncodedStreams.{IsErrorOrMemory, batch_error, emitted_after, encoded_batch, stream_dictionary_batches}
@@ -43,7 +45,7 @@ IsIo (Err Failed) = ⊥
 
 -- the message of a schema round-trips, with the ids 0, 1, 2 and so on of its dictionaries
 abbrev pub SchemaRoundTrips : SchemaModel → Type 0
-SchemaRoundTrips s = (rest : List ℕ) → stream_schema_at (schema_message s ++ rest) ≡ Ok (with_dictionary_ids s, rest)
+SchemaRoundTrips s = (rest : List ℕ) → stream_projected_schema_at all (schema_message s ++ rest) ≡ Ok (all_written s, rest)
 
 module _ {W : Type 0} (contents : W → Option (List ℕ)) where
   -- What a call leaves that writes bytes, after which these are the dictionaries emitted last, unless there is an error: all bytes were written; or nothing changed,

@@ -5,10 +5,14 @@ use Rattle.nest_memory.specs.TypeTree.{FieldTree}
 use Rattle.ipc_flatbuf.specs.declared.error.IpcReadError.{IpcReadError}
 use Rattle.ipc_flatbuf.specs.declared.projection.FieldAction.{FieldAction}
 use Rattle.ipc_flatbuf.specs.declared.projection.FieldAction.TheVariants.{Read, Skip}
+use Rattle.ipc_flatbuf.specs.declared.projection.StoredArray.{StoredArray}
+use Rattle.ipc_flatbuf.specs.declared.projection.StoredArray.TheVariants.{Skipped}
 use Rattle.ipc_flatbuf.specs.ReadResults.{◌>>=◌, FailsOrRunsOut}
 use Rattle.ipc_flatbuf.specs.Flatbuffers.{spec_offset_at}
 use Rattle.ipc_schema.specs.Dictionaries.{Progress}
 use Rattle.ipc_schema.specs.Projections.{ProjectionModel}
+use Rattle.ipc_schema.specs.StoredTypes.{read_field}
+use Rattle.ipc_schema.specs.StoredArrays.{field_arrays}
 use Rattle.ipc_schema.specs.ProjectedSchemas.{ProjectedItem, read, passed, ProjectedFields, no_fields, with_item, joined_fields, spec_item_at, spec_projected_fields_at}
 
 -- the fields so far, followed by the rest
@@ -19,20 +23,26 @@ with_parts front rest = rest >>= λ x. Ok (joined_fields front x.0, x.1)
 abbrev pub picked_left : ProjectionModel → List ℕ → ℕ → ℕ → ℕ → Progress → Result (ProjectedFields × Progress) IpcReadError
 picked_left picks bytes count first i so_far = spec_projected_fields_at picks bytes i (count - i) (first + 4 * i) so_far
 
-abbrev parts : List FieldAction → List FieldTree → ProjectedFields
-parts steps fields = record { steps = steps; fields = fields }
+abbrev parts : List FieldAction → List FieldTree → List StoredArray → ProjectedFields
+parts steps fields arrays = record { steps = steps; fields = fields; arrays = arrays }
 
-parts_are : (steps steps' : List FieldAction) (fields fields' : List FieldTree) → steps ≡ steps' → fields ≡ fields' → parts steps fields ≡ parts steps' fields'
-parts_are steps steps' fields fields' a b = rw (a, b) refl
+parts_are : (steps steps' : List FieldAction) (fields fields' : List FieldTree) (arrays arrays' : List StoredArray) → steps ≡ steps' → fields ≡ fields' → arrays ≡ arrays' → parts steps fields arrays ≡ parts steps' fields' arrays'
+parts_are steps steps' fields fields' arrays arrays' a b c = rw (a, b, c) refl
+
+-- the arrays of a field between others
+between : (before own after : List StoredArray) → before ++ (own ++ after) ≡ (before ++ (own ++ [])) ++ after
+between before own after = sym (append_assoc before own after) ∙ ap (λ (xs : List StoredArray). (before ++ xs) ++ after) (sym (append-nil own))
 
 one_more : (p x : ProjectedFields) (item : ProjectedItem) → joined_fields p (with_item item x) ≡ joined_fields (joined_fields p (with_item item no_fields)) x
 one_more p x (read f) =
-    parts_are (p.steps ++ Read ∷ x.steps) ((p.steps ++ Read ∷ []) ++ x.steps) (p.fields ++ f ∷ x.fields) ((p.fields ++ f ∷ []) ++ x.fields) (sym (append_assoc p.steps (Read ∷ []) x.steps)) (sym (append_assoc p.fields (f ∷ []) x.fields))
+    parts_are (p.steps ++ Read ∷ x.steps) ((p.steps ++ Read ∷ []) ++ x.steps) (p.fields ++ read_field f ∷ x.fields) ((p.fields ++ read_field f ∷ []) ++ x.fields) (p.arrays ++ (field_arrays f ++ x.arrays)) ((p.arrays ++ (field_arrays f ++ [])) ++ x.arrays) (sym (append_assoc p.steps (Read ∷ []) x.steps))
+    (sym (append_assoc p.fields (read_field f ∷ []) x.fields)) (between p.arrays (field_arrays f) x.arrays)
 one_more p x (passed s) =
-    parts_are (p.steps ++ Skip s ∷ x.steps) ((p.steps ++ Skip s ∷ []) ++ x.steps) (p.fields ++ x.fields) ((p.fields ++ []) ++ x.fields) (sym (append_assoc p.steps (Skip s ∷ []) x.steps)) (ap (λ (fs : List FieldTree). fs ++ x.fields) (sym (append-nil p.fields)))
+    parts_are (p.steps ++ Skip s ∷ x.steps) ((p.steps ++ Skip s ∷ []) ++ x.steps) (p.fields ++ x.fields) ((p.fields ++ []) ++ x.fields) (p.arrays ++ Skipped s ∷ x.arrays) ((p.arrays ++ Skipped s ∷ []) ++ x.arrays) (sym (append_assoc p.steps (Skip s ∷ []) x.steps)) (ap (λ (fs : List FieldTree). fs ++ x.fields) (sym (append-nil p.fields)))
+    (sym (append_assoc p.arrays (Skipped s ∷ []) x.arrays))
 
 none_more : (p : ProjectedFields) → joined_fields p no_fields ≡ p
-none_more p = parts_are (p.steps ++ []) p.steps (p.fields ++ []) p.fields (append-nil p.steps) (append-nil p.fields)
+none_more p = parts_are (p.steps ++ []) p.steps (p.fields ++ []) p.fields (p.arrays ++ []) p.arrays (append-nil p.steps) (append-nil p.fields) (append-nil p.arrays)
 
 regroup : (p : ProjectedFields) (item : ProjectedItem) (rest : Result (ProjectedFields × Progress) IpcReadError) → with_parts p (rest >>= λ x. Ok (with_item item x.0, x.1)) ≡ with_parts (joined_fields p (with_item item no_fields)) rest
 regroup p item (Ok x) = ap (λ (q : ProjectedFields). Ok (q, x.1)) (one_more p x.0 item)

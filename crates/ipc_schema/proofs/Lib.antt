@@ -8,3 +8,4 @@ pub mod Chosen
 pub mod Sought
 pub mod Passed
 pub mod FooterLoops
+pub mod StoredFields

@@ -6,7 +6,7 @@ use Rattle.std.specs.Cmp.Lexicographic.{pointwise}
 use Rattle.std.specs.Ordering.{int_cmp, int_eq}
 use Rattle.std.specs.Int.{w8, w16, w64}
 use Rattle.nest_memory.specs.TypeTree as types
-use Rattle.nest_memory.specs.TypeTree.{TypeTree, logical_type}
+use Rattle.nest_memory.specs.TypeTree.{TypeTree}
 use Rattle.nest_memory.specs.TypeEq.{same_type}
 use Rattle.nest_memory.specs.declared.datatypes.IntegerType.{IntegerType}
 use Rattle.nest_memory.specs.declared.datatypes.IntegerType.TheVariants.{Int32}
@@ -16,6 +16,7 @@ use Rattle.ipc_flatbuf.specs.declared.error.IpcReadError.TheVariants.{TypeRange,
 use Rattle.ipc_flatbuf.specs.Flatbuffers as words
 use Rattle.ipc_flatbuf.specs.Flatbuffers.{number_at, signed_at, spec_offset_field, spec_read_table}
 use Rattle.ipc_schema.specs.Types.{spec_integer_at}
+use Rattle.ipc_schema.specs.StoredTypes.{spec_value_type}
 use Rattle.ipc_schema.specs.declared.dictionaries.Encoding.{Encoding}
 
 -- ---- tables
@@ -48,7 +49,7 @@ spec_with_encoding (Some e) type = types.dictionary e.key type e.is_ordered
 
 -- ---- value types of ids
 
--- the value of a DictionaryValueType: the value type of an id without extension types, and the ids nested in it
+-- the value of a DictionaryValueType: the value type of an id as it is stored, without extension types, and the ids nested in it
 pub record ValueTypeModel : Type 0 where
   pub values : TypeTree
   pub inside : List ℤ
@@ -80,7 +81,7 @@ spec_name_values id new seen (Some old) = check (spec_same_values old new) Dicti
 -- the dictionaries after a field of this value type; before ids precede its own
 abbrev pub spec_record_values : Option Encoding → TypeTree → ℕ → DictionaryTypesModel → Result DictionaryTypesModel IpcReadError
 spec_record_values None type before seen = Ok seen
-spec_record_values (Some e) type before seen = spec_name_values e.id (record { values = logical_type type; inside = drop (suc before) seen.ids }) seen (lookup (is_at (int_cmp e.id)) seen.named)
+spec_record_values (Some e) type before seen = spec_name_values e.id (record { values = spec_value_type type; inside = drop (suc before) seen.ids }) seen (lookup (is_at (int_cmp e.id)) seen.named)
 
 -- ---- reading
 

@@ -13,6 +13,7 @@ use Rattle.nest_memory.specs.declared.datatypes.IntegerType.{IntegerType}
 use Rattle.ipc_schema.specs.Dictionaries.{ValueTypeModel, DictionaryTypesModel, no_dictionaries, spec_record_id, spec_record_values, spec_with_encoding}
 use Rattle.ipc_schema.specs.Types.{spec_children_of}
 use Rattle.ipc_schema.specs.Extensions.{spec_storage_type, values_type, spec_table_type}
+use Rattle.ipc_schema.specs.StoredTypes.{spec_other_storage}
 use Rattle.ipc_schema.specs.DictionaryIds.{index_type_of, encoding_with_id, next_after, total, each_from, count_dictionaries, count_all, spec_has_dictionary, have_dictionary, ids_from, own_value_types, flattened, value_types_from, with_ids_from, types_after_all}
 
 abbrev pub Keys : Type 0
@@ -118,12 +119,12 @@ behind_one [] x ys = refl
 behind_one (y ∷ xs) x ys = behind_one xs x ys
 
 -- after the ids of its children the id of a field is added, and it is new
-pub own_is_new : (keys : Keys) (id inner end : ℕ) (values : TypeTree) (seen : DictionaryTypesModel) (inside : List (ℤ × ValueTypeModel)) → AreWithin 0 id seen.named → AreWithin (next_after keys id) end inside
+pub own_is_new : (keys : Keys) (id inner end : ℕ) (values : TypeTree) (seen : DictionaryTypesModel) (inside : List (ℤ × ValueTypeModel)) → AreWithin 0 id seen.named → AreWithin (next_after keys id) end inside → spec_other_storage values ≡ None
     → spec_record_values (encoding_with_id id keys) values (length seen.ids) (with_ids_from (next_after keys id) inner inside (spec_record_id (encoding_with_id id keys) seen)) ≡ Ok (with_ids_from id (next_after keys inner) (own_value_types keys id values inner ++ inside) seen)
 unfolding ids_from
-own_is_new None id inner end values seen inside old are = refl
-own_is_new (Some keys) id inner end values seen inside old are =
-    rw (behind_one seen.ids (pos id) (ids_from (suc id) inner), is_new id end seen.named inside old are, goes_between id end (record { values = logical_type values; inside = ids_from (suc id) inner }) seen.named inside old are, append_assoc seen.ids (pos id ∷ []) (ids_from (suc id) inner)) refl
+own_is_new None id inner end values seen inside old are plain = refl
+own_is_new (Some keys) id inner end values seen inside old are plain =
+    rw (plain, behind_one seen.ids (pos id) (ids_from (suc id) inner), is_new id end seen.named inside old are, goes_between id end (record { values = logical_type values; inside = ids_from (suc id) inner }) seen.named inside old are, append_assoc seen.ids (pos id ∷ []) (ids_from (suc id) inner)) refl
 
 own_within : (keys : Keys) (id inner : ℕ) (values : TypeTree) → AreWithin id (next_after keys id + inner) (own_value_types keys id values inner)
 own_within None id inner values = tt

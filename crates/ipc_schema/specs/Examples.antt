@@ -9,7 +9,7 @@ use Rattle.ipc_flatbuf.specs.Flatbuffers.{spec_offset_at, spec_back_from, spec_t
 use Rattle.ipc_flatbuf.specs.Messages.{root_at, spec_first_bytes, spec_after_continuation, spec_message_of_size, spec_sized_message, message_at}
 use Rattle.ipc_schema.specs.Dictionaries.{no_dictionaries}
 use Rattle.ipc_schema.specs.FieldVectors.{tables_in_turn}
-use Rattle.ipc_schema.specs.Schemas.{SchemaModel, spec_pair_at, spec_metadata_at, spec_integer_at, spec_field_at, spec_schema_at, stream_schema_at}
+use Rattle.ipc_schema.specs.Schemas.{SchemaModel, spec_pair_at, spec_metadata_at, spec_integer_at, spec_field_at, spec_schema_at, stored_schema_of_stream, stream_schema_at}
 
 abbrev pub worked_message : List ℕ
 worked_message =
@@ -22,5 +22,5 @@ is_text : is_utf8 (97 ∷ []) ≡ true
 is_text = is_utf8-from_IsUtf8 (97 ∷ []) (IsUtf8-from_ascii (97 ∷ []) (search (rules, arith)))
 
 pub worked : stream_schema_at worked_message ≡ Ok ((worked_tree, no_dictionaries), [])
-unfolding spec_offset_at spec_back_from spec_table_at spec_field_position spec_charge_budget spec_read_table spec_read_vector spec_read_string tables_at tables_in_turn spec_items_at spec_str_at root_at spec_first_bytes spec_after_continuation spec_message_of_size spec_sized_message message_at spec_pair_at spec_metadata_at spec_integer_at spec_field_at spec_schema_at stream_schema_at
+unfolding spec_offset_at spec_back_from spec_table_at spec_field_position spec_charge_budget spec_read_table spec_read_vector spec_read_string tables_at tables_in_turn spec_items_at spec_str_at root_at spec_first_bytes spec_after_continuation spec_message_of_size spec_sized_message message_at spec_pair_at spec_metadata_at spec_integer_at spec_field_at spec_schema_at stored_schema_of_stream stream_schema_at
 worked = rw is_text refl

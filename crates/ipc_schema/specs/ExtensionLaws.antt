@@ -9,8 +9,9 @@ use Rattle.std.specs.declared.cmp.Ordering.TheVariants.{Less, Equal, Greater}
 use Rattle.std.proofs.lemmas.Map.Text.{is_eq-slice_cmp}
 use Rattle.nest_memory.specs.TypeTree as types
 use Rattle.nest_memory.specs.TypeTree.{Letters, Entries, TypeTree, field}
-use Rattle.nest_memory.specs.Floats.{spec_is_float_name, spec_is_float}
-use Rattle.ipc_schema.specs.Extensions.{extension_name, extension_metadata, metadata_value, spec_has_key, without, spec_with_pair, spec_names_float, field_with_metadata, spec_storage_type, spec_is_extension, with_text, all_metadata_of}
+use Rattle.nest_memory.specs.Floats.{spec_is_float}
+use Rattle.ipc_schema.specs.StoredTypes.{spec_is_reserved_name}
+use Rattle.ipc_schema.specs.Extensions.{extension_name, extension_metadata, metadata_value, spec_has_key, without, spec_with_pair, spec_names_reserved, field_with_metadata, spec_storage_type, spec_is_extension, with_text, all_metadata_of}
 use Rattle.ipc_schema.specs.WriteChecks.{spec_has_free_name, spec_has_no_reserved_key}
 
 -- ---- a key that is absent
@@ -141,8 +142,8 @@ module _ (title : Letters) (type : TypeTree) (text : Option Letters) (entries : 
   free_text : HasNoKey extension_metadata entries
   free_text = is_free extension_metadata entries (key_is_free (spec_is_float (types.extension title type text)) (spec_has_key extension_metadata entries) plain (parts_of (types.extension title type text) entries are).text)
 
-  free_title : spec_is_float_name title ≡ false
-  free_title = title_is_free (spec_is_float (types.extension title type text)) (spec_is_float_name title) plain (parts_of (types.extension title type text) entries are).title
+  free_title : spec_is_reserved_name title ≡ false
+  free_title = title_is_free (spec_is_float (types.extension title type text)) (spec_is_reserved_name title) plain (parts_of (types.extension title type text) entries are).title
 
 plain_back : (name : Letters) (type : TypeTree) (nullable : Bool) (entries : Entries) → HasNoKey extension_name entries → field_with_metadata name type nullable entries ≡ field name type nullable entries
 plain_back name type nullable entries free = rw free refl
@@ -194,16 +195,16 @@ field_round_trips name (types.extension title type text) nullable entries are = 
         let is = spelled title text entries free (free_text title type text entries e are) in
         rw (e, is.name, is.text_of, is.rest) refl
 
--- all metadata of a field does not name a floating-point type
-pub no_float_is_named : (type : TypeTree) (entries : Entries) → spec_has_no_reserved_key type entries ≡ true → spec_names_float (all_metadata_of type entries) ≡ false
-no_float_is_named (types.extension title type text) entries are = by_kind (spec_is_float (types.extension title type text)) refl
+-- all metadata of a field has no reserved name
+pub no_reserved_is_named : (type : TypeTree) (entries : Entries) → spec_has_no_reserved_key type entries ≡ true → spec_names_reserved (all_metadata_of type entries) ≡ false
+no_reserved_is_named (types.extension title type text) entries are = by_kind (spec_is_float (types.extension title type text)) refl
   where
     free : HasNoKey extension_name entries
     free = free_name (types.extension title type text) entries are
 
-    by_kind : (float : Bool) → spec_is_float (types.extension title type text) ≡ float → spec_names_float (all_metadata_of (types.extension title type text) entries) ≡ false
+    by_kind : (float : Bool) → spec_is_float (types.extension title type text) ≡ float → spec_names_reserved (all_metadata_of (types.extension title type text) entries) ≡ false
     by_kind true e = rw (e, free) refl
     by_kind false e =
         let is = spelled title text entries free (free_text title type text entries e are) in
         rw (e, is.name) (free_title title type text entries e are)
-no_float_is_named type entries are = rw (free_name type entries are) refl
+no_reserved_is_named type entries are = rw (free_name type entries are) refl

@@ -8,7 +8,8 @@ use Rattle.std.specs.Ordering.{nat_cmp}
 use Rattle.std.specs.Str.{bytes_eq}
 use Rattle.nest_memory.specs.TypeTree as types
 use Rattle.nest_memory.specs.TypeTree.{Letters, Entries, TypeTree, FieldTree, field}
-use Rattle.nest_memory.specs.Floats.{spec_is_float_name, spec_is_float}
+use Rattle.nest_memory.specs.Floats.{spec_is_float}
+use Rattle.ipc_schema.specs.StoredTypes.{spec_is_reserved_name}
 
 -- the reserved keys ARROW:extension:name and ARROW:extension:metadata
 abbrev pub extension_name : Letters
@@ -38,13 +39,13 @@ spec_extension_field name type nullable entries (Some title) =
 abbrev pub field_with_metadata : Letters → TypeTree → Bool → Entries → FieldTree
 field_with_metadata name type nullable entries = spec_extension_field name type nullable entries (metadata_value extension_name entries)
 
--- whether the extension name of a field is that of a floating-point type
-abbrev pub is_float_name_of : Option Letters → Bool
-is_float_name_of None = false
-is_float_name_of (Some title) = spec_is_float_name title
+-- whether the extension name of a field is reserved: for floating-point types, and for arrays that are stored otherwise than they are read
+abbrev pub is_reserved_name_of : Option Letters → Bool
+is_reserved_name_of None = false
+is_reserved_name_of (Some title) = spec_is_reserved_name title
 
-abbrev pub spec_names_float : Entries → Bool
-spec_names_float entries = is_float_name_of (metadata_value extension_name entries)
+abbrev pub spec_names_reserved : Entries → Bool
+spec_names_reserved entries = is_reserved_name_of (metadata_value extension_name entries)
 
 -- the storage type of an extension type
 abbrev pub spec_storage_type : TypeTree → TypeTree

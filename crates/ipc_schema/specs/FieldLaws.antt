@@ -20,14 +20,15 @@ use Rattle.ipc_schema.specs.FieldVectors.{ReadsBackBy, EachReadsBackBy, table_ve
 use Rattle.ipc_schema.specs.declared.dictionaries.Encoding.{Encoding}
 use Rattle.ipc_schema.specs.Dictionaries.{ValueTypeModel, DictionaryTypesModel, Progress, no_dictionaries, progress, spec_record_id, spec_record_values, spec_with_encoding, spec_key_at, spec_encoding_at, spec_dictionary_at}
 use Rattle.ipc_schema.specs.Types.{spec_shape_at, spec_children_of}
-use Rattle.ipc_schema.specs.Extensions.{spec_names_float, field_with_metadata, spec_storage_type, spec_table_type, all_metadata_of}
-use Rattle.ipc_schema.specs.ExtensionLaws.{field_round_trips, no_float_is_named}
+use Rattle.ipc_schema.specs.Extensions.{spec_names_reserved, field_with_metadata, spec_storage_type, spec_table_type, all_metadata_of}
+use Rattle.ipc_schema.specs.ExtensionLaws.{field_round_trips, no_reserved_is_named}
 use Rattle.ipc_schema.specs.Schemas.{spec_metadata_at, spec_field_over, spec_field_at}
 use Rattle.ipc_schema.specs.WriteChecks.{and_then_check, spec_require, is_not_nested_extension, spec_can_encode, spec_has_no_reserved_key, spec_check_type, spec_check_own, spec_check_each, spec_check_field, check_fields}
 use Rattle.ipc_schema.specs.DictionaryIds.{index_type_of, encoding_with_id, spec_encoding_of, next_after, next_after_own, total, each_from, count_dictionaries, count_all, ids_from, own_value_types, flattened, value_types_from, with_ids_from, types_after, types_after_all}
 use Rattle.ipc_schema.specs.DictionaryIdLaws.{Keys, AreWithin, encoding_round_trips, ids_more, within_more, within_both, own_is_new, behind_counts, behind_at_most, named_within, all_within, each_long}
 use Rattle.ipc_schema.specs.SchemaBytes.{type_bytes, spec_type_number, encoding_head, encoding_part, encoding_bytes, field_vtable, field_head, field_parts, parts_of_field, field_bytes, each_bytes, entries_bytes}
 use Rattle.ipc_schema.specs.TypeLaws.{TypeFits, both, passes, own_shape, type_cost, TypeIs, type_is, type_pays, key_read, key_long}
+use Rattle.ipc_schema.specs.StoredArrayLaws.{is_not_stored_otherwise}
 use Rattle.ipc_schema.specs.MetadataLaws.{AreUtf8, AreSorted, entries_cost, entries_pay, metadata_round_trips}
 
 -- ---- fields that can be written
@@ -36,7 +37,7 @@ use Rattle.ipc_schema.specs.MetadataLaws.{AreUtf8, AreSorted, entries_cost, entr
 -- its storage type and all its metadata
 pub record IsPlain (name : Letters) (type : TypeTree) (nullable : Bool) (entries : Entries) : Type 0 where
   pub form : spec_check_type (spec_table_type type) ≡ Ok tt
-  pub unreserved : spec_names_float (all_metadata_of type entries) ≡ false
+  pub unreserved : spec_names_reserved (all_metadata_of type entries) ≡ false
   pub back : field_with_metadata name (spec_storage_type type) nullable (all_metadata_of type entries) ≡ field name type nullable entries
 
 plain_is : (name : Letters) (type : TypeTree) (nullable : Bool) (entries : Entries) → spec_check_own (field name type nullable entries) ≡ Ok tt → IsPlain name type nullable entries
@@ -48,7 +49,7 @@ plain_is name type nullable entries h =
     let second = both encodes (and_then_check free (spec_check_type (spec_table_type type))) first.1 in
     let third = both free (spec_check_type (spec_table_type type)) second.1 in
     let are = passes (spec_has_no_reserved_key type entries) reasons.Extension third.0 in
-    record { form = third.1; unreserved = no_float_is_named type entries are; back = field_round_trips name type nullable entries are }
+    record { form = third.1; unreserved = no_reserved_is_named type entries are; back = field_round_trips name type nullable entries are }
 
 -- the invariants of a Rust Field and its descendants, to a depth
 unfoldable pub FieldFits : ℕ → FieldTree → Type 0
@@ -150,7 +151,7 @@ module _ (read : List ℕ → ℕ → Progress → Result (FieldTree × Progress
   abbrev pub IsNamed : Type 0
   IsNamed = spec_record_values (encoding_with_id id keys) type (length seen.ids) middle ≡ Ok last
 
-  level_again : (whole : List ℕ) (p q left : ℕ) (after : List ℕ) → TypeIs type (length bodies) → AreChildren → IsNamed → spec_names_float entries ≡ false → id < 2 ^ 63 → length bodies ≡ length (spec_children_of type)
+  level_again : (whole : List ℕ) (p q left : ℕ) (after : List ℕ) → TypeIs type (length bodies) → AreChildren → IsNamed → spec_names_reserved entries ≡ false → id < 2 ^ 63 → length bodies ≡ length (spec_children_of type)
       → is_utf8 name ≡ true → AreUtf8 entries → AreSorted entries → From whole p (parts_of_field nullable (encoding_with_id id keys) type (table_vector_bytes 24 bodies) name entries ++ after) → length whole < 2 ^ 32 → q ≡ p + 24 → own_cost name keys type entries inner ≤ left
       → spec_field_over (read whole) whole q (progress left seen) ≡ Ok (field_with_metadata name (spec_with_encoding (encoding_with_id id keys) type) nullable entries, progress (left - own_cost name keys type entries inner) last)
   unfolding field_parts field_vtable field_head u32_bytes spec_str_at spec_items_at
@@ -210,7 +211,7 @@ module _ (read : List ℕ → ℕ → Progress → Result (FieldTree × Progress
       let spent : rest' - entries_cost entries ≡ left - own_cost name keys type entries inner = omega arith in
       rw (at, v, f0, o0, name_place, s, f1, b, f2, g, f3, o3, is.number, f5, o5, row_place, c, i, d.there, d.read, is.counted, c', f6, o6, metadata_place, w, unreserved, is.back, named, flag_round_trips nullable, spent) refl
 
-  pub level_is : TypeIs type (length bodies) → AreChildren → IsNamed → spec_names_float entries ≡ false → id < 2 ^ 63 → length bodies ≡ length (spec_children_of type) → is_utf8 name ≡ true → AreUtf8 entries → AreSorted entries → (left : ℕ) → own_cost name keys type entries inner ≤ left
+  pub level_is : TypeIs type (length bodies) → AreChildren → IsNamed → spec_names_reserved entries ≡ false → id < 2 ^ 63 → length bodies ≡ length (spec_children_of type) → is_utf8 name ≡ true → AreUtf8 entries → AreSorted entries → (left : ℕ) → own_cost name keys type entries inner ≤ left
       → ReadsBackBy (λ whole. spec_field_over (read whole) whole) 24 (parts_of_field nullable (encoding_with_id id keys) type (table_vector_bytes 24 bodies) name entries) (field_with_metadata name (spec_with_encoding (encoding_with_id id keys) type) nullable entries) (progress left seen) (progress (left - own_cost name keys type entries inner) last)
   level_is is are named unreserved few many utf8 pairs rising left le = record {
     law = λ whole p q after h small at. level_again whole p q left after is are named unreserved few many utf8 pairs rising h small at le;
@@ -292,7 +293,7 @@ field_part_round_trips (suc depth) (field name type nullable entries) form fits 
     let now : DictionaryTypesModel = spec_record_id (encoding_with_id next keys) seen in
     let inside = flattened (each_from (count_dictionaries depth) (value_types_from depth) start cs) in
     let last : DictionaryTypesModel = with_ids_from next (next_after keys n) (own_value_types keys next own n ++ inside) seen in
-    let named = own_is_new keys next n (start + n) own seen inside new (all_within depth start cs) in
+    let named = own_is_new keys next n (start + n) own seen inside new (all_within depth start cs) (is_not_stored_otherwise own plain.form) in
     let level = level_is (spec_field_at depth) bodies inner name next keys own nullable (all_metadata_of type entries) seen (types_after_all depth start cs now) last (type_is own (length bodies) many plain.form fits.1)
     (λ m enough. each_again depth (field_part_round_trips depth) cs parts.1 fits.4 start now m (still_new keys next seen new) (omega (arith, counts)) enough) named plain.unreserved (omega arith) many fits.0 fits.2 fits.3 left le in
     let back : field_with_metadata name (spec_with_encoding (encoding_with_id next keys) own) nullable (all_metadata_of type entries) ≡ field name type nullable entries =

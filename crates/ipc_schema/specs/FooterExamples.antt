@@ -15,7 +15,7 @@ worked_file =
 
 abbrev pub worked_tree : ProjectedFooterModel
 worked_tree = record {
-  picked = record { schema = record { fields = []; metadata = [] }; steps = []; seen = no_dictionaries };
+  picked = record { schema = record { fields = []; metadata = [] }; steps = []; arrays = []; seen = no_dictionaries };
   dictionaries = [];
   batches = record { offset = pos 64; metadata_length = pos 88; body_length = pos 0 } ∷ [];
 }

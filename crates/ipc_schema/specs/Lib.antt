@@ -13,6 +13,8 @@ pub mod Schemas
 pub mod SchemaEq
 pub mod ProjectedSchemas
 pub mod SkippedFields
+pub mod StoredTypes
+pub mod StoredArrays
 pub mod Projections
 pub mod DictionaryIds
 pub mod WriteChecks
@@ -22,6 +24,7 @@ pub mod OutermostIdLaws
 pub mod MetadataLaws
 pub mod TypeLaws
 pub mod ExtensionLaws
+pub mod StoredArrayLaws
 pub mod FieldLaws
 pub mod SchemaLaws
 pub mod ProjectionLaws
@@ -30,6 +33,7 @@ pub mod TypeExamples
 pub mod NestedExamples
 pub mod ExtensionExamples
 pub mod FloatExamples
+pub mod StoredExamples
 pub mod DictionaryExamples
 pub mod ProjectionExamples
 pub mod DictionaryWriteExamples

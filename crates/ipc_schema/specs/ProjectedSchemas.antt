@@ -10,6 +10,8 @@ use Rattle.ipc_flatbuf.specs.declared.error.IpcReadError.TheVariants.{Endianness
 use Rattle.ipc_flatbuf.specs.declared.projection.SkippedField.{SkippedField}
 use Rattle.ipc_flatbuf.specs.declared.projection.FieldAction.{FieldAction}
 use Rattle.ipc_flatbuf.specs.declared.projection.FieldAction.TheVariants.{Read, Skip}
+use Rattle.ipc_flatbuf.specs.declared.projection.StoredArray.{StoredArray}
+use Rattle.ipc_flatbuf.specs.declared.projection.StoredArray.TheVariants.{Skipped}
 use Rattle.ipc_flatbuf.specs.Flatbuffers as words
 use Rattle.ipc_flatbuf.specs.Flatbuffers.{signed_at, spec_offset_at, spec_offset_field, spec_read_table, spec_items_at}
 use Rattle.ipc_flatbuf.specs.declared.vectors.VectorItems.{VectorItems}
@@ -24,27 +26,30 @@ use Rattle.ipc_schema.specs.Dictionaries.{DictionaryTypesModel, Progress, no_dic
 use Rattle.ipc_schema.specs.DictionaryModels.{seen_of}
 use Rattle.ipc_schema.specs.Schemas.{SchemaModel, spec_metadata_at, spec_field_at, schema_of, schema_parts}
 use Rattle.ipc_schema.specs.SkippedFields.{spec_skipped_field_at}
+use Rattle.ipc_schema.specs.StoredTypes.{read_field}
+use Rattle.ipc_schema.specs.StoredArrays.{field_arrays}
 use Rattle.ipc_schema.specs.Projections.{ProjectionModel, spec_contains_field}
 use Rattle.ipc_schema.specs.Unions.{have_union, spec_check_version}
 
 -- ---- fields
 
--- a field of a schema that is read or skipped
+-- a field of a schema that is read, as it is stored, or skipped
 pub data ProjectedItem : Type 0 where
   read : FieldTree → ProjectedItem
   passed : SkippedField → ProjectedItem
 
--- whether each field is read or skipped, and the fields that are read
+-- whether each field is read or skipped, the fields that are read, and how the arrays of all are stored
 pub record ProjectedFields : Type 0 where
   pub steps : List FieldAction
   pub fields : List FieldTree
+  pub arrays : List StoredArray
 
 abbrev pub no_fields : ProjectedFields
-no_fields = record { steps = []; fields = [] }
+no_fields = record { steps = []; fields = []; arrays = [] }
 
 abbrev pub with_item : ProjectedItem → ProjectedFields → ProjectedFields
-with_item (read f) others = record { steps = Read ∷ others.steps; fields = f ∷ others.fields }
-with_item (passed s) others = record { steps = Skip s ∷ others.steps; fields = others.fields }
+with_item (read f) others = record { steps = Read ∷ others.steps; fields = read_field f ∷ others.fields; arrays = field_arrays f ++ others.arrays }
+with_item (passed s) others = record { steps = Skip s ∷ others.steps; fields = others.fields; arrays = Skipped s ∷ others.arrays }
 
 abbrev pub spec_item_by : Bool → List ℕ → ℕ → Progress → Result (ProjectedItem × Progress) IpcReadError
 spec_item_by true bytes position so_far = spec_field_at 64 bytes position so_far >>= λ f. Ok (read f.0, f.1)
@@ -69,7 +74,7 @@ spec_projected_fields_of_items picks bytes vector so_far = spec_projected_fields
 
 -- the fields of the first, then of the second
 abbrev pub joined_fields : ProjectedFields → ProjectedFields → ProjectedFields
-joined_fields p q = record { steps = p.steps ++ q.steps; fields = p.fields ++ q.fields }
+joined_fields p q = record { steps = p.steps ++ q.steps; fields = p.fields ++ q.fields; arrays = p.arrays ++ q.arrays }
 
 -- ---- schemas
 
@@ -77,6 +82,7 @@ joined_fields p q = record { steps = p.steps ++ q.steps; fields = p.fields ++ q.
 pub record ProjectedSchemaModel : Type 0 where
   pub schema : SchemaModel
   pub steps : List FieldAction
+  pub arrays : List StoredArray
   pub seen : DictionaryTypesModel
 
 abbrev pub spec_has_union : FieldAction → Bool
@@ -97,7 +103,7 @@ spec_projected_schema_at picks bytes position left = do
   picked ← spec_projected_fields_at picks bytes 0 items.0.count items.0.first (progress items.1 no_dictionaries)
   to ← spec_offset_field bytes table.0 2
   metadata ← spec_metadata_at bytes to picked.1.left
-  Ok (record { schema = record { fields = picked.0.fields; metadata = metadata.0 }; steps = picked.0.steps; seen = picked.1.seen }, metadata.1)
+  Ok (record { schema = record { fields = picked.0.fields; metadata = metadata.0 }; steps = picked.0.steps; arrays = picked.0.arrays; seen = picked.1.seen }, metadata.1)
 
 -- the projection of the schema of the first message of a stream
 unfoldable pub spec_projected_schema_in_message : ProjectionModel → Option MessageModel → Result ProjectedSchemaModel IpcReadError
@@ -121,7 +127,7 @@ item_of (items.Read f) = read (field_of f)
 item_of (items.Passed s) = passed s
 
 abbrev pub fields_model_of : Parts → ProjectedFields
-fields_model_of p = record { steps = p.steps.items; fields = map field_of p.fields.items }
+fields_model_of p = record { steps = p.steps.items; fields = map field_of p.fields.items; arrays = p.arrays.items }
 
 abbrev pub projected_schema_of : ProjectedSchema → ProjectedSchemaModel
-projected_schema_of s = record { schema = schema_of s.schema; steps = s.steps.items; seen = seen_of s.dictionaries }
+projected_schema_of s = record { schema = schema_of s.schema; steps = s.steps.items; arrays = s.arrays.items; seen = seen_of s.dictionaries }

@@ -1,5 +1,5 @@
 -- The projection of all columns is the schema, and it round-trips.
-use Rattle.std.specs.Prelude.{◌≡◌, ◌<◌, ◌^◌, ℕ, zero, suc, ◌+◌, pos, false, List, [], ◌∷◌, ◌++◌, map, Option, Result, Ok, Err, refl}
+use Rattle.std.specs.Prelude.{◌≡◌, ◌<◌, ◌^◌, ℕ, zero, suc, ◌+◌, ◌-◌, pos, true, false, List, [], ◌∷◌, ◌++◌, map, Option, Result, Ok, Err, refl}
 use Rattle.std.proofs.Common.{ap, sym, ◌∙◌}
 use Rattle.std.specs.List.{list_any}
 use Rattle.std.specs.Int.{w16}
@@ -10,6 +10,7 @@ use Rattle.ipc_flatbuf.specs.declared.error.IpcReadError.{IpcReadError}
 use Rattle.ipc_flatbuf.specs.declared.error.IpcReadError.TheVariants.{Endianness}
 use Rattle.ipc_flatbuf.specs.declared.projection.FieldAction.{FieldAction}
 use Rattle.ipc_flatbuf.specs.declared.projection.FieldAction.TheVariants.{Read}
+use Rattle.ipc_flatbuf.specs.StoredArrays.{reads_as_stored}
 use Rattle.ipc_flatbuf.specs.Flatbuffers as words
 use Rattle.ipc_flatbuf.specs.Flatbuffers.{signed_at, spec_offset_at, spec_offset_field, spec_read_table, spec_items_at}
 use Rattle.ipc_flatbuf.specs.VectorLaws.{ReadsBackAs}
@@ -20,9 +21,13 @@ use Rattle.ipc_flatbuf.specs.declared.message.types.MetadataVersion.TheVariants.
 use Rattle.ipc_schema.specs.Dictionaries.{DictionaryTypesModel, Progress, no_dictionaries, progress}
 use Rattle.ipc_schema.specs.FieldVectors.{tables_in_turn}
 use Rattle.ipc_schema.specs.DictionaryIds.{types_after_all}
-use Rattle.ipc_schema.specs.Schemas.{SchemaModel, spec_metadata_at, spec_field_at, spec_schema_at, schema_parts, stream_schema_at}
+use Rattle.ipc_schema.specs.Schemas.{SchemaModel, spec_metadata_at, spec_field_at, spec_schema_at, schema_parts, spec_read_schema, stored_schema_of_stream}
 use Rattle.ipc_schema.specs.SchemaBytes.{schema_message}
-use Rattle.ipc_schema.specs.SchemaLaws.{SchemaFits, part_of, schema_cost, table_round_trips, stream_round_trips}
+use Rattle.ipc_schema.specs.SchemaLaws.{SchemaFits, part_of, schema_cost, table_round_trips, stored_round_trips}
+use Rattle.ipc_schema.specs.StoredTypes.{read_field}
+use Rattle.ipc_schema.specs.StoredArrays.{arrays_of_each}
+use Rattle.ipc_schema.specs.StoredArrayLaws.{fields_as_stored, fields_same, fields_read}
+use Rattle.ipc_schema.specs.WriteChecks.{check_fields}
 use Rattle.ipc_schema.specs.Unions.{have_union, spec_check_version}
 use Rattle.ipc_schema.specs.Projections.{ProjectionModel, all}
 use Rattle.ipc_schema.specs.ProjectedSchemas.{ProjectedItem, read, ProjectedFields, ProjectedSchemaModel, with_item, spec_projected_fields_at, spec_has_union, spec_check_projected_version, spec_projected_schema_at, spec_projected_schema_in_message, stream_projected_schema_at}
@@ -31,12 +36,24 @@ use Rattle.ipc_schema.specs.ProjectedSchemas.{ProjectedItem, read, ProjectedFiel
 abbrev pub read_actions : List FieldTree → List FieldAction
 read_actions fields = map (λ f. Read) fields
 
+-- the projection of all columns of a schema as it is stored
 abbrev pub all_projected : SchemaModel → DictionaryTypesModel → ProjectedSchemaModel
-all_projected s seen = record { schema = s; steps = read_actions s.fields; seen = seen }
+all_projected s seen = record { schema = spec_read_schema s; steps = read_actions s.fields; arrays = arrays_of_each s.fields; seen = seen }
 
--- the projection of all columns of a schema that was written
+-- the projection of all columns of a schema that was written, which is read as it is stored
 abbrev pub all_written : SchemaModel → ProjectedSchemaModel
-all_written s = all_projected s (types_after_all 64 0 s.fields no_dictionaries)
+all_written s = record { schema = s; steps = read_actions s.fields; arrays = arrays_of_each s.fields; seen = types_after_all 64 0 s.fields no_dictionaries }
+
+-- a schema that can be written is read as it is stored
+pub written_is_read : (s : SchemaModel) → check_fields s.fields ≡ Ok tt → spec_read_schema s ≡ s
+written_is_read s form = rw (fields_same s.fields (fields_as_stored s.fields form)) refl
+
+written_same : (s : SchemaModel) → check_fields s.fields ≡ Ok tt → all_projected s (types_after_all 64 0 s.fields no_dictionaries) ≡ all_written s
+written_same s form = rw (fields_same s.fields (fields_as_stored s.fields form)) refl
+
+-- its arrays are read as they are stored
+pub written_as_stored : (s : SchemaModel) → check_fields s.fields ≡ Ok tt → reads_as_stored (all_written s).arrays ≡ true
+written_as_stored s form = fields_read s.fields (fields_as_stored s.fields form)
 
 -- ---- steps of reading in turn
 
@@ -45,7 +62,7 @@ bind_step (Ok x) f g k h = h x
 bind_step (Err e) f g k h = refl
 
 abbrev with_steps : List FieldTree × Progress → Result (ProjectedFields × Progress) IpcReadError
-with_steps x = Ok (record { steps = read_actions x.0; fields = x.0 }, x.1)
+with_steps x = Ok (record { steps = read_actions x.0; fields = map read_field x.0; arrays = arrays_of_each x.0 }, x.1)
 
 abbrev one_picked : FieldTree → Result (ProjectedFields × Progress) IpcReadError → Result (ProjectedFields × Progress) IpcReadError
 one_picked first others = others >>= λ x. Ok (with_item (read first) x.0, x.1)
@@ -54,6 +71,7 @@ abbrev one_row : FieldTree → Result (List FieldTree × Progress) IpcReadError 
 one_row first others = others >>= λ x. Ok (first ∷ x.0, x.1)
 
 more_rows : (first : FieldTree) (rows : Result (List FieldTree × Progress) IpcReadError) (picked : Result (ProjectedFields × Progress) IpcReadError) → picked ≡ (rows >>= with_steps) → one_picked first picked ≡ (one_row first rows >>= with_steps)
+unfolding arrays_of_each
 more_rows first (Ok x) picked e = rw e refl
 more_rows first (Err f) picked e = rw e refl
 
@@ -72,7 +90,7 @@ rows_from (Ok f) picked rows h = more_rows f.0 (rows f.1) (picked f.1) (h f.1)
 rows_from (Err e) picked rows h = refl
 
 rows_same : (bytes : List ℕ) (i n position : ℕ) (so_far : Progress) → spec_projected_fields_at all bytes i n position so_far ≡ (tables_in_turn (spec_field_at 64 bytes) bytes n position so_far >>= with_steps)
-unfolding spec_projected_fields_at tables_in_turn
+unfolding spec_projected_fields_at tables_in_turn arrays_of_each
 rows_same bytes i zero position so_far = refl
 rows_same bytes i (suc n) position so_far =
     bind_step (spec_offset_at bytes position) _ _ with_steps
@@ -84,7 +102,7 @@ abbrev with_all : (SchemaModel × DictionaryTypesModel) × ℕ → Result (Proje
 with_all x = Ok (all_projected x.0.0 x.0.1, x.1)
 
 abbrev all_fields : List FieldTree × Progress → ProjectedFields × Progress
-all_fields x = (record { steps = read_actions x.0; fields = x.0 }, x.1)
+all_fields x = (record { steps = read_actions x.0; fields = map read_field x.0; arrays = arrays_of_each x.0 }, x.1)
 
 rows_then : (rows : Result (List FieldTree × Progress) IpcReadError) (f : ProjectedFields × Progress → Result (ProjectedSchemaModel × ℕ) IpcReadError) (g : List FieldTree × Progress → Result ((SchemaModel × DictionaryTypesModel) × ℕ) IpcReadError)
     → ((x : List FieldTree × Progress) → f (all_fields x) ≡ (g x >>= with_all)) → ((rows >>= with_steps) >>= f) ≡ ((rows >>= g) >>= with_all)
@@ -114,7 +132,8 @@ pub projected_table_round_trips : (s : SchemaModel) → SchemaFits s → ReadsBa
 projected_table_round_trips s fits =
     let again = table_round_trips s fits in
     record {
-      law = λ whole p q left after h small at le. projection_of_all_is_schema whole q left ∙ ap (λ (read : Result ((SchemaModel × DictionaryTypesModel) × ℕ) IpcReadError). read >>= with_all) (again.law whole p q left after h small at le);
+      law = λ whole p q left after h small at le. projection_of_all_is_schema whole q left ∙ ap (λ (read : Result ((SchemaModel × DictionaryTypesModel) × ℕ) IpcReadError). read >>= with_all) (again.law whole p q left after h small at le)
+          ∙ ap (λ (w : ProjectedSchemaModel). Ok (w, left - schema_cost s)) (written_same s fits.form);
       long = again.long;
     }
 
@@ -130,8 +149,8 @@ allowed_v V5 (Ok tt) = refl
 allowed_v V4 (Err e) = refl
 allowed_v V5 (Err e) = refl
 
-allowed_same : (version : versions.MetadataVersion) (fields : List FieldTree) → spec_check_projected_version version fields (read_actions fields) ≡ spec_check_version version (have_union fields)
-allowed_same version fields = rw (none_passed fields) (allowed_v version (spec_check_version version (have_union fields)))
+allowed_same : (version : versions.MetadataVersion) (fields : List FieldTree) → spec_check_projected_version version (map read_field fields) (read_actions fields) ≡ spec_check_version version (have_union (map read_field fields))
+allowed_same version fields = rw (none_passed fields) (allowed_v version (spec_check_version version (have_union (map read_field fields))))
 
 abbrev stream_all : (SchemaModel × DictionaryTypesModel) × List ℕ → Result (ProjectedSchemaModel × List ℕ) IpcReadError
 stream_all x = Ok (all_projected x.0.0 x.0.1, x.1)
@@ -146,7 +165,7 @@ schema_then (Err e) f g h = refl
 
 -- the projection of all columns of the schema of a stream
 abbrev pub all_of_stream : List ℕ → Result (ProjectedSchemaModel × List ℕ) IpcReadError
-all_of_stream bytes = stream_schema_at bytes >>= λ x. Ok (all_projected x.0.0 x.0.1, x.1)
+all_of_stream bytes = stored_schema_of_stream bytes >>= λ x. Ok (all_projected x.0.0 x.0.1, x.1)
 
 -- the same of the schema of a message, with the bytes after it
 abbrev with_rest : List ℕ → ProjectedSchemaModel → Result (ProjectedSchemaModel × List ℕ) IpcReadError
@@ -164,14 +183,15 @@ before_rest picks first rest =
     (λ picked. bind_step (spec_check_projected_version parts.root.version picked.0.schema.fields picked.0.steps) _ _ (with_rest rest) (λ allowed. refl)))
 
 pub stream_projection_of_all_is_schema : (bytes : List ℕ) → stream_projected_schema_at all bytes ≡ all_of_stream bytes
-unfolding stream_projected_schema_at stream_schema_at
+unfolding stream_projected_schema_at stored_schema_of_stream
 stream_projection_of_all_is_schema bytes =
     bind_step (message_at bytes) _ _ stream_all
     (λ first. sym (before_rest all first.0 first.1) ∙ bind_step (schema_parts first.0) _ _ stream_all
     (λ parts. rw (projection_of_all_is_schema parts.metadata parts.root.header parts.root.left)
     (schema_then (spec_schema_at parts.metadata parts.root.header parts.root.left) _ _
-    (λ schema. rw (allowed_same parts.root.version schema.0.0.fields) (bind_step (spec_check_version parts.root.version (have_union schema.0.0.fields)) _ _ stream_all (λ allowed. refl))))))
+    (λ schema. rw (allowed_same parts.root.version schema.0.0.fields) (bind_step (spec_check_version parts.root.version (have_union (map read_field schema.0.0.fields))) _ _ stream_all (λ allowed. refl))))))
 
 -- the message of a schema round-trips, and the bytes after it are left
 pub projected_stream_round_trips : (s : SchemaModel) (rest : List ℕ) → SchemaFits s → metadata_size (schema_message s) < 2 ^ 31 → stream_projected_schema_at all (schema_message s ++ rest) ≡ Ok (all_written s, rest)
-projected_stream_round_trips s rest fits small = stream_projection_of_all_is_schema (schema_message s ++ rest) ∙ ap (λ (read : Result ((SchemaModel × DictionaryTypesModel) × List ℕ) IpcReadError). read >>= stream_all) (stream_round_trips s rest fits small)
+projected_stream_round_trips s rest fits small =
+    stream_projection_of_all_is_schema (schema_message s ++ rest) ∙ ap (λ (read : Result ((SchemaModel × DictionaryTypesModel) × List ℕ) IpcReadError). read >>= stream_all) (stored_round_trips s rest fits small) ∙ ap (λ (w : ProjectedSchemaModel). Ok (w, rest)) (written_same s fits.form)

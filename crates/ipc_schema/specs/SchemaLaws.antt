@@ -13,7 +13,8 @@ use Rattle.ipc_flatbuf.specs.Messages.{message_at}
 use Rattle.ipc_flatbuf.specs.MessageBytes.{root_bytes, message_bytes, metadata_size, framed_bytes, padding}
 use Rattle.ipc_flatbuf.specs.MessageLaws.{padded, padded_long, padding_long, framed_long, root_long, written_parts, message_round_trips, written_part}
 use Rattle.ipc_flatbuf.specs.declared.message.types.MessageKind.TheVariants as kinds
-use Rattle.ipc_schema.specs.Schemas.{SchemaModel, spec_metadata_at, spec_field_at, spec_schema_at, stream_schema_at}
+use Rattle.ipc_schema.specs.Schemas.{SchemaModel, spec_metadata_at, spec_field_at, spec_schema_at, stored_schema_of_stream, stream_schema_at}
+use Rattle.ipc_schema.specs.StoredArrayLaws.{fields_as_stored, fields_same}
 use Rattle.ipc_schema.specs.WriteChecks.{check_fields}
 use Rattle.ipc_schema.specs.SchemaBytes.{each_bytes, fields_bytes, entries_bytes, schema_bytes, schema_message}
 use Rattle.ipc_schema.specs.MetadataLaws.{AreUtf8, AreSorted, entries_cost, entries_pay, metadata_round_trips}
@@ -111,6 +112,10 @@ module _ (s : SchemaModel) (fits : SchemaFits s) where
       let enough : schema_cost s ≤ 64 * length whole - 8 = omega (arith, schema_pays s fits, root_long kinds.Schema 0 16 (part_of s), padded_long metadata) in
       keyed_again s whole 48 64 (64 * length whole - 8) (padding (length metadata)) fits h (omega arith) (omega arith) enough
 
+pub stored_round_trips : (s : SchemaModel) (rest : List ℕ) → SchemaFits s → metadata_size (schema_message s) < 2 ^ 31 → stored_schema_of_stream (schema_message s ++ rest) ≡ Ok (with_dictionary_ids s, rest)
+unfolding stored_schema_of_stream schema_message
+stored_round_trips s rest fits small = rw (message_is s fits rest small, table_is_read s fits small) refl
+
 pub stream_round_trips : (s : SchemaModel) (rest : List ℕ) → SchemaFits s → metadata_size (schema_message s) < 2 ^ 31 → stream_schema_at (schema_message s ++ rest) ≡ Ok (with_dictionary_ids s, rest)
-unfolding stream_schema_at schema_message
-stream_round_trips s rest fits small = rw (message_is s fits rest small, table_is_read s fits small) refl
+unfolding stream_schema_at
+stream_round_trips s rest fits small = rw (stored_round_trips s rest fits small, fields_same s.fields (fields_as_stored s.fields fits.form)) refl

@@ -22,8 +22,9 @@ use Rattle.ipc_schema.specs.declared.reading.Keys.{Keys}
 use Rattle.ipc_schema.specs.Dictionaries.{DictionaryTypesModel, Progress, no_dictionaries, progress, spec_record_id, spec_record_values, spec_with_encoding, spec_dictionary_at}
 use Rattle.ipc_schema.specs.DictionaryModels.{seen_of}
 use Rattle.ipc_schema.specs.FieldVectors.{tables_in_turn}
-use Rattle.ipc_schema.specs.Extensions.{spec_names_float, field_with_metadata}
+use Rattle.ipc_schema.specs.Extensions.{spec_names_reserved, field_with_metadata}
 use Rattle.ipc_schema.specs.Types.{spec_type_position, spec_shape_at, spec_can_have, spec_with_children}
+use Rattle.ipc_schema.specs.StoredTypes.{read_field}
 use Rattle.ipc_schema.specs.Unions.{have_union, spec_check_version}
 unfoldable pub use Rattle.ipc_schema.specs.Types.{spec_integer_at}
 
@@ -85,7 +86,7 @@ spec_field_over read bytes position so_far = do
   fields ← tables_in_turn read bytes children.0.count children.0.first (progress dictionary.1 (spec_record_id dictionary.0 so_far.seen))
   to ← spec_offset_field bytes table.0 6
   metadata ← spec_metadata_at bytes to fields.1.left
-  own ← check (not (spec_names_float metadata.0)) UnsupportedType
+  own ← check (not (spec_names_reserved metadata.0)) UnsupportedType
   whole ← field_of_type name.0 (nat_lt 0 nullable) metadata.0 dictionary.0 (length so_far.seen.ids) fields.1.seen (spec_with_children shape.0 fields.0)
   Ok (whole.0, progress metadata.1 whole.1)
 
@@ -105,7 +106,7 @@ pub record SchemaModel : Type 0 where
   pub fields : List FieldTree
   pub metadata : Entries
 
--- a schema and its dictionaries: the ids in pre-order, and their value types
+-- a schema as it is stored and its dictionaries: the ids in pre-order, and their value types
 unfoldable pub spec_schema_at : List ℕ → ℕ → ℕ → Result ((SchemaModel × DictionaryTypesModel) × ℕ) IpcReadError
 spec_schema_at bytes position left = do
   table ← spec_read_table bytes position left
@@ -128,14 +129,22 @@ abbrev pub schema_parts : Option MessageModel → Result MessageModel IpcReadErr
 schema_parts None = Err MissingSchema
 schema_parts (Some parts) = if is_schema parts.root.kind then (if parts.root.body_length == 0 then Ok parts else Err BodyLength) else Err MissingSchema
 
--- the schema of a stream, and the bytes after its message
-unfoldable pub stream_schema_at : List ℕ → Result ((SchemaModel × DictionaryTypesModel) × List ℕ) IpcReadError
-stream_schema_at bytes = do
+-- a schema as it is read
+abbrev pub spec_read_schema : SchemaModel → SchemaModel
+spec_read_schema s = record { fields = map read_field s.fields; metadata = s.metadata }
+
+-- the schema of a stream as it is stored, and the bytes after its message
+unfoldable pub stored_schema_of_stream : List ℕ → Result ((SchemaModel × DictionaryTypesModel) × List ℕ) IpcReadError
+stored_schema_of_stream bytes = do
   first ← message_at bytes
   parts ← schema_parts first.0
   schema ← spec_schema_at parts.metadata parts.root.header parts.root.left
-  allowed ← spec_check_version parts.root.version (have_union schema.0.0.fields)
+  allowed ← spec_check_version parts.root.version (have_union (map read_field schema.0.0.fields))
   Ok (schema.0, first.1)
+
+-- the schema of a stream as it is read, and the bytes after its message
+unfoldable pub stream_schema_at : List ℕ → Result ((SchemaModel × DictionaryTypesModel) × List ℕ) IpcReadError
+stream_schema_at bytes = stored_schema_of_stream bytes >>= λ x. Ok ((spec_read_schema x.0.0, x.0.1), x.1)
 
 -- the value of a Rust Schema
 abbrev pub schema_of : Schema → SchemaModel

@@ -21,6 +21,7 @@ use Rattle.ipc_flatbuf.specs.Flatbuffers as words
 use Rattle.ipc_flatbuf.specs.Flatbuffers.{spec_non_negative, number_at, signed_at, spec_offset_field, spec_read_table, spec_read_string, vector_at}
 use Rattle.nest_memory.specs.Floats.{spec_float_type}
 use Rattle.ipc_schema.specs.Floats.{spec_numbered_precision}
+use Rattle.ipc_schema.specs.StoredTypes.{spec_binary_view, spec_utf8_view, spec_decimal32, spec_decimal64}
 use Rattle.ipc_schema.specs.declared.type_tags.LeafTag.{LeafTag}
 use Rattle.ipc_schema.specs.declared.type_tags.LeafTag.TheVariants as leaves
 use Rattle.ipc_schema.specs.declared.type_tags.Tag.{Tag}
@@ -52,7 +53,9 @@ spec_known_tag n =
     else (if n == 19 then Ok (tags.Leaf leaves.LargeBinary)
     else (if n == 20 then Ok (tags.Leaf leaves.LargeUtf8)
     else (if n == 21 then Ok tags.LargeList
-    else Err UnsupportedType))))))))))))))))))))
+    else (if n == 23 then Ok (tags.Leaf leaves.BinaryView)
+    else (if n == 24 then Ok (tags.Leaf leaves.Utf8View)
+    else Err UnsupportedType))))))))))))))))))))))
 
 -- the type of a tag: 0 is NONE, the last one is 26
 abbrev pub spec_tag_of : ℕ → Result Tag IpcReadError
@@ -112,18 +115,26 @@ spec_float_at bytes position left = do
 abbrev pub spec_is_precision : ℕ → ℕ → Bool
 spec_is_precision most digits = nat_le 1 digits && nat_le digits most
 
--- each number of 38 digits fits in 128 bits, of 76 digits in 256 bits
+-- each number of 9 digits fits in 32 bits, of 18 digits in 64 bits, of 38 digits in 128 bits, of 76 digits in 256 bits
+abbrev pub most_digits32 : ℕ
+most_digits32 = 9
+
+abbrev pub most_digits64 : ℕ
+most_digits64 = 18
+
 abbrev pub most_digits : ℕ
 most_digits = 38
 
 abbrev pub most_digits256 : ℕ
 most_digits256 = 76
 
--- decimals of a precision and scale, in 128 or 256 bits
+-- decimals of a precision and scale, in 32, 64, 128 or 256 bits
 abbrev pub spec_decimal_of : ℕ → ℕ → ℕ → Result TypeTree IpcReadError
 spec_decimal_of digits after bits =
     if bits == 128 then (if spec_is_precision most_digits digits then Ok (types.decimal digits after) else Err TypeRange)
-    else (if bits == 256 then (if spec_is_precision most_digits256 digits then Ok (types.decimal256 digits after) else Err TypeRange) else Err TypeRange)
+    else (if bits == 256 then (if spec_is_precision most_digits256 digits then Ok (types.decimal256 digits after) else Err TypeRange)
+    else (if bits == 32 then (if spec_is_precision most_digits32 digits then Ok (spec_decimal32 digits after) else Err TypeRange)
+    else (if bits == 64 then (if spec_is_precision most_digits64 digits then Ok (spec_decimal64 digits after) else Err TypeRange) else Err TypeRange)))
 
 -- table Decimal
 unfoldable pub spec_decimal_at : List ℕ → ℕ → ℕ → Result (TypeTree × ℕ) IpcReadError
@@ -295,6 +306,8 @@ spec_type_at leaves.FixedSizeBinary bytes position left = spec_fixed_size_binary
 spec_type_at leaves.Duration bytes position left = spec_duration_at bytes position left
 spec_type_at leaves.LargeBinary bytes position left = spec_bare_at types.large_binary bytes position left
 spec_type_at leaves.LargeUtf8 bytes position left = spec_bare_at types.large_utf8 bytes position left
+spec_type_at leaves.BinaryView bytes position left = spec_bare_at spec_binary_view bytes position left
+spec_type_at leaves.Utf8View bytes position left = spec_bare_at spec_utf8_view bytes position left
 
 -- the type of a type table, without its children, of which there are count
 abbrev pub spec_shape_at : Tag → ℕ → List ℕ → ℕ → ℕ → Result (Shape × ℕ) IpcReadError

@@ -7,7 +7,8 @@ use Rattle.ipc_flatbuf.specs.declared.error.IpcWriteError.{IpcWriteError}
 use Rattle.ipc_flatbuf.specs.declared.error.IpcWriteError.TheVariants as reasons
 use Rattle.ipc_flatbuf.specs.WriteErrors.{IsSizeError}
 use Rattle.ipc_schema.specs.Types.{spec_is_precision, most_digits, most_digits256, spec_is_coarse, spec_are_union_ids, spec_children_of}
-use Rattle.nest_memory.specs.Floats.{spec_is_float_name, spec_is_float}
+use Rattle.nest_memory.specs.Floats.{spec_is_float}
+use Rattle.ipc_schema.specs.StoredTypes.{spec_is_reserved_name}
 use Rattle.ipc_schema.specs.Extensions.{extension_name, extension_metadata, spec_has_key, spec_storage_type, spec_table_type, spec_is_extension}
 
 abbrev pub and_then_check : {A B : Type 0} → Result A IpcWriteError → Result B IpcWriteError → Result B IpcWriteError
@@ -73,9 +74,9 @@ spec_check_type (types.extension title type metadata) = spec_require (spec_is_fl
 abbrev pub is_not_nested_extension : TypeTree → Bool
 is_not_nested_extension type = not (spec_is_extension (spec_storage_type type))
 
--- the name of an extension type is not that of a floating-point type
+-- the name of an extension type is not reserved
 abbrev pub spec_has_free_name : TypeTree → Bool
-spec_has_free_name (types.extension title type metadata) = spec_is_float (types.extension title type metadata) || not (spec_is_float_name title)
+spec_has_free_name (types.extension title type metadata) = spec_is_float (types.extension title type metadata) || not (spec_is_reserved_name title)
 spec_has_free_name type = true
 
 -- the value type of a dictionary is not a dictionary or an extension type

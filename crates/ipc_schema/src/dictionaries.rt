@@ -1,7 +1,7 @@
 //! Readers of dictionary encodings, and the value types of dictionary ids.
 ghost use Rattle.std.specs.Prelude.{◌≡◌, ◌<◌, ◌^◌, length, suc, drop, Ok, IfOk, OnOk, option_map};
 ghost use Rattle.nest_memory.specs.TypeOf.{type_of};
-ghost use Rattle.nest_memory.specs.TypeTree.{logical_type};
+ghost use Rattle.ipc_schema.specs.StoredTypes.{spec_value_type};
 ghost use Rattle.ipc_flatbuf.specs.ReadResults.{ReturnsOrRunsOut};
 ghost use Rattle.ipc_schema.specs.Dictionaries.{spec_key_at, spec_encoding_at, spec_dictionary_at, spec_with_encoding, no_dictionaries, spec_record_id, with_value_type, spec_same_values, spec_name_values, spec_record_values};
 ghost use Rattle.ipc_schema.specs.DictionaryModels.{value_type_of, seen_of};
@@ -9,6 +9,7 @@ ghost use Rattle.std.specs.Map.{lookup};
 ghost use Rattle.std.specs.BTreeMap.{is_at};
 ghost use Rattle.std.specs.Ordering.{int_cmp};
 
+use crate::stored_types::value_type;
 use crate::types::integer_at;
 use ipc_flatbuf::{IpcReadError, i16_field, i64_field, offset_field, read_table, u8_field};
 use nest_memory::datatypes::{DataType, IntegerType};
@@ -104,7 +105,7 @@ pub fn dictionary_type_of(
     }
 }
 
-/// The value type of a dictionary id without extension types, and the dictionary ids nested in it.
+/// The value type of a dictionary id as it is stored, without extension types, and the dictionary ids nested in it.
 #[derive(Drop)]
 pub struct DictionaryValueType {
     pub data_type: DataType,
@@ -204,10 +205,10 @@ fn values_behind(
     data_type: &DataType,
     before: usize,
 ) -> Result<DictionaryValueType, IpcReadError>
-    ensures { ReturnsOrRunsOut value_type_of result (Ok (record { values = logical_type (type_of data_type.now); inside = drop (suc before) (seen_of seen.now).ids })) }
+    ensures { ReturnsOrRunsOut value_type_of result (Ok (record { values = spec_value_type (type_of data_type.now); inside = drop (suc before) (seen_of seen.now).ids })) }
 {
     let inside = ids_behind(alloc, &seen.ids, before)?;
-    match data_type.to_logical_type().clone(alloc) {
+    match value_type(data_type).clone(alloc) {
         Err(_) => Err(IpcReadError::Memory),
         Ok(data_type) => Ok(DictionaryValueType { data_type, inside }),
     }

@@ -1,5 +1,5 @@
 //! Theorems and worked examples about schemas, as functions with empty bodies.
-ghost use Rattle.std.specs.Prelude.{◌≡◌, ◌<◌, ◌^◌, ◌++◌, List, ℕ, ℤ, false, [], ◌∷◌, drop, None, Some, Ok, Err};
+ghost use Rattle.std.specs.Prelude.{◌≡◌, ◌<◌, ◌^◌, ◌++◌, List, ℕ, ℤ, true, false, [], ◌∷◌, drop, None, Some, Ok, Err};
 ghost use Rattle.nest_memory.specs.TypeTree as types;
 ghost use Rattle.nest_memory.specs.TypeTree.{field};
 ghost use Rattle.ipc_flatbuf.specs.declared.error.IpcReadError.TheVariants.{BodyLength, ChildCount, Depth, Endianness, Flatbuffer, Metadata, MissingSchema, UnionIds};
@@ -11,6 +11,8 @@ ghost use Rattle.ipc_schema.specs.SchemaErrorExamples.{field_bytes, message_of, 
 ghost use Rattle.ipc_schema.specs.Types.{spec_union_at};
 ghost use Rattle.ipc_schema.specs.ExtensionExamples.{AreExtended, ArePlain};
 ghost use Rattle.ipc_schema.specs.FloatExamples.{AreFloats, IsReserved, AreSingleBytes, AreCheckedFloats};
+ghost use Rattle.ipc_schema.specs.StoredExamples as stored;
+ghost use Rattle.ipc_schema.specs.StoredExamples.{AreStored, AreReserved};
 ghost use Rattle.ipc_schema.specs.DictionaryExamples.{AreKeyed, AreOuter, AreOfOneId, AreLookedAt};
 ghost use Rattle.ipc_schema.specs.DictionaryWriteExamples.{AreWritten, AreNumbered, AreRefused};
 ghost use Rattle.ipc_schema.specs.TypeExamples.{AreDecimals, AreMostDigits, ArePrecisions, AreTimes, AreZones, AreIntervals, AreSizes};
@@ -18,7 +20,9 @@ ghost use Rattle.ipc_schema.specs.Dictionaries.{no_dictionaries, progress};
 ghost use Rattle.ipc_schema.specs.DictionaryIds.{have_dictionary};
 ghost use Rattle.ipc_schema.specs.OutermostIds.{ValueTypes, spec_count_nested, spec_outermost_ids};
 ghost use Rattle.ipc_schema.specs.OutermostIdLaws.{column_ids};
-ghost use Rattle.ipc_schema.specs.Schemas.{SchemaModel, schema_parts, spec_field_at, spec_schema_at, stream_schema_at};
+ghost use Rattle.ipc_flatbuf.specs.StoredArrays.{reads_as_stored};
+ghost use Rattle.ipc_schema.specs.WriteChecks.{check_fields};
+ghost use Rattle.ipc_schema.specs.Schemas.{SchemaModel, spec_read_schema, schema_parts, spec_field_at, spec_schema_at, stream_schema_at};
 ghost use Rattle.ipc_schema.specs.SchemaBytes.{schema_message};
 ghost use Rattle.ipc_schema.specs.SchemaLaws.{SchemaFits, with_dictionary_ids};
 ghost use Rattle.ipc_schema.specs.Projections.{all};
@@ -68,6 +72,20 @@ pub fn floats_are_read()
     ensures reserved { IsReserved }
     ensures bytes { AreSingleBytes }
     ensures checks { AreCheckedFloats }
+{}
+
+/// A schema of Arrow C++ with views and decimals of 32 and 64 bits decodes to the types that are read, and to how their arrays are stored.
+///
+/// No field names an extension type of these, and their precision is at most the number of digits that fit in their width.
+pub fn stored_types_are_read()
+    ensures fields { AreStored }
+    ensures names { AreReserved }
+    ensures digits { stored.AreMostDigits }
+{}
+
+/// A schema that can be written is read as it is stored.
+pub fn written_types_are_stored_as_read()
+    ensures { (s : SchemaModel) → check_fields s.fields ≡ Ok tt → (spec_read_schema s ≡ s) × (reads_as_stored (all_written s).arrays ≡ true) }
 {}
 
 /// The bytes of another writer decode to dictionary-encoded fields, at any depth and as storage of an extension type.

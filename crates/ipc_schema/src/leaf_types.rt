@@ -5,6 +5,7 @@ ghost use Rattle.nest_memory.specs.TypeOf.{type_of};
 ghost use Rattle.ipc_flatbuf.specs.ReadResults.{ReturnsOrRunsOut};
 ghost use Rattle.ipc_schema.specs.LeafModels.{leaf_tree};
 
+use crate::stored_types::{binary_view, decimal32, decimal64, utf8_view};
 use ipc_flatbuf::IpcReadError;
 use nest_memory::datatypes::floats::{Precision, float_type};
 use nest_memory::datatypes::{DataType, IntegerType, IntervalUnit, TimeUnit};
@@ -17,6 +18,8 @@ pub enum Leaf<'a> {
     Boolean,
     Integer(IntegerType),
     Float(Precision),
+    Decimal32(usize, usize),
+    Decimal64(usize, usize),
     Decimal(usize, usize),
     Decimal256(usize, usize),
     Date32,
@@ -31,6 +34,8 @@ pub enum Leaf<'a> {
     FixedSizeBinary(usize),
     Utf8,
     LargeUtf8,
+    BinaryView,
+    Utf8View,
 }
 
 fn timestamp_of(alloc: Global, unit: TimeUnit, zone: Option<&str>) -> Result<DataType, IpcReadError>
@@ -54,6 +59,8 @@ pub fn data_type_of(alloc: Global, leaf: Leaf<'_>) -> Result<DataType, IpcReadEr
         Leaf::Boolean => Ok(DataType::Boolean),
         Leaf::Integer(integer) => Ok(DataType::from(integer)),
         Leaf::Float(precision) => Ok(float_type(alloc, precision)?),
+        Leaf::Decimal32(digits, after) => Ok(decimal32(alloc, digits, after)?),
+        Leaf::Decimal64(digits, after) => Ok(decimal64(alloc, digits, after)?),
         Leaf::Decimal(digits, after) => Ok(DataType::Decimal(digits, after)),
         Leaf::Decimal256(digits, after) => Ok(DataType::Decimal256(digits, after)),
         Leaf::Date32 => Ok(DataType::Date32),
@@ -68,5 +75,7 @@ pub fn data_type_of(alloc: Global, leaf: Leaf<'_>) -> Result<DataType, IpcReadEr
         Leaf::FixedSizeBinary(size) => Ok(DataType::FixedSizeBinary(size)),
         Leaf::Utf8 => Ok(DataType::Utf8),
         Leaf::LargeUtf8 => Ok(DataType::LargeUtf8),
+        Leaf::BinaryView => Ok(binary_view(alloc)?),
+        Leaf::Utf8View => Ok(utf8_view(alloc)?),
     }
 }

@@ -19,6 +19,7 @@ mod projected;
 mod reading;
 mod schema;
 mod skipped_fields;
+mod stored_types;
 mod type_shapes;
 mod type_tags;
 mod type_writing;
@@ -36,6 +37,7 @@ pub use projected::{
 };
 pub use reading::{read_schema, schema_at};
 pub use schema::{Schema, SchemaWithDictionaries};
+pub use stored_types::{push_arrays, replace_stored};
 pub use unions::check_version;
 pub use writing::{schema_with_dictionaries_table, write_schema_with_dictionaries};
 

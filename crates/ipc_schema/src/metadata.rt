@@ -9,16 +9,16 @@ ghost use Rattle.ipc_flatbuf.specs.PartBytes.{concatenated, bytes_of_each};
 ghost use Rattle.ipc_flatbuf.specs.Flatbuffers.{tables_at};
 ghost use Rattle.ipc_flatbuf.specs.WriteErrors.{IsSizeError};
 ghost use Rattle.ipc_schema.specs.Schemas.{spec_pair_at, spec_metadata_at, with_all};
-ghost use Rattle.ipc_schema.specs.Extensions.{extension_name, metadata_value, spec_names_float, spec_has_key, without, spec_with_pair, with_text};
+ghost use Rattle.ipc_schema.specs.Extensions.{extension_name, metadata_value, spec_names_reserved, spec_has_key, without, spec_with_pair, with_text};
 ghost use Rattle.ipc_schema.specs.SchemaBytes.{pair_bytes, entries_bytes};
 ghost use Rattle.ipc_schema.specs.MetadataLaws.{AreUtf8};
 
+use crate::stored_types::is_reserved_name;
 use ipc_flatbuf::{
     IpcReadError, IpcWriteError, VectorItems, items_at, offset_at, offset_field, read_table,
     str_at, write_offset, write_string, write_tables,
 };
 use nest_memory::datatypes::Metadata;
-use nest_memory::datatypes::floats::is_float_name;
 use std::alloc::{AllocError, Global};
 use std::collections::BTreeMap;
 
@@ -129,13 +129,13 @@ pub fn with_extension(
     Ok(all)
 }
 
-/// Returns whether the metadata names the extension type of a floating-point type.
-pub fn names_float(metadata: &Metadata) -> bool
-    ensures { result ≡ spec_names_float (entries_of metadata.now.entries) }
+/// Returns whether the metadata names an extension type whose name is reserved.
+pub fn names_reserved(metadata: &Metadata) -> bool
+    ensures { result ≡ spec_names_reserved (entries_of metadata.now.entries) }
 {
     match metadata.get("ARROW:extension:name") {
         None => false,
-        Some(name) => is_float_name(name.as_str()),
+        Some(name) => is_reserved_name(name.as_str()),
     }
 }
 

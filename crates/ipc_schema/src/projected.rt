@@ -7,7 +7,7 @@ ghost use Rattle.ipc_flatbuf.specs.Messages.{optional_model_of};
 ghost use Rattle.ipc_schema.specs.DictionaryModels.{progress_of};
 ghost use Rattle.ipc_schema.specs.Schemas.{schema_of};
 ghost use Rattle.ipc_schema.specs.Projections.{projection_of, columns_of, IsColumnSet};
-ghost use Rattle.ipc_schema.specs.ProjectedSchemas.{spec_item_by, spec_item_at, spec_projected_fields_at, spec_projected_fields_of_items, spec_has_union, spec_check_projected_version, spec_projected_schema_at, spec_projected_schema_in_message, stream_projected_schema_at, projected_schema_of, no_fields, with_item, joined_fields, item_of, fields_model_of};
+ghost use Rattle.ipc_schema.specs.ProjectedSchemas.{spec_item_by, spec_item_at, spec_projected_fields_at, spec_projected_fields_of_items, spec_has_union, spec_check_projected_version, spec_projected_schema_at, spec_projected_schema_in_message, stream_projected_schema_at, projected_schema_of, no_fields, read, with_item, joined_fields, item_of, fields_model_of};
 
 use crate::columns::{ColumnSet, Projection};
 use crate::dictionaries::DictionaryTypes;
@@ -15,11 +15,12 @@ use crate::metadata::metadata_at;
 use crate::reading::{field_at, schema_message};
 use crate::schema::Schema;
 use crate::skipped_fields::skipped_field_at;
+use crate::stored_types::{push_arrays, replace_in_field};
 use crate::unions::check_version;
 use ipc_flatbuf::message::{Message, MetadataVersion, next_message};
 use ipc_flatbuf::{
-    FieldAction, IpcReadError, SkippedField, VectorItems, i16_field, items_at, offset_at,
-    offset_field, read_table,
+    FieldAction, IpcReadError, SkippedField, StoredArray, VectorItems, i16_field, items_at,
+    offset_at, offset_field, read_table,
 };
 use nest_memory::datatypes::Field;
 use std::alloc::{AllocError, Global};
@@ -30,6 +31,8 @@ use std::alloc::{AllocError, Global};
 pub struct ProjectedSchema {
     pub schema: Schema,
     pub steps: Vec<FieldAction>,
+    /// How the arrays of each field are stored in a record batch, in the order of field nodes.
+    pub arrays: Vec<StoredArray>,
     pub dictionaries: DictionaryTypes,
 }
 
@@ -40,11 +43,12 @@ enum Item {
     Passed(SkippedField),
 }
 
-// Whether each field is read or skipped, and the fields that are read.
+// Whether each field is read or skipped, the fields that are read, and how the arrays of all are stored.
 #[derive(Drop)]
 struct Parts {
     steps: Vec<FieldAction>,
     fields: Vec<Field>,
+    arrays: Vec<StoredArray>,
 }
 
 fn item_by(
@@ -85,17 +89,28 @@ fn item_at(
     item_by(alloc, picked, bytes, position, left, seen)
 }
 
+fn push_read(parts: &mut Parts, stored: Field) -> Result<(), AllocError>
+    ensures { OnOk result (fields_model_of parts.new ≡ joined_fields (fields_model_of parts.old) (with_item (read (field_of stored)) no_fields)) }
+{
+    let mut field = stored;
+    push_arrays(&field.data_type, &mut parts.arrays)?;
+    replace_in_field(&mut field);
+    parts.steps.push(FieldAction::Read)?;
+    parts.fields.push(field)?;
+    Ok(())
+}
+
 fn push(parts: &mut Parts, item: Item) -> Result<(), AllocError>
     ensures { OnOk result (fields_model_of parts.new ≡ joined_fields (fields_model_of parts.old) (with_item (item_of item) no_fields)) }
 {
     match item {
-        Item::Read(field) => {
-            parts.steps.push(FieldAction::Read)?;
-            parts.fields.push(field)?;
+        Item::Read(field) => push_read(parts, field),
+        Item::Passed(span) => {
+            parts.steps.push(FieldAction::Skip(span))?;
+            parts.arrays.push(StoredArray::Skipped(span))?;
+            Ok(())
         }
-        Item::Passed(span) => parts.steps.push(FieldAction::Skip(span))?,
     }
-    Ok(())
 }
 
 // The fields of a vector.
@@ -115,6 +130,7 @@ fn projected_fields_at(
     let mut parts = Parts {
         steps: Vec::new(alloc),
         fields: Vec::new(alloc),
+        arrays: Vec::new(alloc),
     };
     let mut rest = left;
     for i in 0..items.count {
@@ -158,11 +174,16 @@ pub fn projected_schema_at(
     )?;
     let to = offset_field(bytes, table, 2)?;
     let (metadata, left) = metadata_at(alloc, bytes, to, left)?;
-    let Parts { steps, fields } = parts;
+    let Parts {
+        steps,
+        fields,
+        arrays,
+    } = parts;
     let schema = Schema { fields, metadata };
     let picked = ProjectedSchema {
         schema,
         steps,
+        arrays,
         dictionaries,
     };
     Ok((picked, left))

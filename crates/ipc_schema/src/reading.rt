@@ -1,7 +1,7 @@
 //! Readers of schemas.
 ghost use Rattle.std.specs.Prelude.{◌≡◌, ◌<◌, ◌≤◌, ◌^◌, ◌+◌, ◌*◌, not, map, length, IfOk, IfSome, Ok, string_bytes};
 ghost use Rattle.nest_memory.specs.TypeOf.{entries_of, field_of, type_of};
-ghost use Rattle.ipc_schema.specs.Extensions.{spec_names_float, field_with_metadata};
+ghost use Rattle.ipc_schema.specs.Extensions.{spec_names_reserved, field_with_metadata};
 ghost use Rattle.ipc_flatbuf.specs.ReadResults.{ReturnsOrRunsOut, Returns, check};
 ghost use Rattle.ipc_flatbuf.specs.declared.error.IpcReadError.TheVariants.{ChildCount, UnsupportedType};
 ghost use Rattle.ipc_schema.specs.FieldVectors.{tables_in_turn};
@@ -9,14 +9,15 @@ ghost use Rattle.ipc_schema.specs.DictionaryModels.{seen_of, progress_of};
 ghost use Rattle.ipc_flatbuf.specs.Messages.{model_of, optional_model_of};
 ghost use Rattle.ipc_schema.specs.Types.{spec_can_have};
 ghost use Rattle.ipc_schema.specs.ShapeModels.{shape_tree, completed_type};
-ghost use Rattle.ipc_schema.specs.Schemas.{field_of_keys, spec_field_over, spec_field_at, spec_fields_of_items, spec_schema_at, schema_parts, stream_schema_at, schema_with_dictionaries_of};
+ghost use Rattle.ipc_schema.specs.Schemas.{field_of_keys, spec_field_over, spec_field_at, spec_fields_of_items, spec_schema_at, schema_parts, stream_schema_at, spec_read_schema, schema_of, schema_with_dictionaries_of};
 
 use crate::dictionaries::{
     DictionaryTypes, Encoding, dictionary_at, dictionary_type_of, record_id, record_values,
 };
-use crate::metadata::{metadata_at, names_float, take};
+use crate::metadata::{metadata_at, names_reserved, take};
 use crate::nested::shape_at;
 use crate::schema::{Schema, SchemaWithDictionaries};
+use crate::stored_types::fields_read;
 use crate::type_shapes::{Shape, can_have, with_children};
 use crate::type_tags::type_position;
 use crate::unions::check_version;
@@ -39,11 +40,11 @@ fn check_child_count(shape: &Shape<'_>, count: usize) -> Result<(), IpcReadError
     }
 }
 
-// Checks that the metadata of a field does not name the extension type of a floating-point type.
+// Checks that the metadata of a field names no extension type whose name is reserved.
 fn check_extension_name(metadata: &Metadata) -> Result<(), IpcReadError>
-    ensures { result ≡ check (not (spec_names_float (entries_of metadata.now.entries))) UnsupportedType }
+    ensures { result ≡ check (not (spec_names_reserved (entries_of metadata.now.entries))) UnsupportedType }
 {
-    if names_float(metadata) {
+    if names_reserved(metadata) {
         Err(IpcReadError::UnsupportedType)
     } else {
         Ok(())
@@ -193,7 +194,7 @@ fn fields_at(
     Ok((fields, rest))
 }
 
-/// Returns the schema whose table is at a position of the metadata with its dictionaries, and the budget left.
+/// Returns the schema whose table is at a position of the metadata as it is stored, with its dictionaries, and the budget left.
 ///
 /// # Errors
 /// [`IpcReadError::Endianness`], and those of the fields and the custom metadata.
@@ -249,12 +250,28 @@ pub fn schema_message(first: Option<Message<'_>>) -> Result<Message<'_>, IpcRead
     }
 }
 
+// Returns a schema as it is read.
+fn as_read(stored: SchemaWithDictionaries) -> SchemaWithDictionaries
+    ensures { schema_with_dictionaries_of result ≡ (spec_read_schema (schema_of stored.schema), seen_of stored.dictionaries) }
+{
+    let SchemaWithDictionaries {
+        schema,
+        dictionaries,
+    } = stored;
+    let Schema { fields, metadata } = schema;
+    let fields = fields_read(fields);
+    SchemaWithDictionaries {
+        schema: Schema { fields, metadata },
+        dictionaries,
+    }
+}
+
 /// Returns the schema of a stream with its dictionaries, and the bytes after the schema message.
 ///
 /// # Errors
 /// [`IpcReadError::MissingSchema`] where the first message is not a schema, [`IpcReadError::Version`] where the
 /// version does not support its types, and the errors of messages, fields and custom metadata.
-#[tactic(auto, unfolding(crate::specs::Schemas::stream_schema_at))]
+#[tactic(auto, unfolding(crate::specs::Schemas::stream_schema_at, crate::specs::Schemas::stored_schema_of_stream))]
 pub fn read_schema(
     alloc: Global,
     bytes: &[u8],
@@ -264,7 +281,8 @@ pub fn read_schema(
     let (first, rest) = next_message(bytes)?;
     let message = schema_message(first)?;
     let root = message.root;
-    let (parsed, _) = schema_at(alloc, message.metadata, root.header, root.left)?;
+    let (stored, _) = schema_at(alloc, message.metadata, root.header, root.left)?;
+    let parsed = as_read(stored);
     match check_version(root.version, &parsed.schema.fields) {
         Err(error) => Err(error),
         Ok(_) => Ok((parsed, rest)),

@@ -95,7 +95,7 @@ fn is_view_tag(tag: u8) -> bool
     tag == 23 || tag == 24
 }
 
-fn plain_buffers(tag: u8) -> usize
+pub(crate) fn plain_buffers(tag: u8) -> usize
     ensures value { result ≡ spec_plain_buffers tag }
     ensures few { result ≤ 3 }
 {
@@ -107,7 +107,7 @@ fn plain_buffers(tag: u8) -> usize
     }
 }
 
-fn mode_buffers(mode: UnionMode) -> usize
+pub(crate) fn mode_buffers(mode: UnionMode) -> usize
     ensures value { result ≡ spec_mode_buffers mode }
     ensures few { result ≤ 3 }
 {

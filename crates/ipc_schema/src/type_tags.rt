@@ -22,6 +22,8 @@ pub enum LeafTag {
     Duration,
     LargeBinary,
     LargeUtf8,
+    BinaryView,
+    Utf8View,
 }
 
 /// The supported types.
@@ -61,6 +63,8 @@ fn known_tag(number: u8) -> Result<Tag, IpcReadError>
         19 => Ok(Tag::Leaf(LeafTag::LargeBinary)),
         20 => Ok(Tag::Leaf(LeafTag::LargeUtf8)),
         21 => Ok(Tag::LargeList),
+        23 => Ok(Tag::Leaf(LeafTag::BinaryView)),
+        24 => Ok(Tag::Leaf(LeafTag::Utf8View)),
         _ => Err(IpcReadError::UnsupportedType),
     }
 }

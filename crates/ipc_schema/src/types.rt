@@ -89,6 +89,12 @@ fn float_at(bytes: &[u8], position: usize, left: usize) -> Result<(Leaf<'_>, usi
     Ok((Leaf::Float(precision), left))
 }
 
+// The most digits of a decimal of 32 bits.
+const MOST_DIGITS_32: usize = 9;
+
+// The most digits of a decimal of 64 bits.
+const MOST_DIGITS_64: usize = 18;
+
 /// The most digits of a 128-bit decimal.
 pub const MOST_DIGITS: usize = 38;
 
@@ -109,6 +115,10 @@ fn decimal_of<'a>(digits: usize, after: usize, bits: usize) -> Result<Leaf<'a>, 
         Ok(Leaf::Decimal(digits, after))
     } else if bits == 256 && is_precision(MOST_DIGITS_256, digits) {
         Ok(Leaf::Decimal256(digits, after))
+    } else if bits == 32 && is_precision(MOST_DIGITS_32, digits) {
+        Ok(Leaf::Decimal32(digits, after))
+    } else if bits == 64 && is_precision(MOST_DIGITS_64, digits) {
+        Ok(Leaf::Decimal64(digits, after))
     } else {
         Err(IpcReadError::TypeRange)
     }
@@ -338,5 +348,7 @@ pub fn type_at(
         LeafTag::Duration => duration_at(bytes, position, left),
         LeafTag::LargeBinary => bare_at(Leaf::LargeBinary, bytes, position, left),
         LeafTag::LargeUtf8 => bare_at(Leaf::LargeUtf8, bytes, position, left),
+        LeafTag::BinaryView => bare_at(Leaf::BinaryView, bytes, position, left),
+        LeafTag::Utf8View => bare_at(Leaf::Utf8View, bytes, position, left),
     }
 }

@@ -11,6 +11,9 @@ ghost use Rattle.ipc_flatbuf.specs.VectorLaws.{ReadsBackAs};
 ghost use Rattle.ipc_flatbuf.specs.MessageBytes.{message_bytes, metadata_size};
 ghost use Rattle.ipc_flatbuf.specs.declared.message.types.MessageKind.TheVariants.{Schema as SchemaKind};
 ghost use Rattle.ipc_schema.specs.Schemas.{schema_of, spec_schema_at, stream_schema_at};
+ghost use Rattle.ipc_schema.specs.Projections.{all};
+ghost use Rattle.ipc_schema.specs.ProjectedSchemas.{stream_projected_schema_at};
+ghost use Rattle.ipc_schema.specs.ProjectionLaws.{all_written};
 ghost use Rattle.ipc_schema.specs.DictionaryIds.{total, count_dictionaries};
 ghost use Rattle.ipc_schema.specs.WriteChecks.{spec_check_type, spec_has_free_name, spec_has_no_reserved_key, spec_check_own, spec_check_each, spec_check_field, check_fields, IsSchemaWriteError};
 ghost use Rattle.ipc_schema.specs.SchemaBytes.{field_vtable, field_head, entries_bytes, parts_of_field, field_bytes, each_bytes, field_parts, schema_bytes, schema_message};
@@ -26,21 +29,22 @@ use crate::dictionary_writing::{
 };
 use crate::metadata::{has_key, with_extension, write_metadata};
 use crate::schema::Schema;
+use crate::stored_types::is_reserved_name;
 use crate::type_writing::{
     check_type, children_of, is_extension, storage_type, table_type, type_number, write_type,
 };
 use ipc_flatbuf::message::{MessageKind, write_message};
 use ipc_flatbuf::{IpcWriteError, write_offset, write_string, write_tables};
-use nest_memory::datatypes::floats::{is_float, is_float_name};
+use nest_memory::datatypes::floats::is_float;
 use nest_memory::datatypes::{DataType, Field, Metadata};
 use std::alloc::{AllocError, Global};
 
-// Whether the name of an extension type is not that of a floating-point type.
+// Whether the name of an extension type is not reserved.
 fn has_free_name(data_type: &DataType) -> bool
     ensures { result ≡ spec_has_free_name (type_of data_type.now) }
 {
     match data_type {
-        DataType::Extension(title, _, _) => is_float(data_type) || !is_float_name(title),
+        DataType::Extension(title, _, _) => is_float(data_type) || !is_reserved_name(title),
         _ => true,
     }
 }
@@ -396,6 +400,7 @@ pub fn write_schema_with_dictionaries(
     schema: &Schema,
 ) -> Result<Vec<u8>, IpcWriteError>
     ensures again { IfOk result (λ out. (rest : List ℕ) → stream_schema_at (out.items ++ rest) ≡ Ok (with_dictionary_ids (schema_of schema.now), rest)) }
+    ensures columns { IfOk result (λ out. (rest : List ℕ) → stream_projected_schema_at all (out.items ++ rest) ≡ Ok (all_written (schema_of schema.now), rest)) }
     ensures bytes { IfOk result (λ out. out.items ≡ schema_message (schema_of schema.now)) }
     ensures form { OnOk result (check_fields (schema_of schema.now).fields ≡ Ok tt) }
     ensures small { OnOk result (metadata_size (schema_message (schema_of schema.now)) < 2 ^ 31) }

@@ -7,6 +7,7 @@ mod examples;
 mod fake_io;
 mod file_readers;
 mod file_writers;
+mod metadata_readers;
 mod readers;
 mod samples;
 mod writers;

@@ -43,5 +43,6 @@ mod states;
 mod stream_text;
 mod streams;
 mod streams_written;
+mod views;
 mod words;
 mod written;

@@ -1,4 +1,4 @@
-//! Streams with columns of types that are not supported, written by hand, and what a projection of their columns decodes to.
+//! Streams with columns of types that are not supported, floats and views, written by hand, and what a projection of their columns decodes to.
 
 /// A stream, the projected columns by name and by index, and the text of the result, or of the error.
 #[derive(Clone, Copy)]
@@ -87,6 +87,6 @@ pub const STREAMS: [ProjectedSample; 3] = [WITHOUT_FLOATS, WITHOUT_VIEWS, LAST];
 /// All of their columns, or the error.
 pub const COMPLETE_TEXTS: [&str; 3] = [
     "metadata 0\nfield .a 1 0 i4\nfield .x 1 0 X .tiekvorn.float64 - u8\nfield .b 1 0 U\nbatch 2\nrow 7 4609434218613702656 s70\nrow N 4612811918334230528 s7172\nbatch 1\nrow 9 0 s\n",
-    "error UnsupportedType\n",
+    "metadata 0\nfield .v 1 0 LU\nfield .a 1 0 i4\nfield .w 1 0 LB\nfield .b 1 0 U\nbatch 1\nrow s 5 x s6869\n",
     "error UnsupportedType\n",
 ];

@@ -37,9 +37,9 @@ pub const READ_DICTIONARY_FILES: [Sample; 5] = samples!("dictionary_files/valid"
 pub const REJECTED_DICTIONARY_FILES: [Sample; 1] = samples!("dictionary_files/invalid");
 
 /// Schema messages. The text has the metadata, and a line for each field.
-pub const SCHEMAS: [Sample; 25] = samples!("schemas/valid");
+pub const SCHEMAS: [Sample; 27] = samples!("schemas/valid");
 
-pub const REJECTED_SCHEMAS: [Sample; 18] = samples!("schemas/invalid");
+pub const REJECTED_SCHEMAS: [Sample; 16] = samples!("schemas/invalid");
 
 /// Schema messages with dictionaries. The text has the dictionary ids, too.
 pub const DICTIONARY_SCHEMAS: [Sample; 11] = samples!("dictionary_schemas/valid");

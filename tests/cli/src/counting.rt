@@ -176,7 +176,10 @@ fn failing_readers_are_errors(rt: HostRuntime) -> Result<(), Fail> {
         let mut fails_at = 0;
         while counted(alloc, Projection::All, &bytes, fails_at) != Ok(3) {
             let found = counted(alloc, Projection::All, &bytes, fails_at);
-            assert!(rt; found.is_err_and(|e| e.error == CliError::Input), "call {fails_at}");
+            assert!(rt;
+                found.is_err_and(|e| e.error == CliError::Input),
+                "call {fails_at}"
+            );
             fails_at += 1;
         }
         assert!(rt; fails_at > 10);

@@ -3,8 +3,8 @@ use crate::oracle::{arrays_of, read_table, request, text_of};
 use crate::samples::{BOOLEANS, COLUMNLESS, COMPRESSED, EMPTY, FILE, STREAM, bytes_of};
 use cli_args::{Request, Selection};
 use cli_rows::{
-    CliError, Difference, Table, difference_text, read_input, request_text, row_type, table_text,
-    window_difference, write_output,
+    CliError, Difference, Table, array_lines, batch_records, difference_text, read_input,
+    request_text, row_type, table_text, window_difference, write_output,
 };
 use ipc::Batch;
 use ipc_flatbuf::{CompressionError, IpcReadError, IpcWriteError};
@@ -100,6 +100,36 @@ fn are_rows(text: &str, indices: &[usize]) -> bool {
         rest = &rest[row.len()..];
     }
     rest.is_empty()
+}
+
+#[test]
+fn records_of_a_batch_are_printed(rt: HostRuntime) {
+    let alloc = rt.alloc();
+    let schema = schema(alloc).expect(&rt, "a schema");
+    let mut arrays = Vec::new(alloc);
+    let none = array_lines(alloc, &arrays).expect(&rt, "no lines");
+    assert!(rt; none.as_str() == "");
+    let all = table(alloc).expect(&rt, "a table");
+    for batch in all.batches {
+        let records = batch_records(alloc, &schema, batch).expect(&rt, "records");
+        arrays.push(records).expect(&rt, "room");
+    }
+    let lines = array_lines(alloc, &arrays).expect(&rt, "lines");
+    assert!(rt; are_rows(lines.as_str(), &[0, 1, 2]));
+    let mut other = batch(alloc, &[1], &[None]).expect(&rt, "a batch");
+    drop(other.columns.pop());
+    let records = batch_records(alloc, &schema, other);
+    assert!(rt; matches!(records, Err(CliError::MismatchedColumns)));
+    let none = Batch {
+        rows: 1,
+        columns: Vec::new(alloc),
+    };
+    let columnless = Schema {
+        fields: Vec::new(alloc),
+        metadata: Metadata::new(alloc),
+    };
+    let records = batch_records(alloc, &columnless, none);
+    assert!(rt; matches!(records, Err(CliError::MismatchedColumns)));
 }
 
 #[test]

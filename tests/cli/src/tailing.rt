@@ -60,7 +60,10 @@ fn last_rows_of_samples_are_printed(rt: HostRuntime) -> Result<(), Fail> {
         for count in COUNTS {
             let found = last_of(alloc, sample, count);
             let want = last_lines(&all, count);
-            assert!(rt; found.expect(&rt, "rows").as_str() == want, "{count} of {all}");
+            assert!(rt;
+                found.expect(&rt, "rows").as_str() == want,
+                "{count} of {all}"
+            );
         }
     }
     let one = tail_of(alloc, Projection::Names(&["a"]), FILE, 1, NEVER);
@@ -86,7 +89,10 @@ fn last_rows_of_many_batches_are_printed(rt: HostRuntime) -> Result<(), Fail> {
             let all = lines_of(alloc, &bytes).expect(&rt, "lines");
             for count in [0, 1, 2, 3, 5, 8, 13, 21, 34, 55, 89, 144, 300] {
                 let found = last_of(alloc, &bytes, count).expect(&rt, "rows");
-                assert!(rt; found.as_str() == last_lines(&all, count), "{count} of {batches}");
+                assert!(rt;
+                    found.as_str() == last_lines(&all, count),
+                    "{count} of {batches}"
+                );
             }
         }
     }

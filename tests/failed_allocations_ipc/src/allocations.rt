@@ -2,18 +2,18 @@
 
 use crate::{
     compressed, delta_files, dictionaries_written, dictionary_streams, files_read, nested, schemas,
-    streams,
+    streams, views,
 };
 use failed_allocations::expect_count;
 
 #[test]
 fn streams_both_ways(rt: HostRuntime) {
-    expect_count(&rt, streams::both_ways, 215);
+    expect_count(&rt, streams::both_ways, 222);
 }
 
 #[test]
 fn nested_both_ways(rt: HostRuntime) {
-    expect_count(&rt, nested::both_ways, 539);
+    expect_count(&rt, nested::both_ways, 546);
 }
 
 #[test]
@@ -23,40 +23,45 @@ fn schemas_both_ways(rt: HostRuntime) {
 
 #[test]
 fn dictionary_streams_replaced(rt: HostRuntime) {
-    expect_count(&rt, dictionary_streams::replaced, 85);
+    expect_count(&rt, dictionary_streams::replaced, 92);
 }
 
 #[test]
 fn dictionary_streams_delta(rt: HostRuntime) {
-    expect_count(&rt, dictionary_streams::delta, 137);
+    expect_count(&rt, dictionary_streams::delta, 147);
 }
 
 #[test]
 fn dictionaries_written_streams(rt: HostRuntime) {
-    expect_count(&rt, dictionaries_written::streams, 247);
+    expect_count(&rt, dictionaries_written::streams, 252);
 }
 
 #[test]
 fn dictionaries_written_files(rt: HostRuntime) {
-    expect_count(&rt, dictionaries_written::files, 488);
+    expect_count(&rt, dictionaries_written::files, 500);
 }
 
 #[test]
 fn dictionaries_written_delta(rt: HostRuntime) {
-    expect_count(&rt, dictionaries_written::delta, 493);
+    expect_count(&rt, dictionaries_written::delta, 508);
 }
 
 #[test]
 fn files_read_read(rt: HostRuntime) {
-    expect_count(&rt, files_read::read, 277);
+    expect_count(&rt, files_read::read, 283);
 }
 
 #[test]
 fn delta_files_written(rt: HostRuntime) {
-    expect_count(&rt, delta_files::written, 332);
+    expect_count(&rt, delta_files::written, 341);
 }
 
 #[test]
 fn compressed_both_ways(rt: HostRuntime) {
     expect_count(&rt, compressed::both_ways, 30);
+}
+
+#[test]
+fn views_read(rt: HostRuntime) {
+    expect_count(&rt, views::read, 503);
 }

@@ -10,3 +10,4 @@ mod files_read;
 mod nested;
 mod schemas;
 pub mod streams;
+mod views;

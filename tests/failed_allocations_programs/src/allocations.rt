@@ -10,5 +10,5 @@ fn listcut_both_forms(rt: HostRuntime) {
 
 #[test]
 fn nest_calls_all(rt: HostRuntime) {
-    expect_count(&rt, nest_calls::all, 502);
+    expect_count(&rt, nest_calls::all, 513);
 }

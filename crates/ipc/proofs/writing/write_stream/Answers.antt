@@ -1,8 +1,10 @@
 use Rattle.std.proofs.Common.{◌≡◌, List, ℕ, [], ◌++◌, None, Ok, map, append_assoc, ap}
 use Rattle.ipc_flatbuf.specs.MessageBytes.{end_of_stream}
-use Rattle.ipc_schema.specs.Schemas.{SchemaModel, schema_of, stream_schema_at}
+use Rattle.ipc_schema.specs.Projections.{all}
+use Rattle.ipc_schema.specs.ProjectedSchemas.{stream_projected_schema_at}
+use Rattle.ipc_schema.specs.ProjectionLaws.{all_written}
+use Rattle.ipc_schema.specs.Schemas.{SchemaModel, schema_of}
 use Rattle.ipc_schema.specs.SchemaBytes.{schema_message}
-use Rattle.ipc_schema.specs.SchemaLaws.{with_dictionary_ids}
 use Rattle.ipc.specs.EntriesOf.{by_id}
 use Rattle.ipc.specs.Streams.{RecordBatchTree, record_batch_of, column_types}
 use Rattle.ipc.specs.EncodedStreams.{stream_dictionary_batches, encoded_batches, encoded_messages, encoded_stream, batches_error, BatchesRoundTrip}
@@ -17,7 +19,7 @@ returns-clause-again c = λ rest.
     let none : by_id c.new-emitted.result.entries ≡ [] = ap by_id c.new-emitted.ensures.empty in
     let ok : BatchesRoundTrip stream_dictionary_batches [] bs = rw none at c.in_ok-write_batches.ensures.again in
     let form : batches_error (column_types s) [] bs ≡ None = rw (c.deref.ensures.value, none) at c.in_ok-write_batches.ensures.form in
-    let schema : (after : List ℕ) → stream_schema_at (schema_message s ++ after) ≡ Ok (with_dictionary_ids s, after) = rw c.in_ok-out.ensures.bytes at c.in_ok-out.ensures.again in
+    let schema : (after : List ℕ) → stream_projected_schema_at all (schema_message s ++ after) ≡ Ok (all_written s, after) = rw c.in_ok-out.ensures.bytes at c.in_ok-out.ensures.columns in
     let bytes : c.extend_from_slice.new.self.items ≡ encoded_stream s bs =
     rw (c.in_ok-extend_from_slice.ensures.items, c.in_ok-write_batches.ensures.bytes, c.in_ok-out.ensures.bytes, none) (append_assoc (schema_message s) (encoded_batches stream_dictionary_batches [] bs) end_of_stream) in
     rw bytes (stream_round_trips s bs rest schema c.in_ok-out.ensures.form form ok)

@@ -1,9 +1,10 @@
 use Rattle.std.proofs.Common.{◌≡◌, List, ℕ, [], ◌++◌, None, Ok, map, ap, ◌∙◌}
 use Rattle.std.proofs.lemmas.Result.{err_from_is_err_and}
 use Rattle.ipc_schema.specs.ProjectionLaws.{all_written}
-use Rattle.ipc_schema.specs.Schemas.{SchemaModel, schema_of, stream_schema_at}
+use Rattle.ipc_schema.specs.Projections.{all}
+use Rattle.ipc_schema.specs.ProjectedSchemas.{stream_projected_schema_at}
+use Rattle.ipc_schema.specs.Schemas.{SchemaModel, schema_of}
 use Rattle.ipc_schema.specs.SchemaBytes.{schema_message}
-use Rattle.ipc_schema.specs.SchemaLaws.{with_dictionary_ids}
 use Rattle.ipc.specs.EntriesOf.{by_id}
 use Rattle.ipc.specs.Streams.{RecordBatchTree, record_batch_of, state_of, start, column_types}
 use Rattle.ipc.specs.EncodedStreams.{schema_error}
@@ -17,7 +18,7 @@ returns-in_err-blocks-clause-err c =
     let s : SchemaModel = schema_of c.args.schema.now in
     let bs : List RecordBatchTree = map record_batch_of c.args.batches.now in
     let said = c.in_ok-message.ensures in
-    let keyed : (after : List ℕ) → stream_schema_at (schema_message s ++ after) ≡ Ok (with_dictionary_ids s, after) = rw said.bytes at said.again in
+    let keyed : (after : List ℕ) → stream_projected_schema_at all (schema_message s ++ after) ≡ Ok (all_written s, after) = rw said.bytes at said.columns in
     let none : by_id c.new-emitted.result.entries ≡ [] = ap by_id c.new-emitted.ensures.empty in
     let known : state_of c.in_ok-known.known ≡ start (all_written s) = known_start s c.deref-2.result.now (state_of c.in_ok-known.known) (c.deref-2.ensures.value ∙ said.bytes) keyed c.in_ok-known.ensures.state in
     let e = err_from_is_err_and c.from_residual-in_err-blocks.result c.from_residual-in_err-blocks.ensures.1 in
@@ -27,7 +28,7 @@ pub returns-clause-form : goal.returns-clause-form
 returns-clause-form c =
     let s : SchemaModel = schema_of c.args.schema.now in
     let said = c.in_ok-message.ensures in
-    let keyed : (after : List ℕ) → stream_schema_at (schema_message s ++ after) ≡ Ok (with_dictionary_ids s, after) = rw said.bytes at said.again in
+    let keyed : (after : List ℕ) → stream_projected_schema_at all (schema_message s ++ after) ≡ Ok (all_written s, after) = rw said.bytes at said.columns in
     let none : by_id c.new-emitted.result.entries ≡ [] = ap by_id c.new-emitted.ensures.empty in
     let known : state_of c.in_ok-known.known ≡ start (all_written s) = known_start s c.deref-2.result.now (state_of c.in_ok-known.known) (c.deref-2.ensures.value ∙ said.bytes) keyed c.in_ok-known.ensures.state in
     rw (c.deref-3.ensures.value, none, known) at c.in_ok-blocks.ensures.form

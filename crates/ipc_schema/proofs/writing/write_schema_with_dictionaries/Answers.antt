@@ -6,6 +6,7 @@ use Rattle.ipc_schema.specs.Schemas.{SchemaModel, schema_of}
 use Rattle.ipc_schema.specs.WriteChecks.{check_fields, schema_error_of_whole, size_error_of_schema}
 use Rattle.ipc_schema.specs.SchemaBytes.{schema_message}
 use Rattle.ipc_schema.specs.SchemaLaws.{part_of, message_long, stream_round_trips}
+use Rattle.ipc_schema.specs.ProjectionLaws.{projected_stream_round_trips}
 use Rattle.ipc_schema.proofs.writing.write_schema_with_dictionaries.Goals as goal
 
 pub returns-in_err-part-clause-err : goal.returns-in_err-part-clause-err
@@ -32,6 +33,15 @@ returns-clause-small c =
     let s : SchemaModel = schema_of c.args.schema.now in
     let part : c.deref.result.now ≡ part_of s = rw (c.deref.ensures.value, c.in_ok-part.ensures.bytes) refl in
     subst (λ (l : List ℕ). metadata_size (message_bytes kinds.Schema 0 16 l) < 2 ^ 31) part c.in_ok-message.ensures.small
+
+pub returns-clause-columns : goal.returns-clause-columns
+unfolding schema_message
+returns-clause-columns c = λ rest.
+    let s : SchemaModel = schema_of c.args.schema.now in
+    let part : c.deref.result.now ≡ part_of s = rw (c.deref.ensures.value, c.in_ok-part.ensures.bytes) refl in
+    let small : metadata_size (schema_message s) < 2 ^ 31 = subst (λ (l : List ℕ). metadata_size (message_bytes kinds.Schema 0 16 l) < 2 ^ 31) part c.in_ok-message.ensures.small in
+    let bytes : c.in_ok-message.message.items ≡ schema_message s = rw (c.in_ok-message.ensures.bytes, c.deref.ensures.value, c.in_ok-part.ensures.bytes) refl in
+    rw bytes (projected_stream_round_trips s rest c.in_ok-part.ensures.fits small)
 
 pub returns-clause-again : goal.returns-clause-again
 unfolding schema_message
