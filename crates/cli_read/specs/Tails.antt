@@ -1,5 +1,5 @@
 -- The last rows of an input.
-use Rattle.std.specs.Prelude.{◌≡◌, ◌⊎◌, ◌≤◌, ◌+◌, ◌-◌, ℕ, List, length, take, drop, Option, Some, None, Result}
+use Rattle.std.specs.Prelude.{◌≡◌, ◌⊎◌, ◌≤◌, ◌+◌, ◌-◌, ℕ, List, length, take, drop, Option, Some, None, Result, Ok}
 use Rattle.std.specs.Option.{option_map}
 use Rattle.ipc_flatbuf.specs.ReadResults.{◌>>=◌, FailsOrRunsOut}
 use Rattle.ipc_flatbuf.specs.declared.error.IpcReadError.{IpcReadError}
@@ -54,6 +54,10 @@ HasEnough n k t = (k ≡ 0) ⊎ (n ≤ length (record_rows t))
 abbrev pub AreLastRows : ℕ → Option Ends → List RowSlot → Type 0
 AreLastRows n None found = Unit {0}
 AreLastRows n (Some ends) found = (k : ℕ) × HasTable (ends.from k) (λ t. HasEnough n k t × (found ≡ last n (record_rows t)))
+
+-- the last rows that are found are those of the decoded table
+abbrev pub AreLastOfTable : Decoded → Ends → Type 0
+AreLastOfTable s ends = (n : ℕ) (h : TableTree) (found : List RowSlot) → s.whole ≡ Ok h → AreLastRows n (Some ends) found → found ≡ last n (record_rows h)
 
 -- the last rows as lines
 abbrev pub IsLastText : ℕ → Option Ends → List ℕ → Type 0

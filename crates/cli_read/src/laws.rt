@@ -8,19 +8,18 @@ ghost use Rattle.cli_args.specs.Requests.{RequestTree, all, indices, rows};
 ghost use Rattle.cli_rows.specs.SelectedTables.{IsSelectedFrom};
 ghost use Rattle.cli_rows.specs.TableExamples.{boolean_table, columnless_table, three_booleans};
 ghost use Rattle.ipc.specs.Files.{file_reader_in};
-ghost use Rattle.cli_rows.specs.Rows.{RowSlot};
 ghost use Rattle.cli_rows.specs.Tables.{TableTree, decoded_table, is_file_prefix, record_rows};
 ghost use Rattle.cli_rows.specs.Text.{json_line, text_of_rows};
 ghost use Rattle.cli_rows.specs.declared.difference.Difference.{Difference};
 ghost use Rattle.cli_rows.specs.declared.difference.Difference.TheVariants.{Row, Schema};
 ghost use Rattle.cli_rows.specs.declared.error.CliError.TheVariants.{IndexOutOfRange, Read};
 ghost use Rattle.cli_read.specs.Comparisons.{FailsIn, FailsInSecond, FindsDifference, FindsTableDifference};
-ghost use Rattle.cli_read.specs.Counts.{HasColumnOfRows, total_rows};
+ghost use Rattle.cli_read.specs.Counts.{Counts, HasColumnOfRows, metadata_contents, total_rows};
 ghost use Rattle.cli_read.specs.Decoded.{Decoded, file_contents, stream_contents};
 ghost use Rattle.cli_read.specs.InputExamples.{broken_input, complete_input, first_batches, unreadable_input};
 ghost use Rattle.cli_read.specs.Inputs.{IsDecodedFrom};
 ghost use Rattle.cli_read.specs.Printed.{HasText, SufficientBatchesPrint};
-ghost use Rattle.cli_read.specs.Tails.{AreLastRows, file_ends, last, stream_ends};
+ghost use Rattle.cli_read.specs.Tails.{AreLastOfTable, file_ends, last, stream_ends};
 ghost use Rattle.cli_read.specs.Takes.{IsTakeError, Takes};
 
 /// All record batches of a stream or a file are its decoded table, by the first bytes.
@@ -43,15 +42,17 @@ pub fn prefixes_are_the_first_batches()
 
 /// If all record batches decode, the last rows that are found are those of the table. Their lines are the last of those that `rows` prints.
 pub fn last_rows_are_those_of_the_table()
-    ensures stream { (picks : ProjectionModel) (bytes : List ℕ) (n : ℕ) (h : TableTree) (found : List RowSlot) → (stream_contents picks bytes).whole ≡ Ok h → AreLastRows n (Some (stream_ends (stream_contents picks bytes))) found → found ≡ last n (record_rows h) }
-    ensures file { (picks : ProjectionModel) (bytes : List ℕ) (n : ℕ) (h : TableTree) (found : List RowSlot) → (file_contents picks bytes).whole ≡ Ok h → AreLastRows n (Some (file_ends (file_reader_in picks bytes))) found → found ≡ last n (record_rows h) }
+    ensures stream { (picks : ProjectionModel) (bytes : List ℕ) → AreLastOfTable (stream_contents picks bytes) (stream_ends (stream_contents picks bytes)) }
+    ensures file { (picks : ProjectionModel) (bytes : List ℕ) → AreLastOfTable (file_contents picks bytes) (file_ends (file_reader_in picks bytes)) }
     ensures lines { (n : ℕ) (h : TableTree) → HasText (rows all) h (text_of_rows (take (length (record_rows h) - n) (record_rows h)) ++ text_of_rows (last n (record_rows h))) }
 {}
 
 /// If each record batch has as many rows as its first column, the number of rows is the number of lines that `rows` prints, one for each row.
+/// If the record batches of a file decode, the number of rows by its metadata is theirs.
 pub fn counted_rows_are_the_lines()
     ensures rows { (h : TableTree) → AllByRecursion HasColumnOfRows h.batches → total_rows h ≡ length (record_rows h) }
     ensures lines { (h : TableTree) → HasText (rows all) h (flat_map json_line (record_rows h)) }
+    ensures file { (picks : ProjectionModel) (bytes : List ℕ) (h : TableTree) (n : ℕ) → (file_contents picks bytes).whole ≡ Ok h → Counts (Some (metadata_contents picks bytes)) n → n ≡ total_rows h }
 {}
 
 /// If the first record batches have all selected rows, they print the text that all record batches print.

@@ -1,5 +1,5 @@
 -- The metadata of a file's record batches, read without their bodies.
-use Rattle.std.specs.Prelude.{◌≡◌, ℕ, ◌&&◌, ◌==◌, List, [], ◌∷◌, length, take, drop, get_or, unsigned_abs, Option, Some, Result, Ok, IfOk, refl}
+use Rattle.std.specs.Prelude.{◌≡◌, ℕ, ◌&&◌, ◌==◌, List, [], ◌∷◌, map, length, take, drop, get_or, unsigned_abs, Option, Some, Result, Ok, IfOk, refl}
 use Rattle.std.specs.Coded.{Coded, code_by, coded×, coded_list}
 use Rattle.ipc_flatbuf.specs.ReadResults.{◌>>=◌, check}
 use Rattle.ipc_flatbuf.specs.declared.error.IpcReadError.{IpcReadError}
@@ -12,7 +12,7 @@ use Rattle.ipc_schema.specs.Projections.{ProjectionModel}
 use Rattle.ipc_schema.specs.ProjectedFooters.{projected_footer_in}
 use Rattle.ipc_schema.specs.Schemas.{SchemaModel}
 use Rattle.ipc_schema.specs.declared.footer.types.Block.{Block}
-use Rattle.ipc.specs.Files.{coded_block, no_block}
+use Rattle.ipc.specs.Files.{FileTree, coded_block, no_block}
 use Rattle.ipc.specs.SliceStreamReaders.{coded_schema}
 use Rattle.ipc_io.specs.Fetched.{metadata_length_at}
 use Rattle.ipc_io.specs.FileReaders.{DecodesAs}
@@ -54,6 +54,14 @@ row_counts_at bytes (b ∷ bs) = do
 -- the schema in the footer of a file, and the blocks of its record batches
 abbrev pub file_metadata_in : ProjectionModel → List ℕ → Result (SchemaModel × List Block) IpcReadError
 file_metadata_in picks bytes = projected_footer_in picks bytes >>= λ f. Ok (f.picked.schema, f.batches)
+
+-- a file by its metadata: the schema, and the numbers of rows of the record batches
+abbrev pub row_counts_in : ProjectionModel → List ℕ → Result (SchemaModel × List ℕ) IpcReadError
+row_counts_in picks bytes = file_metadata_in picks bytes >>= λ m. row_counts_at bytes m.1 >>= λ counts. Ok (m.0, counts)
+
+-- the schema of a file that was decoded, and the numbers of rows of its record batches
+abbrev pub row_counts_of : FileTree → SchemaModel × List ℕ
+row_counts_of f = (f.schema, map (λ b. b.rows) f.batches)
 
 -- ---- readers
 

@@ -11,3 +11,4 @@ pub mod Seeks
 pub mod FileReaders
 pub mod FileReaderLaws
 pub mod FileMetadata
+pub mod FileMetadataLaws

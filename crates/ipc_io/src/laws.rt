@@ -1,15 +1,17 @@
 //! Laws of readers and writers over `Read`, `Write` and `Seek`. Each function has an empty body: its contract is the law.
-ghost use Rattle.std.specs.Prelude.{◌≡◌, List, [], None, Some, Ok};
+ghost use Rattle.std.specs.Prelude.{◌≡◌, ℕ, List, [], None, Some, Ok};
 ghost use Rattle.std.specs.Io.KnownBytes.{Appends};
+ghost use Rattle.ipc_schema.specs.Projections.{ProjectionModel};
 ghost use Rattle.ipc_schema.specs.Schemas.{SchemaModel};
 ghost use Rattle.ipc.specs.Streams.{RecordBatchTree};
-ghost use Rattle.ipc.specs.Files.{file_in};
+ghost use Rattle.ipc.specs.Files.{FileTree, file_in, projected_file_in};
 ghost use Rattle.ipc.specs.EncodedStreams.{encoded_stream, decoded_batches, AreSameBatches};
 ghost use Rattle.ipc.specs.EncodedFiles.{encoded_file, file_error, decoded_file, HasNoDeltas};
 ghost use Rattle.ipc_io.specs.WriterLaws.{IsFinished, StreamRoundTrips, FailedStreamIsPrefix, FailedWriterWritesNothing};
 ghost use Rattle.ipc_io.specs.FileWriterLaws.{IsFinishedFile, FailedFileIsPrefix, FinishesUnlessFooterIsTooLong, RefusalKeepsWriter, FailureKeepsWriter};
 ghost use Rattle.ipc_io.specs.ReaderLaws.{ReadsStream, ReadsStreamError};
 ghost use Rattle.ipc_io.specs.FileReaderLaws.{ReadsFile, ReadsFileError};
+ghost use Rattle.ipc_io.specs.FileMetadata.{row_counts_in, row_counts_of};
 
 use crate::seek_read::SeekRead;
 use std::io::{Read, Write};
@@ -85,4 +87,9 @@ pub fn reader_returns_the_batches_of_its_file<R: SeekRead>()
 /// The error that a reader returns after any of them is that of the file in its bytes.
 pub fn reader_returns_the_error_of_its_file<R: SeekRead>()
     ensures { ReadsFileError R.stream_position R.stream_bytes }
+{}
+
+/// If the record batches of a file decode, its metadata has the same schema and the same numbers of rows.
+pub fn metadata_has_the_numbers_of_rows()
+    ensures { (picks : ProjectionModel) (bytes : List ℕ) (f : FileTree) → projected_file_in picks bytes ≡ Ok f → row_counts_in picks bytes ≡ Ok (row_counts_of f) }
 {}
