@@ -9,3 +9,4 @@ pub mod Sought
 pub mod Passed
 pub mod FooterLoops
 pub mod StoredFields
+pub mod Supported

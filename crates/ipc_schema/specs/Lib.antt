@@ -13,6 +13,7 @@ pub mod Schemas
 pub mod SchemaEq
 pub mod ProjectedSchemas
 pub mod SkippedFields
+pub mod FieldSupport
 pub mod StoredTypes
 pub mod StoredArrays
 pub mod Projections
@@ -36,6 +37,7 @@ pub mod FloatExamples
 pub mod StoredExamples
 pub mod DictionaryExamples
 pub mod ProjectionExamples
+pub mod FieldSupportExamples
 pub mod DictionaryWriteExamples
 -- The same of file footers.
 pub mod Footers

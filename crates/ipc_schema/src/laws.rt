@@ -28,7 +28,16 @@ ghost use Rattle.ipc_schema.specs.SchemaLaws.{SchemaFits, with_dictionary_ids};
 ghost use Rattle.ipc_schema.specs.Projections.{all};
 ghost use Rattle.ipc_schema.specs.ProjectedSchemas.{stream_projected_schema_at};
 ghost use Rattle.ipc_schema.specs.ProjectionLaws.{all_of_stream, all_written};
+ghost use Rattle.ipc_schema.specs.FieldSupportExamples.{AreUnsupportedTags, AreFound, AreNamed, IsSupportRead};
 ghost use Rattle.ipc_schema.specs.ProjectionExamples.{AreCounted, AreOfUnions, AreTags, AreOver, ArePicked};
+
+/// The fields of types that are not supported are found, by their numbers, in a tree of fields, and in the metadata of Arrow C++.
+pub fn unsupported_fields_are_found()
+    ensures numbers { AreUnsupportedTags }
+    ensures found { AreFound }
+    ensures named { AreNamed }
+    ensures read { IsSupportRead }
+{}
 
 /// The bytes of another writer decode to a schema of one field.
 pub fn schema_is_read()

@@ -10,6 +10,7 @@ mod dictionaries;
 mod dictionary_ids;
 mod dictionary_writing;
 mod equality;
+mod field_support;
 mod floats;
 pub mod laws;
 mod leaf_types;
@@ -31,6 +32,9 @@ pub use cloning::clone_fields;
 pub use columns::{ColumnSet, Projection};
 pub use dictionaries::{DictionaryTypes, DictionaryValueType};
 pub use dictionary_ids::outermost_ids;
+pub use field_support::{
+    FieldPath, FieldSupport, UnsupportedField, UnsupportedType, columns_support,
+};
 pub use projected::{
     ProjectedSchema, check_projected_version, projected_schema_at, projected_schema_in_message,
     read_projected_schema,
