@@ -85,6 +85,21 @@ expect 2 '' "nest: $room/packed: record batch 0: $truncated" rows "$room/packed"
 expect 0 '' '' rows "$room/packed" --start 0 --count 0
 expect 2 '' "nest: $room/csv: $text" rows "$room/csv"
 expect 2 '' "nest: $room/cut: $magic" schema "$room/cut"
+# Columns of types that are not supported: marked in a schema, and named in errors. The files of pyarrow are streams and files.
+formats=$data/pyarrow/samples/formats
+hint='(read other columns with --columns)'
+for end in arrow arrows; do
+    expect 0 'list: list_view (not supported)\nlarge: large_list_view (not supported)\n' '' schema "$formats/list_views.$end"
+    expect 0 'run: run_end_encoded (not supported)\nother: int8\n' '' schema "$formats/run_ends.$end"
+    expect 0 'id: int64\ns.v.item: list_view (not supported)\n' '' schema "$formats/list_views_inside.$end"
+    expect 0 'id: int64\n' '' schema --columns id "$formats/list_views_inside.$end"
+    inside=$formats/list_views_inside.$end
+    expect 2 '' "nest: $inside: column \"s.v.item\": list_view is not supported $hint" rows "$inside"
+    expect 2 '' "nest: $inside: column \"s.v.item\": list_view is not supported $hint" schema --columns s "$inside"
+    expect 2 '' "nest: $inside: column \"s.v.item\": list_view is not supported $hint" convert "$inside" "$room/as"
+    expect 0 '{"id":1}\n{"id":2}\n' '' rows --columns id "$inside"
+    expect 2 '' "nest: $formats/run_ends.$end: column \"run\": run_end_encoded is not supported $hint" head "$formats/run_ends.$end"
+done
 # Files of other formats: by their first bytes.
 : >"$room/empty"
 printf 'PAR1\25\4\25\20' >"$room/parquet"

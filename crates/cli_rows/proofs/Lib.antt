@@ -4,6 +4,7 @@ mod Steps
 mod EqualWindows
 mod OnlyOne
 mod Lines
+mod Support
 mod RecordArrays
 mod ByName
 mod UnknownNames

@@ -7,6 +7,7 @@ pub mod SelectExamples
 pub mod ListExamples
 pub mod RowLaws
 pub mod Text
+pub mod SupportText
 pub mod TextExamples
 pub mod Records
 pub mod ColumnNames

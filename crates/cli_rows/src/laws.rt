@@ -13,9 +13,10 @@ ghost use Rattle.cli_rows.specs.SelectExamples.{first, null_record, second, thir
 ghost use Rattle.cli_rows.specs.SelectedTables.{AreRowsOf, IsSelectedFrom};
 ghost use Rattle.cli_rows.specs.Selection.{selected_rows};
 ghost use Rattle.cli_rows.specs.TableExamples.{boolean_table, columnless_table, three_booleans};
+ghost use Rattle.cli_rows.specs.SupportText.{text_of_columns, text_of_error};
 ghost use Rattle.cli_rows.specs.Tables.{TableTree};
 ghost use Rattle.cli_rows.specs.Text.{text_of_schema};
-ghost use Rattle.cli_rows.specs.TextExamples.{id_field, name_field};
+ghost use Rattle.cli_rows.specs.TextExamples.{id_field, name_field, view_columns, view_field};
 ghost use Rattle.cli_rows.specs.declared.difference.Difference.{Difference};
 ghost use Rattle.cli_rows.specs.declared.difference.Difference.TheVariants.{Row as RowDiffers, Schema};
 ghost use Rattle.cli_rows.specs.declared.error.CliError.TheVariants.{UnknownColumn, NotBoolean};
@@ -31,6 +32,12 @@ pub fn columns_are_found_by_name()
 /// An integer column that is never null, and a string column.
 pub fn schema_is_text()
     ensures { text_of_schema (id_field ∷ name_field ∷ []) ≡ codes "id: int64 not null" ++ (10 ∷ codes "name: string" ++ (10 ∷ [])) }
+{}
+
+/// An integer column, a struct with a list view, and a string column.
+pub fn unsupported_columns_are_text()
+    ensures lines { text_of_columns view_columns (id_field ∷ name_field ∷ []) ≡ codes "id: int64 not null\ns.v: list_view (not supported)\nname: string\n" }
+    ensures error { text_of_error view_field ≡ codes "column \"s.v\": list_view is not supported (read other columns with --columns)" }
 {}
 
 /// Of three rows: all; a slice; a slice that ends past the last row; a slice after the last row; rows by index, one of them twice; an

@@ -18,8 +18,11 @@ pub(crate) const PIECE: usize = 16384;
 /// A message that was read.
 #[derive(Drop)]
 pub struct FetchedMessage {
+    /// The root of its metadata.
     pub root: MessageRoot,
+    /// The metadata, a flatbuffer.
     pub metadata: Vec<u8>,
+    /// The body.
     pub body: Vec<u8>,
 }
 

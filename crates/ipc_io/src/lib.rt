@@ -16,6 +16,7 @@ mod stream_reader;
 mod stream_writer;
 
 pub use error::{ReadError, WriteError};
+pub use fetching::{FetchedMessage, fetch_message};
 pub use file_reader::FileReader;
 pub use file_writer::FileWriter;
 pub use metadata_reader::FileMetadataReader;

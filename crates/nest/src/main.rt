@@ -8,6 +8,7 @@ mod json_import;
 mod messages;
 mod output;
 mod print;
+mod support;
 mod take;
 
 use cli_args::{Arguments, Command, Selection, parse_arguments, parse_column_names};

@@ -1,9 +1,11 @@
 //! Messages on standard error, and exit codes.
 use crate::input::OpenError;
 use crate::output::StandardOutput;
+use crate::support::unsupported_column;
 use cli_read::CompareError;
 use cli_rows::{BatchError, CliError, Difference, difference_text, write_output};
 use ipc_schema::Projection;
+use std::alloc::AllocError;
 use std::fmt::Display;
 use std::io;
 use std::io::ErrorKind;
@@ -41,13 +43,20 @@ impl From<CliError> for InputError {
     }
 }
 
+impl From<AllocError> for InputError {
+    fn from(error: AllocError) -> InputError {
+        InputError::from(CliError::from(error))
+    }
+}
+
 /// Reports an error of a file.
 pub fn report<E: Display>(rt: &HostRuntime, file: &str, error: &E) -> ExitCode {
     let _ = eprintln!(rt; "nest: {file}: {error}");
     failed()
 }
 
-/// Reports an error in a record batch, or before the record batches. A projected name that no column has is printed.
+/// Reports an error in a record batch, or before the record batches. A projected name that no column has is printed, and the path of a
+/// column that is not supported.
 fn report_batch(
     rt: &HostRuntime,
     columns: Projection<'_>,
@@ -63,7 +72,10 @@ fn report_batch(
             }
         }
     }
-    report(rt, file, error)
+    match unsupported_column(rt, columns, file, error.error) {
+        Some(text) => report(rt, file, &text),
+        None => report(rt, file, error),
+    }
 }
 
 /// Reports an error of an input.

@@ -2,6 +2,7 @@
 use crate::input::open_input;
 use crate::messages::{InputError, print_comparison, report, report_input};
 use crate::output::StandardOutput;
+use crate::support::{is_unsupported, print_support};
 use crate::take::print_taken;
 use cli_args::{Request, Selection};
 use cli_read::{compare, count_lines, tail_lines};
@@ -46,6 +47,19 @@ fn print_fields<W: Write>(
     Ok(())
 }
 
+/// Prints the columns of a file, of which some may not be supported.
+fn print_columns<W: Write>(
+    rt: &HostRuntime,
+    columns: Projection<'_>,
+    file: &str,
+    out: &mut W,
+) -> Result<(), InputError> {
+    match (print_fields(rt, columns, file, out), columns) {
+        (Err(error), Projection::All) if is_unsupported(&error) => print_support(rt, file, out),
+        (printed, _) => printed,
+    }
+}
+
 /// Reports the result of printing. If nothing reads standard output any more, that is no error.
 fn report_printed<W>(
     rt: &HostRuntime,
@@ -75,7 +89,7 @@ pub fn print_rows(
 /// Prints the schema of a file.
 pub fn print_schema(rt: &HostRuntime, columns: Projection<'_>, file: &str) -> ExitCode {
     let mut out = StandardOutput::new(io::writer(rt));
-    let printed = print_fields(rt, columns, file, &mut out);
+    let printed = print_columns(rt, columns, file, &mut out);
     report_printed(rt, columns, file, printed, &out)
 }
 

@@ -621,6 +621,8 @@ def write_of_others(folder):
 def write_refused(folder):
     """What this library does not read, and will not."""
     folder.sample("list_views", table({"list": pa.list_view(pa.int8()), "large": pa.large_list_view(pa.int8())}, list=[[1, 2], None, [3]], large=[[], [4], None]))
+    inside = pa.struct({"x": pa.int8(), "v": pa.list_(pa.list_view(pa.int8()))})
+    folder.sample("list_views_inside", table({"id": pa.int64(), "s": inside}, id=[1, 2], s=[{"x": 1, "v": [[1, 2], None]}, None]))
     ends = pa.RunEndEncodedArray.from_arrays(pa.array([2, 3], pa.int32()), pa.array(["a", None]))
     folder.sample("run_ends", joined(column("run", ends), column("other", [1, 2, 3], pa.int8())))
     folder.sample("negative_scale", column("decimal", [Decimal(12300), None, Decimal(-100)], pa.decimal128(5, -2)))

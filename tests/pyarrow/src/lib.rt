@@ -5,4 +5,6 @@
 #[cfg(test)]
 mod samples;
 #[cfg(test)]
+mod support;
+#[cfg(test)]
 mod table;
