@@ -4,6 +4,7 @@ pub use ipc::{
     next_batch, read_file, read_file_projected, read_message, read_stream, read_stream_projected,
     write_file, write_stream,
 };
+pub use ipc_compressed::write_compressed_stream;
 pub use ipc_flatbuf::message::{Message, next_message};
 pub use ipc_flatbuf::{IpcReadError, IpcWriteError};
 pub use ipc_io::{

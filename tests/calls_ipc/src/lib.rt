@@ -7,6 +7,7 @@ mod changed_delta_files;
 mod columns;
 mod columns_read;
 mod compressed;
+mod compressed_written;
 mod delta_files;
 mod delta_messages;
 mod deltas;

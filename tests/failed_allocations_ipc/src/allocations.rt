@@ -8,7 +8,7 @@ use failed_allocations::expect_count;
 
 #[test]
 fn streams_both_ways(rt: HostRuntime) {
-    expect_count(&rt, streams::both_ways, 222);
+    expect_count(&rt, streams::both_ways, 309);
 }
 
 #[test]

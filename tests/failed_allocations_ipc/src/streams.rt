@@ -4,6 +4,7 @@
 use failed_allocations::failures::{Failure, Failures, expect};
 use ipc::{SliceFileReader, SliceStreamReader, read_file, read_stream, write_file, write_stream};
 use ipc_arrays::{BatchCursor, layout_columns, read_columns, write_columns};
+use ipc_compressed::write_compressed_stream;
 use ipc_flatbuf::{IpcReadError, IpcWriteError};
 use nest_array::nulls::new_null_array;
 use nest_memory::datatypes::DataType;
@@ -48,6 +49,16 @@ fn written(alloc: Global) -> Result<usize, Error> {
     let stream = read_stream(alloc, &STREAM).map_err(from_read_error)?;
     let bytes = write_stream(alloc, &stream.schema, &stream.batches).map_err(from_write_error)?;
     Ok(bytes.len())
+}
+
+/// How many batches are read of the stream, once it was written compressed.
+fn compressed(alloc: Global) -> Result<usize, Error> {
+    let stream = read_stream(alloc, &STREAM).map_err(from_read_error)?;
+    let bytes = write_compressed_stream(alloc, &stream.schema, &stream.batches).map_err(
+        from_write_error,
+    )?;
+    let again = read_stream(alloc, &bytes).map_err(from_read_error)?;
+    Ok(again.batches.len())
 }
 
 /// How many batches the file of the stream has, and how many rows the first of them has.
@@ -106,6 +117,8 @@ pub fn both_ways(failures: &mut Failures, alloc: Global) -> Result<(), Failure> 
     expect(rows == 2, "another number of rows")?;
     let bytes = failures.retry(|| written(alloc))?;
     expect(bytes > 0 && bytes % 8 == 0, "another number of bytes")?;
+    let batches = failures.retry(|| compressed(alloc))?;
+    expect(batches == 1, "another number of compressed batches")?;
     let (batches, rows) = failures.retry(|| filed(alloc))?;
     expect(batches == 1 && rows == 2, "another file")?;
     let read = failures.retry(|| columns(alloc))?;
