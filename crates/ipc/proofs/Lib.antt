@@ -13,3 +13,5 @@ pub mod DeltaParts
 pub mod UnionOffsets
 pub mod NamedColumns
 mod AtEnd
+pub mod Bodies
+pub mod MessageLoops

@@ -47,3 +47,11 @@ pub mod StreamsInFiles
 pub mod MessageLaws
 pub mod StreamsInFilesLaws
 pub mod StreamsInFilesExamples
+-- streams whose record batches are compressed
+pub mod CompressedBodies
+pub mod CompressedExamples
+pub mod CompressedMessages
+pub mod CompressedStreams
+pub mod WrittenBufferCounts
+pub mod ReadsAsPlainLaws
+pub mod CompressedStreamLaws

@@ -2,8 +2,8 @@
 use crate::samples::{READ, READ_DICTIONARIES, READ_FLAT, READ_NESTED, Sample};
 use crate::samples_read::{bytes_of, copied};
 use crate::stream_text::text_of_stream;
-use ipc::{read_stream, write_stream};
-use ipc_compressed::{compress_body, write_compressed_stream};
+use ipc::compressed::compress_body;
+use ipc::{read_stream, write_compressed_stream, write_stream};
 use ipc_flatbuf::batch::read_batch;
 use ipc_flatbuf::message::{Message, MessageKind, next_message};
 use ipc_flatbuf::{BufferSpec, CompressionCodec, IpcReadError, IpcWriteError};

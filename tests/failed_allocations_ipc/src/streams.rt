@@ -2,9 +2,11 @@
 //! into a body and read.
 
 use failed_allocations::failures::{Failure, Failures, expect};
-use ipc::{SliceFileReader, SliceStreamReader, read_file, read_stream, write_file, write_stream};
+use ipc::{
+    SliceFileReader, SliceStreamReader, read_file, read_stream, write_compressed_stream,
+    write_file, write_stream,
+};
 use ipc_arrays::{BatchCursor, layout_columns, read_columns, write_columns};
-use ipc_compressed::write_compressed_stream;
 use ipc_flatbuf::{IpcReadError, IpcWriteError};
 use nest_array::nulls::new_null_array;
 use nest_memory::datatypes::DataType;
