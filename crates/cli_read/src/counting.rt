@@ -55,7 +55,7 @@ fn open_metadata<R: SeekRead + Drop>(
 ) -> Result<FileMetadataReader<R>, CliError>
     ensures opened { IfOk result (OpensMetadataOf R.stream_position R.stream_bytes (projection_of columns.entry) device) }
     ensures names { OnOk result (HasNames (projection_of columns.entry) (option_map (metadata_contents (projection_of columns.entry)) (bytes_of R.stream_position R.stream_bytes device))) }
-    ensures error { IfErr result (λ e. FailsToOpenColumns (projection_of columns.entry) e (option_map (metadata_contents (projection_of columns.entry)) (bytes_of R.stream_position R.stream_bytes device))) }
+    ensures error { let picks = projection_of columns.entry in IfErr result (λ e. FailsToOpenColumns picks e (option_map (metadata_contents picks) (bytes_of R.stream_position R.stream_bytes device))) }
 {
     match FileMetadataReader::with_projection(alloc, device, columns) {
         Err(error) => Err(CliError::from(error)),

@@ -313,27 +313,27 @@ pub(crate) fn convert_array<'a>(
     body: &[u8],
     array: StoredArray,
     ahead: ProjectionCursor<'a>,
-    conversion: &mut Conversion,
+    out: &mut Conversion,
 ) -> Result<ProjectionCursor<'a>, IpcReadError>
-    ensures { ReturnsOrRunsOut (λ x. (converted_of conversion.new, projection_state x)) result (with_arrays (converted_of conversion.old) (converted_array codec body.now array (projection_state ahead.entry))) }
+    ensures { ReturnsOrRunsOut (λ x. (converted_of out.new, projection_state x)) result (with_arrays (converted_of out.old) (converted_array codec body.now array (projection_state ahead.entry))) }
 {
     match array {
         StoredArray::Plain(count) => {
-            let plain = &mut conversion.plain;
+            let plain = &mut out.plain;
             Ok(convert_plain(alloc, codec, body, count, ahead, plain)?)
         }
         StoredArray::View => {
-            let plain = &mut conversion.plain;
+            let plain = &mut out.plain;
             Ok(convert_view_array(alloc, codec, body, ahead, plain)?)
         }
         StoredArray::Decimal32 => {
-            let plain = &mut conversion.plain;
+            let plain = &mut out.plain;
             Ok(convert_decimal_array::<i32>(alloc, codec, body, ahead, plain)?)
         }
         StoredArray::Decimal64 => {
-            let plain = &mut conversion.plain;
+            let plain = &mut out.plain;
             Ok(convert_decimal_array::<i64>(alloc, codec, body, ahead, plain)?)
         }
-        StoredArray::Skipped(span) => convert_skipped(span, ahead, conversion),
+        StoredArray::Skipped(span) => convert_skipped(span, ahead, out),
     }
 }

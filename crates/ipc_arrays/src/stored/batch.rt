@@ -25,13 +25,13 @@ fn convert_each<'a>(
     arrays: &[StoredArray],
     body: &[u8],
     ahead: ProjectionCursor<'a>,
-    conversion: &mut Conversion,
+    out: &mut Conversion,
 ) -> Result<ProjectionCursor<'a>, IpcReadError>
-    ensures { ReturnsOrRunsOut (λ x. (converted_of conversion.new, projection_state x)) result (with_arrays (converted_of conversion.old) (converted_each codec body.now arrays.now (projection_state ahead.entry))) }
+    ensures { ReturnsOrRunsOut (λ x. (converted_of out.new, projection_state x)) result (with_arrays (converted_of out.old) (converted_each codec body.now arrays.now (projection_state ahead.entry))) }
 {
     let mut at = ahead;
     for array in arrays {
-        at = convert_array(alloc, codec, body, *array, at, conversion)?;
+        at = convert_array(alloc, codec, body, *array, at, out)?;
     }
     Ok(at)
 }
