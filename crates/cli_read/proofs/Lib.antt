@@ -21,5 +21,6 @@ mod LastRows
 mod StreamTails
 mod FileTails
 mod Counted
+mod InputSchemas
 mod TailLaws
 mod CountLaws

@@ -17,5 +17,6 @@ pub mod TakeSteps
 pub mod CompareSteps
 pub mod Counts
 pub mod CountSteps
+pub mod InputSchemas
 pub mod Tails
 pub mod TailSteps

@@ -48,7 +48,7 @@ fn count_batches<R: SeekRead + Drop>(
 }
 
 /// Opens a file and reads the metadata in its footer.
-fn open_metadata<R: SeekRead + Drop>(
+pub(crate) fn open_metadata<R: SeekRead + Drop>(
     alloc: Global,
     columns: Projection<'_>,
     device: R,

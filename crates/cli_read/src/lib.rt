@@ -11,6 +11,7 @@ pub mod laws;
 mod printer;
 mod reader;
 mod rows;
+mod schema;
 mod tail;
 
 pub use by_index::{take, take_encoded, take_lines};
@@ -19,4 +20,5 @@ pub use counting::{count_lines, count_rows};
 pub use input::{Input, is_file, read_first_bytes};
 pub use printer::print;
 pub use reader::{BatchReader, open};
+pub use schema::{SchemaReader, open_schema, schema_text};
 pub use tail::tail_lines;

@@ -33,4 +33,4 @@ pub use schema::row_type;
 pub use select::{in_row_order, is_complete, skip_rows, window_difference};
 pub use table::Table;
 pub use take::take_rows;
-pub use text::{support_error, support_lines};
+pub use text::{schema_lines, support_error, support_lines};

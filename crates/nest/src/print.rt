@@ -5,7 +5,7 @@ use crate::output::StandardOutput;
 use crate::support::{is_unsupported, print_support};
 use crate::take::print_taken;
 use cli_args::{Request, Selection};
-use cli_read::{compare, count_lines, tail_lines};
+use cli_read::{compare, count_lines, schema_text, tail_lines};
 use cli_rows::{in_row_order, write_output};
 use ipc_schema::Projection;
 use std::io;
@@ -43,7 +43,8 @@ fn print_fields<W: Write>(
     out: &mut W,
 ) -> Result<(), InputError> {
     let input = open_input(rt, file)?;
-    cli_read::print(rt.alloc(), columns, Request::Columns, input, out)?;
+    let text = schema_text(rt.alloc(), columns, input)?;
+    write_output(out, text.as_bytes())?;
     Ok(())
 }
 

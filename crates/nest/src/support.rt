@@ -3,7 +3,7 @@ ghost use Rattle.std.specs.Prelude.{◌<◌, ◌^◌, length, IfOk};
 
 use crate::input::{OpenError, Source, open_input};
 use crate::messages::InputError;
-use cli_read::Input;
+use cli_read::{Input, open_schema};
 use cli_rows::{CliError, support_error, support_lines, write_output};
 use ipc_flatbuf::IpcReadError;
 use ipc_io::{FetchedMessage, fetch_message};
@@ -73,7 +73,7 @@ pub fn print_support<W: Write>(
     let columns = columns_of(rt.alloc(), &message)?;
     let indices = supported_indices(rt.alloc(), &columns)?;
     let input = open_input(rt, file)?;
-    let reader = cli_read::open(rt.alloc(), Projection::Indices(&indices), input)?;
+    let reader = open_schema(rt.alloc(), Projection::Indices(&indices), input)?;
     let text = support_lines(rt.alloc(), &columns, &reader.schema().fields)?;
     write_output(out, text.as_bytes())?;
     Ok(())

@@ -6,6 +6,7 @@
 //! | `tables` | Schemas and rows as text, errors, and projected columns |
 //! | `printing` | Printing one record batch at a time; errors, and batches that are not read |
 //! | `counting` | Numbers of rows; bodies that are not read; hostile bytes |
+//! | `schemas` | Schemas as text; dictionaries and bodies that are not read |
 //! | `tailing` | The last rows as lines; record batches that are not read; hostile bytes |
 //! | `comparing` | The first difference of two inputs; which input has an error, and when |
 //! | `copying` | Copies of all rows, of slices, and of rows where a column is true, in either format |
@@ -36,6 +37,8 @@ mod oracle;
 mod printing;
 #[cfg(test)]
 mod samples;
+#[cfg(test)]
+mod schemas;
 #[cfg(test)]
 mod tables;
 #[cfg(test)]
