@@ -62,8 +62,11 @@ for file in "$room/stream" "$room/file" -; do
     expect 0 '3\n' '' count "$file" --columns b
     expect 0 '{"a":null,"b":"b"}\n{"a":3,"b":null}\n' '' slice "$file" 1 5
     expect 0 '{"a":null,"b":"b"}\n{"a":3,"b":null}\n' '' cut -- "$file" 1 5
-    expect 2 '' "nest: $file: the column is not boolean" where "$file" b
-    expect 2 '' "nest: $file: there is no column of that name" where "$file" c
+    expect 2 '' "nest: $file: position 0: the column is not boolean" where "$file" b
+    expect 2 '' "nest: $file: position 0: there is no column of this name" where "$file" c
+    expect 2 '' "nest: $file: position 7: the column cannot be compared with this literal" where "$file" 'a=1 or b < 2'
+    expect 0 '{"a":3,"b":null}\n' '' where "$file" 'a > 1.5'
+    expect 0 '{"a":1,"b":"a"}\n{"a":3,"b":null}\n' '' where "$file" "b = 'a' or not a is null"
     expect 0 '{"a":3,"b":null}\n{"a":1,"b":"a"}\n{"a":3,"b":null}\n' '' take "$file" 2 0 2
     expect 2 '' "nest: $file: a row index is out of range" take "$file" 0 3
     expect 0 '' '' convert "$file" "$room/as.arrows"
@@ -173,22 +176,28 @@ expect 2 '' "nest: $room/negative: record batch 2: $negative" equal "$room/file"
 [ "$(cat "$room/stream" | "$program" equal /dev/stdin "$room/unlike")" = 'row 2' ] || { echo 'nest equal: a pipe'; failed=1; }
 expect 2 '' "nest: $room/csv: $text" equal "$room/file" "$room/csv"
 expect 2 '' "nest: $room/none: no such file" equal "$room/file" "$room/none"
-# Projected columns, in the order of the schema, of streams and files, with the option anywhere; an unknown name.
+# Projected columns, in the order of the schema, of streams and files, with the option anywhere; an unknown name, with similar names of what
+# can be read twice.
 for file in "$room/stream" "$room/file" -; do
     expect 0 'b: string\n' '' schema "$file" --columns b
     expect 0 'a: int32\nb: string\n' '' schema --columns b,a "$file"
     expect 0 '{"b":"a"}\n{"b":"b"}\n{"b":null}\n' '' rows --columns b "$file"
     expect 0 '{"a":3}\n' '' take "$file" --columns a 2
+    similar=' (similar: "a", "b")'
+    [ "$file" = - ] && similar=
     for command in schema rows head tail count; do
-        expect 2 '' "nest: $file: there is no column \"c\"" "$command" "$file" --columns b,c,d
+        expect 2 '' "nest: $file: there is no column \"c\"$similar" "$command" "$file" --columns b,c,d
+        expect 2 '' "nest: $file: there is no column \"column\"" "$command" "$file" --columns column
     done
-    expect 2 '' "nest: $file: there is no column \"c\"" take "$file" 0 --columns c
-    expect 2 '' "nest: $file: there is no column \"\"" convert "$file" "$room/c" --columns b,
-    expect 2 '' "nest: $file: there is no column \"c\"" concat "$file" -o "$room/c" --columns c
-    expect 2 '' "nest: $file: there is no column of that name" where "$file" a --columns b
+    expect 2 '' "nest: $file: there is no column \"c\"$similar" take "$file" 0 --columns c
+    expect 2 '' "nest: $file: there is no column \"\"$similar" convert "$file" "$room/c" --columns b,
+    expect 2 '' "nest: $file: there is no column \"c\"$similar" concat "$file" -o "$room/c" --columns c
+    expect 2 '' "nest: $file: position 0: there is no column of this name" where "$file" a --columns b
     expect 0 '' '' convert "$file" "$room/b" --columns b
     expect 0 '{"b":"a"}\n{"b":"b"}\n{"b":null}\n' '' rows "$room/b"
 done
+[ "$(cat "$room/stream" | "$program" rows /dev/stdin --columns c 2>&1)" = 'nest: /dev/stdin: there is no column "c"' ] || { echo 'nest --columns: a pipe'; failed=1; }
+expect 2 '' "nest: $formats/list_views_inside.arrow: there is no column \"idd\"" rows "$formats/list_views_inside.arrow" --columns idd
 expect 0 '' '' equal "$room/parts" "$room/unlike" --columns b
 expect 1 'row 2\n' '' equal "$room/parts" "$room/unlike" --columns a
 expect 2 '' "nest: $room/bare: there is no column \"b\"" equal "$room/parts" "$room/bare" --columns b
@@ -245,9 +254,9 @@ for file in "$room/stream" "$room/file" -; do
     selected cut "$file" 1 2 --columns b
     selected take --columns a "$file" 2
     expect 2 '' "nest: $file: a row index is out of range" take "$file" 0 3 -o "$room/none"
-    expect 2 '' "nest: $file: the column is not boolean" where "$file" b -o "$room/none"
-    expect 2 '' "nest: $file: there is no column of that name" where "$file" c -o "$room/none"
-    expect 2 '' "nest: $file: there is no column of that name" where "$file" a --columns b -o "$room/none"
+    expect 2 '' "nest: $file: position 0: the column is not boolean" where "$file" b -o "$room/none"
+    expect 2 '' "nest: $file: position 0: there is no column of this name" where "$file" c -o "$room/none"
+    expect 2 '' "nest: $file: position 0: there is no column of this name" where "$file" a --columns b -o "$room/none"
 done
 selected where "$room/truths" a
 selected where "$room/truths" b
@@ -262,7 +271,7 @@ expect 0 '' '' take "$room/bare" 0 2 -o "$room/other"
 expect 0 '' '' equal "$room/two" "$room/other"
 expect 1 'row 2\n' '' equal "$room/two" "$room/bare"
 expect 2 '' "nest: $room/bare: a row index is out of range" take "$room/bare" 3 -o "$room/none"
-expect 2 '' "nest: $room/bare: there is no column of that name" where "$room/bare" a -o "$room/none"
+expect 2 '' "nest: $room/bare: position 0: there is no column of this name" where "$room/bare" a -o "$room/none"
 expect 2 '' "nest: $room/packed: record batch 0: $truncated" cut "$room/packed" 0 1 -o "$room/none"
 expect 2 '' "nest: $room/csv: $text" take "$room/csv" 0 -o "$room/none"
 expect 2 '' "nest: $room/absent: no such file" where "$room/absent" a -o "$room/none"
@@ -295,7 +304,7 @@ for out in "$room/new.arrows" "$room/new"; do
     expect 2 '' "nest: $room/negative: record batch 2: $negative" cut "$room/negative" 1 2 -o "$out"
     expect 2 '' "nest: $room/csv: $text" convert "$room/csv" "$out"
     expect 2 '' "nest: $room/absent: no such file" convert "$room/absent" "$out"
-    expect 2 '' "nest: $room/truths: there is no column of that name" where "$room/truths" c -o "$out"
+    expect 2 '' "nest: $room/truths: position 0: there is no column of this name" where "$room/truths" c -o "$out"
     [ ! -e "$out" ] || { echo 'nest: a new output after an error'; failed=1; }
     expect 0 '' '' cut "$room/negative" 1 1 -o "$out"
     expect 0 '{"a":null,"b":"b"}\n' '' rows "$out"
@@ -366,7 +375,9 @@ refuses '<FILE>' concat -o "$room/none"
 refuses '<FILE>' rows
 refuses '<OUT>' convert "$room/file"
 refuses '<OTHER>' equal "$room/file"
-refuses '<COLUMN>' where "$room/file"
+refuses '<EXPRESSION>' where "$room/file"
+refuses "invalid value for '<EXPRESSION>': position 3: a literal is expected" where "$room/file" 'a ='
+refuses "invalid value for '<EXPRESSION>': position 2: the end of the condition is expected" where "$room/file" 'a b' -o "$room/none"
 refuses '<INDEX>' take "$room/file"
 refuses '<OUT>' from-json 'struct<a: int32>' "$room/lines"
 refuses "unexpected argument 'b'" where "$room/truths" a b -o "$room/none"

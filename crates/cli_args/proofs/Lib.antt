@@ -1,2 +1,8 @@
 mod AddedNames
+mod DigitValues
 mod Integers
+mod Levels
+mod OnTexts
+mod Prefixes
+mod Quotes
+mod Runs

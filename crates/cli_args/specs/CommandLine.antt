@@ -83,7 +83,7 @@ abbrev pub take_app : App
 take_app = with_rule (with_rule (file_app (codes "take")) indices_rule) out_rule
 
 abbrev pub where_app : App
-where_app = with_rule (with_rule (file_app (codes "where")) (required_rule (codes "COLUMN"))) out_rule
+where_app = with_rule (with_rule (file_app (codes "where")) (required_rule (codes "EXPRESSION"))) out_rule
 
 abbrev pub equal_app : App
 equal_app = with_rule (file_app (codes "equal")) (required_rule (codes "OTHER"))

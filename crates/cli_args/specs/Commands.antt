@@ -1,12 +1,15 @@
 -- A command of `nest` and its arguments, by what clap finds in the arguments of the process.
-use Rattle.std.specs.Prelude.{ℕ, ◌^◌, Bool, List, [], map, ◌&&◌, Option, Some, None, option_map, option_and_then, unwrap_or, nat_lt, bytes_eq, codes, if◌then◌else◌}
+use Rattle.std.specs.Prelude.{ℕ, ◌^◌, Bool, List, [], map, ◌&&◌, Option, Some, None, option_map, option_and_then, Result, Ok, Err, unwrap_or, nat_lt, bytes_eq, codes, if◌then◌else◌}
 use Rattle.std.specs.Str.Parse.{digits_value, without_leading_plus}
 use Rattle.clap.specs.Matches.{found_of}
 use Rattle.clap.specs.ValueTests.{is_numeral}
 use Rattle.clap.specs.Words.{Row, Text, all_of, first_of, rows_of, subcommand_of}
 use Rattle.clap.specs.declared.parser.matches.ArgMatches.{ArgMatches}
 use Rattle.cli_args.specs.CommandLine.{nest_app}
-use Rattle.cli_args.specs.Requests.{SelectionTree, all, slice, indices, where_true, named}
+use Rattle.cli_args.specs.ConditionParser.{parsed_condition}
+use Rattle.cli_args.specs.Conditions.{ConditionTree}
+use Rattle.cli_args.specs.Requests.{SelectionTree, all, slice, indices, where_true}
+use Rattle.cli_args.specs.declared.condition_error.SyntaxError.{SyntaxError}
 
 pub data CommandTree : Type 0 where
   -- `schema FILE`
@@ -65,6 +68,11 @@ rows_selection None (Some n) = slice 0 n
 rows_selection (Some start) None = slice start 18446744073709551615
 rows_selection (Some start) (Some n) = slice start n
 
+-- the rows where a condition is true; a text that is no condition selects nothing
+abbrev pub condition_selection : Result ConditionTree SyntaxError → Option SelectionTree
+condition_selection (Ok condition) = Some (where_true condition)
+condition_selection (Err e) = None
+
 -- the rows that a command selects, by its name
 abbrev pub selection_of : Text → List Row → Option SelectionTree
 selection_of name found =
@@ -72,7 +80,7 @@ selection_of name found =
     else if bytes_eq name (codes "head") then Some (slice 0 (required_integer (codes "COUNT") found))
     else if bytes_eq name (codes "slice") then Some (slice (required_integer (codes "START") found) (required_integer (codes "COUNT") found))
     else if bytes_eq name (codes "take") then Some (indices (map argument_integer (texts_of (codes "INDEX") found)))
-    else if bytes_eq name (codes "where") then Some (where_true (named (argument_text (codes "COLUMN") found)))
+    else if bytes_eq name (codes "where") then condition_selection (parsed_condition (argument_text (codes "EXPRESSION") found))
     else None
 
 abbrev pub select_of : Text → List Row → Option CommandTree

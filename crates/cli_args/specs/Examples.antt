@@ -18,3 +18,7 @@ ParsedAs arguments columns command = RefusedWith arguments [] × (arguments_of (
 -- the same of a command that selects rows of the file `f`
 abbrev pub Selects : List Text → SelectionTree → Option Text → Type 0
 Selects arguments selection out = ParsedAs arguments None (select (codes "f") selection out)
+
+-- clap accepts the arguments, but they mean no command
+abbrev pub MeansNothing : List Text → Type 0
+MeansNothing arguments = RefusedWith arguments [] × (arguments_of (codes "nest" ∷ arguments) ≡ None)

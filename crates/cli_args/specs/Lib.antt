@@ -1,3 +1,12 @@
+pub mod Columns
+pub mod ColumnTrees
+pub mod Conditions
+pub mod ConditionTrees
+pub mod ConditionResults
+pub mod ConditionTokens
+pub mod ConditionTokenTrees
+pub mod ConditionParser
+pub mod ConditionExamples
 pub mod Requests
 pub mod RequestTrees
 pub mod Formats

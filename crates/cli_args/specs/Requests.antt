@@ -1,17 +1,14 @@
 -- What a command prints or selects.
 use Rattle.std.specs.Prelude.{ℕ, List}
+use Rattle.cli_args.specs.Conditions.{ConditionTree}
+pub use Rattle.cli_args.specs.Columns.{ColumnTree, named, indexed}
 
--- the first column of a name, or the column at an index
-pub data ColumnTree : Type 0 where
-  named : List ℕ → ColumnTree
-  indexed : ℕ → ColumnTree
-
--- all rows; a slice by its offset and its maximal length; the row at each index; the rows where this boolean column is true
+-- all rows; a slice by its offset and its maximal length; the row at each index; the rows where this condition is true
 pub data SelectionTree : Type 0 where
   all : SelectionTree
   slice : ℕ → ℕ → SelectionTree
   indices : List ℕ → SelectionTree
-  where_true : ColumnTree → SelectionTree
+  where_true : ConditionTree → SelectionTree
 
 -- the schema, or rows
 pub data RequestTree : Type 0 where

@@ -190,15 +190,12 @@ fn take<'a>(alloc: Global) -> Result<Command<'a>, AllocError>
 fn rows_where<'a>(alloc: Global) -> Result<Command<'a>, AllocError>
     ensures { IfOk result (IsCommand where_app) }
 {
-    let about = "Select the rows where a boolean column is true; null is not true";
-    let command = file_command(
-        alloc,
-        "where",
-        about,
-        "Example: nest where table.arrow valid",
-    )?;
-    let named = command.arg(required(alloc, "COLUMN", "The name of a boolean column"))?;
-    named.arg(out(alloc))
+    let about = "Select the rows where a condition is true";
+    let example = "Example: nest where sales.arrow \"price > 9.5 and region = 'north'\"";
+    let command = file_command(alloc, "where", about, example)?;
+    let help = "Columns, comparisons with literals, `is null`, `and`, `or`, `not` and parentheses";
+    let filtered = command.arg(required(alloc, "EXPRESSION", help))?;
+    filtered.arg(out(alloc))
 }
 
 fn equal<'a>(alloc: Global) -> Result<Command<'a>, AllocError>

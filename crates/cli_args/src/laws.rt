@@ -1,10 +1,12 @@
 //! Examples of parsed command lines. Each function's contract is an example, and its body is empty.
-ghost use Rattle.std.specs.Prelude.{◌≡◌, [], ◌∷◌, Some, None, codes};
+ghost use Rattle.std.specs.Prelude.{◌≡◌, [], ◌∷◌, Some, None, codes, negsuc};
 ghost use Rattle.clap.specs.declared.error.kind.ErrorKind.TheVariants.{InvalidValue, MissingRequiredArgument, UnknownArgument, ValueValidation};
 ghost use Rattle.cli_args.specs.ColumnNames.{column_names};
+ghost use Rattle.cli_args.specs.Conditions.{compare, is_true, number};
+ghost use Rattle.cli_args.specs.declared.condition.Comparison.TheVariants.{GreaterOrEqual};
 ghost use Rattle.cli_args.specs.Requests.{all, indices, named, slice, where_true};
 ghost use Rattle.cli_args.specs.Commands.{concat, count, from_json, schema, tail};
-ghost use Rattle.cli_args.specs.Examples.{ParsedAs, RefusedWith, Selects};
+ghost use Rattle.cli_args.specs.Examples.{MeansNothing, ParsedAs, RefusedWith, Selects};
 
 /// `rows f`; `rows --count 4 f --start=3`; `head f`; `cut f 1 2 -o g`.
 pub fn slices_are_parsed()
@@ -21,10 +23,11 @@ pub fn last_rows_and_counts_are_parsed()
     ensures count { ParsedAs (codes "count" ∷ codes "-" ∷ []) None (count (codes "-")) }
 {}
 
-/// `take f 7 0 7`; `where -- f ok`.
+/// `take f 7 0 7`; `where -- f ok`; `where f 'n >= -1.5'`.
 pub fn selections_are_parsed()
     ensures indices { Selects (codes "take" ∷ codes "f" ∷ codes "7" ∷ codes "0" ∷ codes "7" ∷ []) (indices (7 ∷ 0 ∷ 7 ∷ [])) None }
-    ensures column { Selects (codes "where" ∷ codes "--" ∷ codes "f" ∷ codes "ok" ∷ []) (where_true (named (codes "ok"))) None }
+    ensures column { Selects (codes "where" ∷ codes "--" ∷ codes "f" ∷ codes "ok" ∷ []) (where_true (is_true (named (codes "ok")) 0)) None }
+    ensures comparison { Selects (codes "where" ∷ codes "f" ∷ codes "n >= -1.5" ∷ []) (where_true (compare (named (codes "n")) 0 GreaterOrEqual (number (negsuc 14) 1))) None }
 {}
 
 /// `schema - --columns a,b`; `concat -o c f g`; `from-json t f g`.
@@ -50,4 +53,11 @@ pub fn column_names_are_split_at_commas()
     ensures one { column_names (codes "a") ≡ codes "a" ∷ [] }
     ensures empty { column_names [] ≡ [] ∷ [] }
     ensures last { column_names (codes "a,") ≡ codes "a" ∷ [] ∷ [] }
+{}
+
+/// `where f`; `where f 'a ='`; `where f 'is ok'`.
+pub fn invalid_conditions_are_refused()
+    ensures missing { RefusedWith (codes "where" ∷ codes "f" ∷ []) (MissingRequiredArgument ∷ []) }
+    ensures literal { MeansNothing (codes "where" ∷ codes "f" ∷ codes "a =" ∷ []) }
+    ensures column { MeansNothing (codes "where" ∷ codes "f" ∷ codes "is ok" ∷ []) }
 {}

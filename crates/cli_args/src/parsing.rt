@@ -1,18 +1,23 @@
 //! Arguments of the process as a command.
-ghost use Rattle.std.specs.Prelude.{◌≡◌, ◌⊎◌, [], IfErr, IfOk, None, Some, codes, map, option_map, string_bytes};
+ghost use Rattle.std.specs.Prelude.{◌≡◌, ◌⊎◌, [], ◌∷◌, IfErr, IfOk, None, Some, codes, map, string_bytes};
 ghost use Rattle.clap.specs.Faults.{fault_of};
 ghost use Rattle.clap.specs.Kinds.{FailsBy, HasKind};
+ghost use Rattle.clap.specs.Values.{kind_of};
+ghost use Rattle.clap.specs.declared.error.kind.ErrorKind.TheVariants.{InvalidSubcommand, ValueValidation};
 ghost use Rattle.clap.specs.Words.{subcommand_of, subcommand_rows_of};
 ghost use Rattle.cli_args.specs.CommandLine.{nest_app};
-ghost use Rattle.cli_args.specs.Commands.{arguments_found, arguments_in, arguments_of, command_of, concat, found_rows, rows_selection, select_of, selection_of, argument_text, texts_of};
+ghost use Rattle.cli_args.specs.Commands.{arguments_found, arguments_in, arguments_of, command_of, concat, condition_selection, found_rows, rows_selection, select_of, selection_of, argument_text, texts_of};
+ghost use Rattle.cli_args.specs.ConditionParser.{parsed_condition};
+ghost use Rattle.cli_args.specs.ConditionResults.{MeansAs};
 ghost use Rattle.cli_args.specs.CommandTrees.{arguments_tree, command_tree};
-ghost use Rattle.cli_args.specs.Requests.{named, where_true};
 ghost use Rattle.cli_args.specs.RequestTrees.{selection_tree};
 
 use crate::arguments::Arguments;
 use crate::command::{Command, ImportRequest};
 use crate::command_line::nest;
-use crate::request::{Column, Selection};
+use crate::condition_error::{ParseConditionError, SyntaxError};
+use crate::condition_parser::parse_condition;
+use crate::request::Selection;
 use crate::values::{indices, integer, required_integer, text, texts, value};
 use clap::error::ErrorKind;
 use clap::{ArgMatches, Error};
@@ -29,11 +34,13 @@ fn slice_of_rows(start: Option<usize>, count: Option<usize>) -> Selection
     }
 }
 
-fn rows_where(alloc: Global, column: &str) -> Result<Selection, AllocError>
-    ensures { IfOk result (λ s. selection_tree s ≡ where_true (named column.now)) }
+fn rows_where(alloc: Global, expression: &str) -> Result<Option<Selection>, ParseConditionError>
+    ensures { MeansAs selection_tree result (condition_selection (parsed_condition expression.now)) }
 {
-    let name = String::from_str(alloc, column)?;
-    Ok(Selection::Where(Column::Named(name)))
+    match parse_condition(alloc, expression) {
+        Ok(condition) => Ok(Some(Selection::Where(condition))),
+        Err(error) => Err(error),
+    }
 }
 
 /// Returns the rows that a command selects.
@@ -41,8 +48,8 @@ fn selection_named(
     alloc: Global,
     name: &str,
     matches: &ArgMatches<'_>,
-) -> Result<Option<Selection>, AllocError>
-    ensures { IfOk result (λ s. option_map selection_tree s ≡ selection_of name.now (found_rows matches.now)) }
+) -> Result<Option<Selection>, ParseConditionError>
+    ensures { MeansAs selection_tree result (selection_of name.now (found_rows matches.now)) }
 {
     if name == "rows" {
         let start = integer(matches, "START");
@@ -57,7 +64,7 @@ fn selection_named(
     } else if name == "take" {
         Ok(Some(Selection::Indices(indices(alloc, matches)?)))
     } else if name == "where" {
-        Ok(Some(rows_where(alloc, text(matches, "COLUMN"))?))
+        rows_where(alloc, text(matches, "EXPRESSION"))
     } else {
         Ok(None)
     }
@@ -67,8 +74,8 @@ fn select_named<'a>(
     alloc: Global,
     name: &str,
     matches: &ArgMatches<'a>,
-) -> Result<Option<Command<'a>>, AllocError>
-    ensures { IfOk result (λ c. option_map command_tree c ≡ select_of name.now (found_rows matches.now)) }
+) -> Result<Option<Command<'a>>, ParseConditionError>
+    ensures { MeansAs command_tree result (select_of name.now (found_rows matches.now)) }
 {
     let file = text(matches, "FILE");
     let out = value(matches, "OUT");
@@ -106,8 +113,8 @@ fn command_named<'a>(
     alloc: Global,
     name: &str,
     matches: &ArgMatches<'a>,
-) -> Result<Option<Command<'a>>, AllocError>
-    ensures { IfOk result (λ c. option_map command_tree c ≡ command_of name.now (found_rows matches.now)) }
+) -> Result<Option<Command<'a>>, ParseConditionError>
+    ensures { MeansAs command_tree result (command_of name.now (found_rows matches.now)) }
 {
     let file = text(matches, "FILE");
     if name == "schema" {
@@ -121,7 +128,7 @@ fn command_named<'a>(
     } else if name == "concat" {
         match concat_of(alloc, matches) {
             Ok(command) => Ok(Some(command)),
-            Err(error) => Err(error),
+            Err(error) => Err(ParseConditionError::from(error)),
         }
     } else if name == "convert" {
         Ok(Some(Command::Convert(file, text(matches, "OUT"))))
@@ -136,8 +143,8 @@ fn arguments_named<'a>(
     alloc: Global,
     name: &str,
     matches: &ArgMatches<'a>,
-) -> Result<Option<Arguments<'a>>, AllocError>
-    ensures { IfOk result (λ a. option_map arguments_tree a ≡ arguments_in name.now (found_rows matches.now)) }
+) -> Result<Option<Arguments<'a>>, ParseConditionError>
+    ensures { MeansAs arguments_tree result (arguments_in name.now (found_rows matches.now)) }
 {
     let columns = value(matches, "NAMES");
     match command_named(alloc, name, matches) {
@@ -151,8 +158,8 @@ fn arguments_named<'a>(
 fn arguments_matched<'a>(
     alloc: Global,
     matches: &ArgMatches<'a>,
-) -> Result<Option<Arguments<'a>>, AllocError>
-    ensures { IfOk result (λ a. option_map arguments_tree a ≡ arguments_found (subcommand_rows_of matches.now)) }
+) -> Result<Option<Arguments<'a>>, ParseConditionError>
+    ensures { MeansAs arguments_tree result (arguments_found (subcommand_rows_of matches.now)) }
 {
     match matches.subcommand() {
         Some((name, found)) => arguments_named(alloc, name, found),
@@ -169,8 +176,18 @@ fn matches_of<'a>(alloc: Global, words: &'a [String]) -> Result<ArgMatches<'a>, 
 }
 
 /// An error for a command that clap accepts and [`Command`] lacks.
-fn unknown_command(alloc: Global) -> Result<Error, AllocError> {
+fn unknown_command(alloc: Global) -> Result<Error, AllocError>
+    ensures { IfOk result (λ e. kind_of e ≡ InvalidSubcommand) }
+{
     nest(alloc)?.error(ErrorKind::InvalidSubcommand, "unrecognized subcommand")
+}
+
+/// An error for an expression of `where` that is no condition.
+fn invalid_condition(alloc: Global, error: SyntaxError) -> Result<Error, AllocError>
+    ensures { IfOk result (λ e. kind_of e ≡ ValueValidation) }
+{
+    let message = format!(in alloc; "invalid value for '<EXPRESSION>': {error}")?;
+    nest(alloc)?.error(ErrorKind::ValueValidation, &message)
 }
 
 /// Parses the arguments of the process, the name of the program first.
@@ -178,18 +195,20 @@ fn unknown_command(alloc: Global) -> Result<Error, AllocError> {
 /// # Errors
 ///
 /// The error of clap, whose `Display` is the message for the user. It is also the way in which clap returns the text of `--help` and
-/// `--version`.
+/// `--version`. An expression of `where` that is no condition is an error of kind `ValueValidation`.
 pub fn parse_arguments<'a>(alloc: Global, words: &'a [String]) -> Result<Arguments<'a>, Error>
     ensures arguments { IfOk result (λ a. Some (arguments_tree a) ≡ arguments_of (map string_bytes words.entry.now)) }
     ensures accepted { IfOk result (λ _. fault_of nest_app (map string_bytes words.entry.now) ≡ []) }
+    ensures kinds { IfErr result (λ e. HasKind (fault_of nest_app (map string_bytes words.entry.now)) e ⊎ HasKind (ValueValidation ∷ InvalidSubcommand ∷ []) e) }
     ensures error { IfErr result (λ e. HasKind (fault_of nest_app (map string_bytes words.entry.now)) e ⊎ (arguments_of (map string_bytes words.entry.now) ≡ None)) }
 {
     match matches_of(alloc, words) {
         Err(error) => Err(error),
         Ok(matches) => match arguments_matched(alloc, &matches) {
-            Err(error) => Err(Error::from(error)),
             Ok(Some(arguments)) => Ok(arguments),
             Ok(None) => Err(unknown_command(alloc)?),
+            Err(ParseConditionError::Syntax(error)) => Err(invalid_condition(alloc, error)?),
+            Err(ParseConditionError::Memory) => Err(Error::from(AllocError)),
         },
     }
 }

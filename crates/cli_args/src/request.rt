@@ -1,4 +1,5 @@
 //! What a command prints or selects.
+use crate::condition::Condition;
 
 /// A column.
 #[derive(Drop)]
@@ -18,8 +19,8 @@ pub enum Selection {
     Slice(usize, usize),
     /// The row at each index, in the order of the indices.
     Indices(Vec<usize>),
-    /// The rows where this boolean column is true.
-    Where(Column),
+    /// The rows where this condition is true.
+    Where(Condition),
 }
 
 /// What to print of an input.

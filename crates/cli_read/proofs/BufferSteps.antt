@@ -19,7 +19,7 @@ use Rattle.cli_rows.specs.Tables.{TableTree}
 use Rattle.cli_rows.specs.Output.{HasTable}
 use Rattle.cli_rows.specs.declared.difference.Difference.TheVariants as differences
 use Rattle.cli_rows.specs.declared.error.CliError.{CliError}
-use Rattle.cli_rows.specs.declared.error.CliError.TheVariants.{Input, Read, Write, MismatchedColumns, IndexOutOfRange, UnknownColumn, NotBoolean, UnknownName, Output, Memory}
+use Rattle.cli_rows.specs.declared.error.CliError.TheVariants.{Input, Read, Write, MismatchedColumns, IndexOutOfRange, Condition, UnknownName, Output, Memory}
 use Rattle.cli_rows.specs.declared.error.BatchError.{BatchError}
 use Rattle.cli_read.specs.Remaining.{FailsToOpen, ReturnsNext, StartsEmpty, IsOpened, IsReadErrorOf, Remaining, Advances, with_schema}
 use Rattle.cli_read.specs.RowBuffers.{FailsRows, ReturnsRows, IsPosition, IsAfter, IsBufferState, HasBuffered, IsDifferenceAt, IsReached, IsRowBufferError, ComparesBuffers, BufferState, FailsAfterRows, IsStep, table_of_batches, advanced, prepended, buffered_rows}
@@ -90,8 +90,7 @@ failed (Read error) s bs read h = λ real. ap (λ (r : Some_). table_with s (pre
 failed (Write why) s bs read h = h
 failed MismatchedColumns s bs read h = unfit s bs read h
 failed IndexOutOfRange s bs read h = h
-failed UnknownColumn s bs read h = h
-failed NotBoolean s bs read h = h
+failed (Condition why) s bs read h = h
 failed (UnknownName i) s bs read h = h
 failed Output s bs read h = h
 failed Memory s bs read h = tt
@@ -105,8 +104,7 @@ is-error (Read error) read h = h
 is-error (Write why) read h = h
 is-error MismatchedColumns read h = h
 is-error IndexOutOfRange read h = h
-is-error UnknownColumn read h = h
-is-error NotBoolean read h = h
+is-error (Condition why) read h = h
 is-error (UnknownName i) read h = h
 is-error Output read h = h
 is-error Memory read h = h
@@ -336,8 +334,7 @@ why-error (Read error) read h = h
 why-error (Write why) read h = h
 why-error MismatchedColumns read h = absurd h
 why-error IndexOutOfRange read h = h
-why-error UnknownColumn read h = h
-why-error NotBoolean read h = h
+why-error (Condition why) read h = h
 why-error (UnknownName i) read h = h
 why-error Output read h = h
 why-error Memory read h = tt

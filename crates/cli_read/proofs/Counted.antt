@@ -22,7 +22,7 @@ use Rattle.cli_rows.specs.Output.{HasTable}
 use Rattle.cli_rows.specs.Tables.{TableTree}
 use Rattle.cli_rows.specs.declared.error.BatchError.{BatchError}
 use Rattle.cli_rows.specs.declared.error.CliError.{CliError}
-use Rattle.cli_rows.specs.declared.error.CliError.TheVariants.{Input, Read, Write, MismatchedColumns, IndexOutOfRange, UnknownColumn, NotBoolean, UnknownName, Output, Memory}
+use Rattle.cli_rows.specs.declared.error.CliError.TheVariants.{Input, Read, Write, MismatchedColumns, IndexOutOfRange, Condition, UnknownName, Output, Memory}
 use Rattle.cli_read.specs.Counts.{Counts, FailsToCount, IsCountError, batch_row_counts, batches_of_counts, metadata_contents, rows_alone, total_rows}
 use Rattle.cli_read.specs.CountSteps.{DecodesAlike, FailsIn, IsErrorIn, OpensMetadataOf, decoded_metadata, metadata_of_blocks}
 use Rattle.cli_read.specs.Decoded.{Decoded, table_with}
@@ -70,8 +70,7 @@ fails-behind (Read error) s bs read h = λ real. ap (λ (r : Batches). table_wit
 fails-behind (Write why) s bs read h = h
 fails-behind MismatchedColumns s bs read h = h
 fails-behind IndexOutOfRange s bs read h = h
-fails-behind UnknownColumn s bs read h = h
-fails-behind NotBoolean s bs read h = h
+fails-behind (Condition why) s bs read h = h
 fails-behind (UnknownName i) s bs read h = h
 fails-behind Output s bs read h = h
 fails-behind Memory s bs read h = h

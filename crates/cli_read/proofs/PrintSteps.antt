@@ -10,7 +10,7 @@ use Rattle.ipc.specs.Streams.{RecordBatchTree}
 use Rattle.cli_args.specs.Requests.{RequestTree}
 use Rattle.cli_rows.specs.declared.error.BatchError.{BatchError}
 use Rattle.cli_rows.specs.declared.error.CliError.{CliError}
-use Rattle.cli_rows.specs.declared.error.CliError.TheVariants.{Input, Read, Write, MismatchedColumns, IndexOutOfRange, UnknownColumn, NotBoolean, UnknownName, Output, Memory}
+use Rattle.cli_rows.specs.declared.error.CliError.TheVariants.{Input, Read, Write, MismatchedColumns, IndexOutOfRange, Condition, UnknownName, Output, Memory}
 use Rattle.cli_read.specs.Decoded.{Decoded, table_with}
 use Rattle.cli_read.specs.Printed.{FailsWhilePrinting, FailsWith, HasRowsToPrint, Prints, WritesText}
 use Rattle.cli_read.specs.Remaining.{FailsToReadNext, FailsToOpen, IsOpened, IsReadErrorOf, Remaining, ReturnsNext, StartsEmpty, with_schema}
@@ -83,8 +83,7 @@ fails-next (Read error) q s t u k bs Earlier old new at h earlier = (earlier, λ
 fails-next (Write why) q s t u k bs Earlier old new at h earlier = absurd h
 fails-next MismatchedColumns q s t u k bs Earlier old new at h earlier = absurd h
 fails-next IndexOutOfRange q s t u k bs Earlier old new at h earlier = absurd h
-fails-next UnknownColumn q s t u k bs Earlier old new at h earlier = absurd h
-fails-next NotBoolean q s t u k bs Earlier old new at h earlier = absurd h
+fails-next (Condition why) q s t u k bs Earlier old new at h earlier = absurd h
 fails-next (UnknownName i) q s t u k bs Earlier old new at h earlier = absurd h
 fails-next Output q s t u k bs Earlier old new at h earlier = absurd h
 fails-next Memory q s t u k bs Earlier old new at h earlier = absurd h
@@ -112,8 +111,7 @@ unopened-by (Read error) q x old h = (Keeps-refl old, h)
 unopened-by (Write why) q x old h = absurd h
 unopened-by MismatchedColumns q x old h = absurd h
 unopened-by IndexOutOfRange q x old h = absurd h
-unopened-by UnknownColumn q x old h = absurd h
-unopened-by NotBoolean q x old h = absurd h
+unopened-by (Condition why) q x old h = absurd h
 unopened-by (UnknownName i) q x old h = absurd h
 unopened-by Output q x old h = absurd h
 unopened-by Memory q x old h = absurd h

@@ -11,7 +11,7 @@ use Rattle.cli_rows.specs.ColumnNames.{request_error}
 use Rattle.cli_rows.specs.Tables.{TableTree, MatchesSchema, record_rows}
 use Rattle.cli_rows.specs.Output.{printed_text}
 use Rattle.cli_rows.specs.declared.error.CliError.{CliError}
-use Rattle.cli_rows.specs.declared.error.CliError.TheVariants.{Input, Read, Write, MismatchedColumns, IndexOutOfRange, UnknownColumn, NotBoolean, UnknownName, Output, Memory}
+use Rattle.cli_rows.specs.declared.error.CliError.TheVariants.{Input, Read, Write, MismatchedColumns, IndexOutOfRange, Condition, UnknownName, Output, Memory}
 use Rattle.cli_read.specs.RemainingRequests.{IsRequestInRowOrder, batch_table, is_complete_request, remaining_request, table_row_count}
 use Rattle.cli_read.specs.Printed.{FailsWith, HasRowsToPrint, WritesText}
 use Rattle.cli_read.specs.RowBuffers.{table_of_batches}
@@ -89,8 +89,7 @@ halted MismatchedColumns q left s bs old mid new b g more_asked h = (
   (sym (columns-left q left s bs old mid g) ∙ h.1.0, λ has. h.1.1 (has-rows s bs (b ∷ []) has)),
 )
 halted IndexOutOfRange q left s bs old mid new b g more_asked h = absurd (no-place left s (b ∷ []) (subst IsRequestInRowOrder (sym g.left_is) (order-left q (table_row_count (table_of_batches s bs)) g.order)) h.1.0 h.1.1)
-halted UnknownColumn q left s bs old mid new b g more_asked h = (wrote-kept q left s bs old mid new g h.0, sym (columns-left q left s bs old mid g) ∙ h.1)
-halted NotBoolean q left s bs old mid new b g more_asked h = (wrote-kept q left s bs old mid new g h.0, sym (columns-left q left s bs old mid g) ∙ h.1)
+halted (Condition why) q left s bs old mid new b g more_asked h = (wrote-kept q left s bs old mid new g h.0, sym (columns-left q left s bs old mid g) ∙ h.1)
 halted (UnknownName i) q left s bs old mid new b g more_asked h = absurd h.1
 halted Memory q left s bs old mid new b g more_asked h = (wrote-kept q left s bs old mid new g h.0, tt)
 

@@ -1,4 +1,4 @@
--- Text of requests whose column is resolved.
+-- Text of requests whose columns are resolved.
 use Rattle.std.proofs.Common.{◌≡◌, ◌∙◌, ◌+◌, ℕ, List, Option, Some, None, Result, Ok, Err, inl, inr, ap, refl, sym}
 use Rattle.std.specs.Prelude.{⊤}
 use Rattle.std.specs.Io.KnownBytes.{Keeps}
@@ -17,7 +17,7 @@ use Rattle.cli_rows.specs.Tables.{TableTree, record_rows}
 use Rattle.cli_rows.specs.Text.{text_of_rows}
 use Rattle.cli_rows.specs.declared.error.BatchError.{BatchError}
 use Rattle.cli_rows.specs.declared.error.CliError.{CliError}
-use Rattle.cli_rows.specs.declared.error.CliError.TheVariants.{Input, Read, Write, MismatchedColumns, IndexOutOfRange, UnknownColumn, NotBoolean, UnknownName, Output, Memory}
+use Rattle.cli_rows.specs.declared.error.CliError.TheVariants.{Input, Read, Write, MismatchedColumns, IndexOutOfRange, Condition, UnknownName, Output, Memory}
 use Rattle.cli_rows.proofs.Resolved.{records-typed, resolved-error, resolved-rows}
 use Rattle.cli_read.specs.Decoded.{table_with}
 use Rattle.cli_read.specs.Printed.{FailsWhilePrinting, FailsWith, HasRowsToPrint, Prints, WritesText, WritesTextPrefix}
@@ -29,7 +29,7 @@ pub in-order : (fs : List FieldTree) (q : RequestTree) → IsRequestInRowOrder q
 in-order fs columns h = tt
 in-order fs (rows all) h = tt
 in-order fs (rows (slice o n)) h = tt
-in-order fs (rows (where_true column)) h = tt
+in-order fs (rows (where_true condition)) h = tt
 in-order fs (rows (indices places)) h = h
 
 error-same : (fs : List FieldTree) (q : RequestTree) → request_error (resolved_request fs q) fs ≡ request_error q fs
@@ -61,14 +61,14 @@ all-rows s columns t h = tt
 all-rows s (rows all) t h = h
 all-rows s (rows (slice o n)) t h = h
 all-rows s (rows (indices places)) t h = h
-all-rows s (rows (where_true column)) t h = h
+all-rows s (rows (where_true condition)) t h = h
 
 all-rows-back : (s : SchemaModel) (q : RequestTree) (t : TableTree) → HasRequestedRows q t → HasRequestedRows (resolved_request s.fields q) t
 all-rows-back s columns t h = tt
 all-rows-back s (rows all) t h = h
 all-rows-back s (rows (slice o n)) t h = h
 all-rows-back s (rows (indices places)) t h = h
-all-rows-back s (rows (where_true column)) t h = h
+all-rows-back s (rows (where_true condition)) t h = h
 
 sufficient : (s : SchemaModel) (q : RequestTree) (read : Batches) → HasRowsToPrint (resolved_request s.fields q) (table_with s read) → HasRowsToPrint q (table_with s read)
 sufficient s q (Ok bs) h = all-rows s q (table_of_batches s bs) h
@@ -84,10 +84,8 @@ print-error MismatchedColumns s q (Ok bs) h = (sym (error-same s.fields q) ∙ h
 print-error MismatchedColumns s q (Err error) h = absurd h
 print-error IndexOutOfRange s q (Ok bs) h = (sym (error-same s.fields q) ∙ h.0, sym (text-same s q bs) ∙ h.1)
 print-error IndexOutOfRange s q (Err error) h = absurd h
-print-error UnknownColumn s q (Ok bs) h = sym (error-same s.fields q) ∙ h
-print-error UnknownColumn s q (Err error) h = absurd h
-print-error NotBoolean s q (Ok bs) h = sym (error-same s.fields q) ∙ h
-print-error NotBoolean s q (Err error) h = absurd h
+print-error (Condition why) s q (Ok bs) h = sym (error-same s.fields q) ∙ h
+print-error (Condition why) s q (Err error) h = absurd h
 print-error (UnknownName i) s q read h = h
 print-error Memory s q read h = tt
 print-error Input s q read h = h
@@ -102,8 +100,7 @@ fails-with (Read error) s q read Earlier Before old new k h = (k h.0, print-erro
 fails-with (Write why) s q read Earlier Before old new k h = (k h.0, print-error (Write why) s q read h.1)
 fails-with MismatchedColumns s q read Earlier Before old new k h = (k h.0, print-error MismatchedColumns s q read h.1)
 fails-with IndexOutOfRange s q read Earlier Before old new k h = (k h.0, print-error IndexOutOfRange s q read h.1)
-fails-with UnknownColumn s q read Earlier Before old new k h = (k h.0, print-error UnknownColumn s q read h.1)
-fails-with NotBoolean s q read Earlier Before old new k h = (k h.0, print-error NotBoolean s q read h.1)
+fails-with (Condition why) s q read Earlier Before old new k h = (k h.0, print-error (Condition why) s q read h.1)
 fails-with (UnknownName i) s q read Earlier Before old new k h = (k h.0, print-error (UnknownName i) s q read h.1)
 fails-with Memory s q read Earlier Before old new k h = (k h.0, tt)
 

@@ -15,7 +15,7 @@ use Rattle.cli_args.specs.Requests.{SelectionTree, RequestTree, columns, rows, a
 use Rattle.cli_rows.specs.Selection.{selected_rows}
 use Rattle.cli_rows.specs.RowLaws.{rows-length, sublist-both}
 use Rattle.cli_rows.specs.Rows.{RowSlot, rows_of}
-use Rattle.cli_rows.specs.Booleans.{is_true_in}
+use Rattle.cli_rows.specs.Conditions.{is_true_in}
 use Rattle.cli_rows.specs.Text.{json_line, text_of_rows}
 use Rattle.cli_rows.specs.RequestText.{spec_request_text, unless_error}
 use Rattle.cli_rows.specs.ColumnNames.{spec_selection_error, request_error}
@@ -30,31 +30,31 @@ use Rattle.cli_rows.proofs.RemainingSelections.{remaining-error, remaining-none,
 abbrev picked : SelectionTree → List RowSlot → List RowSlot
 picked all rs = rs
 picked (slice o n) rs = sublist rs o n
-picked (where_true column) rs = filter (is_true_in column) rs
+picked (where_true condition) rs = filter (is_true_in condition) rs
 picked (indices wanted) rs = []
 
 choice-is : (c : SelectionTree) (rs : List RowSlot) → IsInRowOrder c → selected_rows c rs ≡ Some (picked c rs)
 choice-is all rs h = refl
 choice-is (slice o n) rs h = refl
-choice-is (where_true column) rs h = refl
+choice-is (where_true condition) rs h = refl
 choice-is (indices wanted) rs h = absurd h
 
 pub left-is : (c : SelectionTree) (k : ℕ) → remaining_request (rows c) k ≡ rows (remaining_selection c k)
 left-is all k = refl
 left-is (slice o n) k = refl
-left-is (where_true column) k = refl
+left-is (where_true condition) k = refl
 left-is (indices wanted) k = refl
 
 pub in-order-behind : (c : SelectionTree) (k : ℕ) → IsInRowOrder c → IsInRowOrder (remaining_selection c k)
 in-order-behind all k h = tt
 in-order-behind (slice o n) k h = tt
-in-order-behind (where_true column) k h = tt
+in-order-behind (where_true condition) k h = tt
 in-order-behind (indices wanted) k h = h
 
 picked-both : (c : SelectionTree) (xs ys : List RowSlot) → IsInRowOrder c → picked c (xs ++ ys) ≡ picked c xs ++ picked (remaining_selection c (length xs)) ys
 picked-both all xs ys h = refl
 picked-both (slice o n) xs ys h = sublist-both xs ys o n
-picked-both (where_true column) xs ys h = filter-append (is_true_in column) xs ys
+picked-both (where_true condition) xs ys h = filter-append (is_true_in condition) xs ys
 picked-both (indices wanted) xs ys h = absurd h
 
 pub left-twice : (q : RequestTree) (a b : ℕ) → remaining_request (remaining_request q a) b ≡ remaining_request q (a + b)
@@ -134,14 +134,14 @@ pub enough : (q : RequestTree) (h : TableTree) → is_complete_request (remainin
 enough columns h e = tt
 enough (rows all) h e = absurd cc
 enough (rows (slice o n)) h e = let z = eqb-true (n - (table_row_count h - o)) 0 e in omega (arith, z)
-enough (rows (where_true column)) h e = absurd cc
+enough (rows (where_true condition)) h e = absurd cc
 enough (rows (indices wanted)) h e = absurd cc
 
 pub not-enough : (q : RequestTree) (h : TableTree) → is_complete_request (remaining_request q (table_row_count h)) ≡ false → HasRequestedRows q h → ⊥
 not-enough columns h e is = absurd cc
 not-enough (rows all) h e is = is
 not-enough (rows (slice o n)) h e is = let z : n - (table_row_count h - o) ≡ 0 = omega (arith, is) in absurd (grind (arith, z, e))
-not-enough (rows (where_true column)) h e is = is
+not-enough (rows (where_true condition)) h e is = is
 not-enough (rows (indices wanted)) h e is = is
 
 pub enough-is-all : (q : RequestTree) (s : SchemaModel) (as_ bs : List RecordBatchTree) → HasRequestedRows q (table_of_batches s as_) → spec_request_text q (table_of_batches s as_) ≡ spec_request_text q (table_of_batches s (as_ ++ bs))
@@ -157,5 +157,5 @@ enough-is-all (rows (slice o n)) s as_ bs h =
     ∙ ap (λ k. sublist xs o n ++ take k (drop (o - length xs) ys)) none
     ∙ append-nil (sublist xs o n)) in
     ap (λ rs. Some (text_of_rows rs)) same
-enough-is-all (rows (where_true column)) s as_ bs h = absurd h
+enough-is-all (rows (where_true condition)) s as_ bs h = absurd h
 enough-is-all (rows (indices wanted)) s as_ bs h = absurd h

@@ -12,7 +12,7 @@ use Rattle.cli_rows.specs.RowErrors.{IsRowError}
 use Rattle.cli_rows.specs.Rows.{RowSlot, rows_of}
 use Rattle.cli_rows.specs.Tables.{MatchesSchema, TableTree, record_rows}
 use Rattle.cli_rows.specs.declared.error.CliError.{CliError}
-use Rattle.cli_rows.specs.declared.error.CliError.TheVariants.{Input, Read, Write, MismatchedColumns, IndexOutOfRange, UnknownColumn, NotBoolean, UnknownName, Output, Memory}
+use Rattle.cli_rows.specs.declared.error.CliError.TheVariants.{Input, Read, Write, MismatchedColumns, IndexOutOfRange, Condition, UnknownName, Output, Memory}
 use Rattle.cli_read.specs.Decoded.{Decoded, stream_contents, table_with}
 use Rattle.cli_read.specs.ProjectedNames.{FailsToOpenColumns, HasNames}
 use Rattle.ipc_schema.specs.Projections.{ProjectionModel}
@@ -46,8 +46,7 @@ records-unread (Read error) s (Some u) h = λ real. ap (table_with s) (h real)
 records-unread (Write why) s (Some u) h = h
 records-unread MismatchedColumns s (Some u) h = absurd h
 records-unread IndexOutOfRange s (Some u) h = h
-records-unread UnknownColumn s (Some u) h = h
-records-unread NotBoolean s (Some u) h = h
+records-unread (Condition why) s (Some u) h = h
 records-unread (UnknownName i) s (Some u) h = h
 records-unread Output s (Some u) h = h
 records-unread Memory s (Some u) h = tt
@@ -58,8 +57,7 @@ unfit-alone (Read error) s b h = absurd h
 unfit-alone (Write why) s b h = h
 unfit-alone MismatchedColumns s b h = λ all. h all.0
 unfit-alone IndexOutOfRange s b h = h
-unfit-alone UnknownColumn s b h = h
-unfit-alone NotBoolean s b h = h
+unfit-alone (Condition why) s b h = h
 unfit-alone (UnknownName i) s b h = h
 unfit-alone Output s b h = h
 unfit-alone Memory s b h = tt
@@ -130,8 +128,7 @@ fails-behind (Read error) s bs read h = λ real. ap (λ (r : Batches). table_wit
 fails-behind (Write why) s bs read h = h
 fails-behind MismatchedColumns s bs read h = unfit-behind s bs read h
 fails-behind IndexOutOfRange s bs read h = h
-fails-behind UnknownColumn s bs read h = h
-fails-behind NotBoolean s bs read h = h
+fails-behind (Condition why) s bs read h = h
 fails-behind (UnknownName i) s bs read h = h
 fails-behind Output s bs read h = h
 fails-behind Memory s bs read h = tt

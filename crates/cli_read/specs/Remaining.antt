@@ -9,7 +9,7 @@ use Rattle.ipc.specs.SliceStreamReaders.{SliceStreamReaderTree, batches_of, befo
 use Rattle.ipc.specs.Files.{batches_at}
 use Rattle.cli_read.specs.Decoded.{Decoded, first_of_stream, table_with}
 use Rattle.cli_rows.specs.declared.error.CliError.{CliError}
-use Rattle.cli_rows.specs.declared.error.CliError.TheVariants.{Input, Read, Write, MismatchedColumns, IndexOutOfRange, UnknownColumn, NotBoolean, UnknownName, Output, Memory}
+use Rattle.cli_rows.specs.declared.error.CliError.TheVariants.{Input, Read, Write, MismatchedColumns, IndexOutOfRange, Condition, UnknownName, Output, Memory}
 
 -- the first of them, so many at most, and all
 pub record Remaining : Type 0 where
@@ -50,8 +50,7 @@ IsReadErrorOf Memory read = ⊥
 IsReadErrorOf (Write why) read = ⊥
 IsReadErrorOf MismatchedColumns read = ⊥
 IsReadErrorOf IndexOutOfRange read = ⊥
-IsReadErrorOf UnknownColumn read = ⊥
-IsReadErrorOf NotBoolean read = ⊥
+IsReadErrorOf (Condition error) read = ⊥
 IsReadErrorOf (UnknownName i) read = ⊥
 IsReadErrorOf Output read = ⊥
 

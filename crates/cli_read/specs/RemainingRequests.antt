@@ -20,7 +20,7 @@ abbrev pub HasRequestedRows : RequestTree → TableTree → Type 0
 HasRequestedRows columns t = Unit {0}
 HasRequestedRows (rows (slice o n)) t = n ≤ table_row_count t - o
 HasRequestedRows (rows all) t = ⊥
-HasRequestedRows (rows (where_true column)) t = ⊥
+HasRequestedRows (rows (where_true condition)) t = ⊥
 HasRequestedRows (rows (indices wanted)) t = ⊥
 
 -- what is printed after so many rows

@@ -13,7 +13,7 @@ use Rattle.cli_read.specs.Remaining.{Remaining}
 use Rattle.cli_read.specs.RowBuffers.{IsRowBufferError, BufferState}
 use Rattle.cli_rows.specs.SelectedTables.{AreRowsOf}
 use Rattle.cli_rows.specs.declared.error.CliError.{CliError}
-use Rattle.cli_rows.specs.declared.error.CliError.TheVariants.{Input, Read, Write, MismatchedColumns, IndexOutOfRange, UnknownColumn, NotBoolean, UnknownName, Output, Memory}
+use Rattle.cli_rows.specs.declared.error.CliError.TheVariants.{Input, Read, Write, MismatchedColumns, IndexOutOfRange, Condition, UnknownName, Output, Memory}
 use Rattle.cli_args.specs.Requests.{indices}
 use Rattle.cli_read.specs.declared.by_index.rows.TakeState.{TakeState}
 
@@ -73,8 +73,7 @@ IsFinishError Memory t = Unit {0}
 IsFinishError (Read error) t = ⊥
 IsFinishError (Write why) t = ⊥
 IsFinishError MismatchedColumns t = ⊥
-IsFinishError UnknownColumn t = ⊥
-IsFinishError NotBoolean t = ⊥
+IsFinishError (Condition error) t = ⊥
 IsFinishError (UnknownName i) t = ⊥
 IsFinishError Input t = ⊥
 IsFinishError Output t = ⊥

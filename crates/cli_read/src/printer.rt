@@ -161,8 +161,8 @@ fn print_reader<R: SeekRead + Drop, W: Write>(
 ///
 /// # Errors
 /// Before any record batch: `Read` with the first error of the bytes in reading order; `UnknownName` with the first projected name that no
-/// column has; `UnknownColumn` if there is no column of the name of `Where`, and `NotBoolean` if the first one is not boolean. In a record batch, after the lines of the batches before it and no line
-/// of its own: `Read`; `MismatchedColumns` if its columns do not match the schema, or there is no column. `Input` if a read fails.
+/// column has; `Condition` with the first error of the condition of `Where`. In a record batch, after the lines of the batches before it and
+/// no line of its own: `Read`; `MismatchedColumns` if its columns do not match the schema, or there is no column. `Input` if a read fails.
 /// `Output` if a write fails: a prefix of the lines was written. `Memory`, also in `Read`, if an allocation fails.
 pub fn print<R: SeekRead + Drop, W: Write>(
     alloc: Global,

@@ -7,7 +7,7 @@ use Rattle.ipc.specs.Streams.{RecordBatchTree}
 use Rattle.cli_rows.specs.Records.{record_type, records}
 use Rattle.cli_rows.specs.RowErrors.{IsRowError}
 use Rattle.cli_rows.specs.declared.error.CliError.{CliError}
-use Rattle.cli_rows.specs.declared.error.CliError.TheVariants.{Input, Read, Write, MismatchedColumns, IndexOutOfRange, UnknownColumn, NotBoolean, UnknownName, Output, Memory}
+use Rattle.cli_rows.specs.declared.error.CliError.TheVariants.{Input, Read, Write, MismatchedColumns, IndexOutOfRange, Condition, UnknownName, Output, Memory}
 use Rattle.cli_rows.specs.Compared.{IsRowsError, batch_array}
 use Rattle.ipc_schema.specs.Schemas.{SchemaModel}
 
@@ -34,7 +34,6 @@ unmade Input s b some h = absurd h
 unmade (Read error) s b some h = absurd h
 unmade (Write error) s b some h = absurd h
 unmade IndexOutOfRange s b some h = absurd h
-unmade UnknownColumn s b some h = absurd h
-unmade NotBoolean s b some h = absurd h
+unmade (Condition error) s b some h = absurd h
 unmade (UnknownName i) s b some h = absurd h
 unmade Output s b some h = absurd h

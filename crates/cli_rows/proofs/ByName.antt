@@ -6,7 +6,7 @@ use Rattle.nest_memory.specs.TypeOf.{field_of}
 use Rattle.nest_memory.specs.TypeTree.{FieldTree}
 use Rattle.nest_memory.specs.declared.datatypes.field.Field.{Field}
 use Rattle.json_write.specs.JsonText.{field_name}
-use Rattle.cli_rows.specs.ColumnNames.{spec_column_index, spec_field_at, spec_field_named}
+use Rattle.cli_rows.specs.ColumnFields.{spec_column_index, spec_field_at, spec_field_named}
 
 abbrev pub named_from : List ℕ → List Field → ℕ → Option FieldTree
 named_from name fields i = spec_field_named name (map field_of (drop i fields))

@@ -1,4 +1,9 @@
 mod Offsets
+mod Decimals
+mod Values
+mod Truths
+mod ConditionBoxes
+mod RecordColumns
 mod TrueRows
 mod Steps
 mod EqualWindows

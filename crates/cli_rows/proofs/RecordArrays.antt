@@ -15,7 +15,7 @@ use Rattle.ipc.specs.Streams.{RecordBatchTree, record_batch_of}
 use Rattle.cli_rows.specs.RowErrors.{IsRowError}
 use Rattle.cli_rows.specs.Records.{records, side_by_side}
 use Rattle.cli_rows.specs.declared.error.CliError.{CliError}
-use Rattle.cli_rows.specs.declared.error.CliError.TheVariants.{Input, Read, Write, MismatchedColumns, IndexOutOfRange, UnknownColumn, NotBoolean, UnknownName, Output, Memory}
+use Rattle.cli_rows.specs.declared.error.CliError.TheVariants.{Input, Read, Write, MismatchedColumns, IndexOutOfRange, Condition, UnknownName, Output, Memory}
 
 pub columns-side_by_side : (as_ : List AnyArray) → layouts_of as_ ≡ side_by_side (map layout_of as_)
 columns-side_by_side [] = refl
@@ -34,8 +34,7 @@ error-weaker Input P Q k h = absurd h
 error-weaker (Read error) P Q k h = absurd h
 error-weaker (Write error) P Q k h = absurd h
 error-weaker IndexOutOfRange P Q k h = absurd h
-error-weaker UnknownColumn P Q k h = absurd h
-error-weaker NotBoolean P Q k h = absurd h
+error-weaker (Condition error) P Q k h = absurd h
 error-weaker (UnknownName i) P Q k h = absurd h
 error-weaker Output P Q k h = absurd h
 

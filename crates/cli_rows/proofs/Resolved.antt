@@ -1,5 +1,7 @@
--- Selections whose column is resolved.
-use Rattle.std.proofs.Common.{◌≡◌, ℕ, suc, ◌<◌, Bool, true, false, ◌&&◌, List, [], ◌∷◌, length, map, Option, Some, None, option_map, bytes_eq, if◌then◌else◌, refl, sym, ap, subst, ◌∙◌, arith}
+-- Selections whose columns are resolved.
+use Rattle.std.proofs.Common.{◌≡◌, ℕ, suc, ◌<◌, Bool, true, false, List, [], ◌∷◌, length, map, Option, Some, None, option_map, bytes_eq, if◌then◌else◌, refl, sym, ap, subst, ◌∙◌, arith}
+use Rattle.std.specs.Option.{option_and_then, option_or}
+use Rattle.std.specs.Prelude.{unwrap_or}
 use Rattle.std.specs.List.{AllByRecursion, filter, flat_map}
 use Rattle.std.proofs.Math.Bool.{cond}
 use Rattle.nest_memory.specs.TypeOf.{field_trees}
@@ -9,9 +11,15 @@ use Rattle.nest_model.specs.Slot as slots
 use Rattle.nest_model.specs.Slot.{Slot, Slots, more_slots, no_slots}
 use Rattle.json_write.specs.JsonText.{field_name}
 use Rattle.ipc.specs.Streams.{RecordBatchTree}
-use Rattle.cli_args.specs.Requests.{SelectionTree, all, indexed, indices, named, slice, where_true}
-use Rattle.cli_rows.specs.Booleans.{is_field_true, is_field_true_at, is_record, is_true_in, spec_is_boolean, spec_is_true}
-use Rattle.cli_rows.specs.ColumnNames.{column_by_index, resolved_selection, spec_boolean_error, spec_column_index, spec_field_at, spec_field_named, spec_selection_error}
+use Rattle.cli_args.specs.Columns.{ColumnTree, indexed, named}
+use Rattle.cli_args.specs.Conditions.{ConditionTree, both, compare, either, is_null, is_true, negation}
+use Rattle.cli_args.specs.Requests.{SelectionTree, all, indices, slice, where_true}
+use Rattle.cli_rows.specs.Conditions.{is_true_in, nullness, spec_compared, spec_truth, truth_of, value_at, value_named, value_of}
+use Rattle.cli_rows.specs.ConditionErrors.{resolved_condition, spec_boolean_error, spec_column_error, spec_comparison_error, spec_condition_error}
+use Rattle.cli_rows.specs.ColumnFields.{column_by_index, field_of_column, resolved_column, spec_column_index, spec_field_at, spec_field_named}
+use Rattle.cli_rows.specs.Truth.{truth_and, truth_not, truth_or}
+use Rattle.cli_rows.specs.ColumnNames.{resolved_selection, spec_selection_error}
+use Rattle.cli_rows.specs.declared.error.CliError.TheVariants.{Condition}
 use Rattle.cli_rows.specs.Records.{record_type, records}
 use Rattle.cli_rows.specs.Rows.{RowSlot, rows_of}
 use Rattle.cli_rows.specs.SelectedTables.{AreRowsOf}
@@ -33,65 +41,103 @@ same-field name (f ∷ fs) i e = by_name (bytes_eq (field_name f) name) (same-fi
         let w = under-suc (spec_column_index name fs) i e in
         subst (λ k. spec_field_named name fs ≡ spec_field_at k (f ∷ fs)) w.2 (others w.0 w.1)
 
-same-truth : (name : List ℕ) (fs : List FieldTree) (i : ℕ) (ss : Slots) → spec_column_index name fs ≡ Some i → is_field_true name (field_trees fs) ss ≡ is_field_true_at i (field_trees fs) ss
-same-truth name [] i ss e = absurd cc
-same-truth name (f ∷ fs) i no_slots e = refl
-same-truth name (f ∷ fs) i (more_slots s ss) e = by_name (bytes_eq (field_name f) name) (λ k h. same-truth name fs k ss h) e
+same-named : (name : List ℕ) (fs : List FieldTree) (i : ℕ) (ss : Slots) → spec_column_index name fs ≡ Some i → value_named name (field_trees fs) ss ≡ value_at i (field_trees fs) ss
+same-named name [] i ss e = absurd cc
+same-named name (f ∷ fs) i no_slots e = refl
+same-named name (f ∷ fs) i (more_slots s ss) e = by_name (bytes_eq (field_name f) name) (λ k h. same-named name fs k ss h) e
   where
-    by_name : (q : Bool) → ((k : ℕ) → spec_column_index name fs ≡ Some k → is_field_true name (field_trees fs) ss ≡ is_field_true_at k (field_trees fs) ss) → (if q then Some 0 else option_map suc (spec_column_index name fs)) ≡ Some i
-        → (if q then spec_is_boolean (field_type f) && spec_is_true s else is_field_true name (field_trees fs) ss) ≡ is_field_true_at i (more_fields f (field_trees fs)) (more_slots s ss)
-    by_name true others e = let is : 0 ≡ i = cc in subst (λ k. (spec_is_boolean (field_type f) && spec_is_true s) ≡ is_field_true_at k (more_fields f (field_trees fs)) (more_slots s ss)) is refl
+    by_name : (q : Bool) → ((k : ℕ) → spec_column_index name fs ≡ Some k → value_named name (field_trees fs) ss ≡ value_at k (field_trees fs) ss) → (if q then Some 0 else option_map suc (spec_column_index name fs)) ≡ Some i
+        → (if q then Some (field_type f, s) else value_named name (field_trees fs) ss) ≡ value_at i (more_fields f (field_trees fs)) (more_slots s ss)
+    by_name true others e = let is : 0 ≡ i = cc in subst (λ k. Some (field_type f, s) ≡ value_at k (more_fields f (field_trees fs)) (more_slots s ss)) is refl
     by_name false others e =
         let w = under-suc (spec_column_index name fs) i e in
-        subst (λ k. is_field_true name (field_trees fs) ss ≡ is_field_true_at k (more_fields f (field_trees fs)) (more_slots s ss)) w.2 (others w.0 w.1)
+        subst (λ k. value_named name (field_trees fs) ss ≡ value_at k (more_fields f (field_trees fs)) (more_slots s ss)) w.2 (others w.0 w.1)
 
-same-slot : (name : List ℕ) (fs : List FieldTree) (i : ℕ) (s : Slot) → spec_column_index name fs ≡ Some i → is_true_in (named name) (record_type fs, s) ≡ is_true_in (indexed i) (record_type fs, s)
-same-slot name fs i (slots.record_of ss) e = ap (λ q. is_record (record_type fs) && q) (same-truth name fs i ss e)
-same-slot name fs i slots.null e = refl
-same-slot name fs i (slots.boolean b) e = refl
-same-slot name fs i (slots.number zs) e = refl
-same-slot name fs i (slots.utf8 bs) e = refl
-same-slot name fs i (slots.bytes bs) e = refl
-same-slot name fs i (slots.list ss) e = refl
-same-slot name fs i (slots.pick f u s) e = refl
+-- ---- a resolved column
+
+column-field : (fs : List FieldTree) (column : ColumnTree) → field_of_column (resolved_column fs column) fs ≡ field_of_column column fs
+column-field fs (indexed i) = refl
+column-field fs (named name) = by_index (spec_column_index name fs) refl
+  where
+    by_index : (o : Option ℕ) → spec_column_index name fs ≡ o → field_of_column (column_by_index name o) fs ≡ spec_field_named name fs
+    by_index None e = refl
+    by_index (Some i) e = sym (same-field name fs i e)
+
+column-value : (fs : List FieldTree) (column : ColumnTree) (ss : Slots) → value_of (resolved_column fs column) (field_trees fs) ss ≡ value_of column (field_trees fs) ss
+column-value fs (indexed i) ss = refl
+column-value fs (named name) ss = by_index (spec_column_index name fs) refl
+  where
+    by_index : (o : Option ℕ) → spec_column_index name fs ≡ o → value_of (column_by_index name o) (field_trees fs) ss ≡ value_named name (field_trees fs) ss
+    by_index None e = refl
+    by_index (Some i) e = sym (same-named name fs i ss e)
+
+no-column : (column : ColumnTree) → resolved_column [] column ≡ column
+no-column (named name) = refl
+no-column (indexed i) = refl
+
+-- ---- a resolved condition
+
+condition-error : (fs : List FieldTree) (c : ConditionTree) → spec_condition_error (resolved_condition fs c) fs ≡ spec_condition_error c fs
+condition-error fs (is_true column at) = ap (spec_boolean_error at) (column-field fs column)
+condition-error fs (is_null column at) = ap (spec_column_error at) (column-field fs column)
+condition-error fs (compare column at op literal) = ap (spec_comparison_error at literal) (column-field fs column)
+condition-error fs (negation c) = condition-error fs c
+condition-error fs (both c d) = let e = condition-error fs c in let f = condition-error fs d in λ i. option_or (e i) (f i)
+condition-error fs (either c d) = let e = condition-error fs c in let f = condition-error fs d in λ i. option_or (e i) (f i)
+
+condition-truth : (fs : List FieldTree) (c : ConditionTree) (ss : Slots) → spec_truth (resolved_condition fs c) (field_trees fs) ss ≡ spec_truth c (field_trees fs) ss
+condition-truth fs (is_true column at) ss = ap (option_and_then truth_of) (column-value fs column ss)
+condition-truth fs (is_null column at) ss = ap (option_and_then nullness) (column-value fs column ss)
+condition-truth fs (compare column at op literal) ss = ap (option_and_then (spec_compared op literal)) (column-value fs column ss)
+condition-truth fs (negation c) ss = ap truth_not (condition-truth fs c ss)
+condition-truth fs (both c d) ss = let e = condition-truth fs c ss in let f = condition-truth fs d ss in λ i. truth_and (e i) (f i)
+condition-truth fs (either c d) ss = let e = condition-truth fs c ss in let f = condition-truth fs d ss in λ i. truth_or (e i) (f i)
+
+no-columns : (c : ConditionTree) → resolved_condition [] c ≡ c
+no-columns (is_true column at) = ap (λ z. is_true z at) (no-column column)
+no-columns (is_null column at) = ap (λ z. is_null z at) (no-column column)
+no-columns (compare column at op literal) = ap (λ z. compare z at op literal) (no-column column)
+no-columns (negation c) = ap negation (no-columns c)
+no-columns (both c d) = let e = no-columns c in let f = no-columns d in λ i. both (e i) (f i)
+no-columns (either c d) = let e = no-columns c in let f = no-columns d in λ i. either (e i) (f i)
+
+same-slot : (fs : List FieldTree) (c : ConditionTree) (s : Slot) → is_true_in (resolved_condition fs c) (record_type fs, s) ≡ is_true_in c (record_type fs, s)
+same-slot fs c (slots.record_of ss) = ap (λ q. unwrap_or q false) (condition-truth fs c ss)
+same-slot fs c slots.null = refl
+same-slot fs c (slots.boolean b) = refl
+same-slot fs c (slots.number zs) = refl
+same-slot fs c (slots.utf8 bs) = refl
+same-slot fs c (slots.bytes bs) = refl
+same-slot fs c (slots.list ss) = refl
+same-slot fs c (slots.pick f u s) = refl
 
 -- rows of this type
 abbrev pub AreTyped : TypeTree → List RowSlot → Type 0
 AreTyped t rows = AllByRecursion (λ r. r.0 ≡ t) rows
 
-each-same : (name : List ℕ) (fs : List FieldTree) (i : ℕ) (rows : List RowSlot) → spec_column_index name fs ≡ Some i → AreTyped (record_type fs) rows → AllByRecursion (λ r. is_true_in (named name) r ≡ is_true_in (indexed i) r) rows
-each-same name fs i [] e h = tt
-each-same name fs i ((t, s) ∷ rows) e h = (subst (λ u. is_true_in (named name) (u, s) ≡ is_true_in (indexed i) (u, s)) (sym h.0) (same-slot name fs i s e), each-same name fs i rows e h.1)
+each-same : (fs : List FieldTree) (c : ConditionTree) (rows : List RowSlot) → AreTyped (record_type fs) rows → AllByRecursion (λ r. is_true_in (resolved_condition fs c) r ≡ is_true_in c r) rows
+each-same fs c [] h = tt
+each-same fs c ((t, s) ∷ rows) h = (subst (λ u. is_true_in (resolved_condition fs c) (u, s) ≡ is_true_in c (u, s)) (sym h.0) (same-slot fs c s), each-same fs c rows h.1)
 
 same-filter : (p q : RowSlot → Bool) (rows : List RowSlot) → AllByRecursion (λ r. p r ≡ q r) rows → filter p rows ≡ filter q rows
 same-filter p q [] h = refl
 same-filter p q (r ∷ rows) h = ap (λ b. cond b (r ∷ filter p rows) (filter p rows)) h.0 ∙ ap (λ l. cond (q r) (r ∷ l) l) (same-filter p q rows h.1)
 
-some-fields : (name : List ℕ) (fs : List FieldTree) (i : ℕ) → spec_column_index name fs ≡ Some i → 0 < length fs
-some-fields name [] i e = absurd cc
-some-fields name (f ∷ fs) i e = omega arith
+same-rows : (fs : List FieldTree) (c : ConditionTree) (rows : List RowSlot) → (0 < length fs → AreTyped (record_type fs) rows) → filter (is_true_in (resolved_condition fs c)) rows ≡ filter (is_true_in c) rows
+same-rows [] c rows h = ap (λ z. filter (is_true_in z) rows) (no-columns c)
+same-rows (f ∷ fs) c rows h = same-filter (is_true_in (resolved_condition (f ∷ fs) c)) (is_true_in c) rows (each-same (f ∷ fs) c rows (h (omega arith)))
 
 pub resolved-error : (fs : List FieldTree) (c : SelectionTree) → spec_selection_error (resolved_selection fs c) fs ≡ spec_selection_error c fs
 resolved-error fs all = refl
 resolved-error fs (slice o n) = refl
 resolved-error fs (indices places) = refl
-resolved-error fs (where_true (indexed i)) = refl
-resolved-error fs (where_true (named name)) = by_index (spec_column_index name fs) refl
-  where
-    by_index : (o : Option ℕ) → spec_column_index name fs ≡ o → spec_selection_error (where_true (column_by_index name o)) fs ≡ spec_selection_error (where_true (named name)) fs
-    by_index None e = refl
-    by_index (Some i) e = ap spec_boolean_error (sym (same-field name fs i e))
+resolved-error fs (where_true c) = ap (option_map Condition) (condition-error fs c)
 
 pub resolved-rows : (fs : List FieldTree) (c : SelectionTree) (rows : List RowSlot) → (0 < length fs → AreTyped (record_type fs) rows) → selected_rows (resolved_selection fs c) rows ≡ selected_rows c rows
 resolved-rows fs all rows h = refl
 resolved-rows fs (slice o n) rows h = refl
 resolved-rows fs (indices places) rows h = refl
-resolved-rows fs (where_true (indexed i)) rows h = refl
-resolved-rows fs (where_true (named name)) rows h = by_index (spec_column_index name fs) refl
-  where
-    by_index : (o : Option ℕ) → spec_column_index name fs ≡ o → selected_rows (where_true (column_by_index name o)) rows ≡ selected_rows (where_true (named name)) rows
-    by_index None e = refl
-    by_index (Some i) e = ap Some (sym (same-filter (is_true_in (named name)) (is_true_in (indexed i)) rows (each-same name fs i rows e (h (some-fields name fs i e)))))
+resolved-rows fs (where_true c) rows h = ap Some (same-rows fs c rows h)
 
 -- ---- the rows of tables
 

@@ -1,5 +1,5 @@
 -- Selected rows as record batches.
-use Rattle.std.proofs.Common.{◌≡◌, ℕ, zero, suc, ◌+◌, ◌<◌, Bool, true, false, ◌&&◌, if◌then◌else◌, List, [], ◌∷◌, ◌++◌, length, take, drop, get_or, map, Some, None, refl, sym, ap, subst, ◌∙◌, arith}
+use Rattle.std.proofs.Common.{◌≡◌, ℕ, zero, suc, ◌+◌, ◌<◌, Bool, true, false, if◌then◌else◌, List, [], ◌∷◌, ◌++◌, length, take, drop, get_or, map, Some, None, refl, sym, ap, subst, ◌∙◌, arith}
 use Rattle.std.specs.Prelude.{◌==◌, ⊤, OnOk, Result, Ok, Err, nat_lt}
 use Rattle.std.specs.List.{AllByRecursion, filter, flat_map, list_all}
 use Rattle.std.proofs.lemmas.Bool.{eqb-true}
@@ -10,7 +10,8 @@ use Rattle.nest_memory.specs.Physical.{physical_type}
 use Rattle.nest_memory.specs.TypeTree as types
 use Rattle.nest_memory.specs.TypeTree.{FieldTree, TypeTree}
 use Rattle.nest_memory.specs.declared.datatypes.physical_type.PhysicalType.TheVariants as physical
-use Rattle.nest_model.specs.Selected.{selected, mask_indices, indices_from}
+use Rattle.nest_model.specs.Selected.{indices_from, selected}
+use Rattle.nest_model.specs.SelectedLaws.{mask_indices-true}
 use Rattle.nest_model.specs.Slice.{IsSlice}
 use Rattle.nest_model.specs.Layout as layouts
 use Rattle.nest_model.specs.Layout.{Layout, Layouts, layout_type}
@@ -22,14 +23,15 @@ use Rattle.nest_model.specs.Slot.{Slot}
 use Rattle.nest_array.specs.Seen.{layout_of, layouts_of}
 use Rattle.nest_array.specs.declared.any.AnyArray.{AnyArray}
 use Rattle.nest_array.specs.WindowParts.{WindowParts, window_parts}
+use Rattle.nest_take.specs.Indices.{AreBelow}
 use Rattle.nest_take.specs.Taken.{IsTaken}
 use Rattle.ipc.specs.Streams.{RecordBatchTree}
-use Rattle.cli_args.specs.Requests.{ColumnTree, SelectionTree, all, indexed, indices, named, slice, where_true}
+use Rattle.cli_args.specs.Conditions.{ConditionTree}
+use Rattle.cli_args.specs.Requests.{SelectionTree, all, indices, slice, where_true}
 use Rattle.cli_rows.specs.Selection.{selected_rows}
 use Rattle.cli_rows.specs.Rows.{RowSlot, rows_at_indices, rows_in, rows_of}
 use Rattle.cli_rows.specs.RowLaws.{rows-length}
-use Rattle.cli_rows.specs.Booleans.{IsBooleanColumn, is_valid, spec_is_true, is_true_in}
-use Rattle.cli_rows.specs.ColumnNames.{spec_selection_error}
+use Rattle.cli_rows.specs.Conditions.{is_true_in, is_valid, true_indices}
 use Rattle.cli_rows.specs.Records.{record_type, records, side_by_side}
 use Rattle.cli_rows.specs.Compared.{batch_array}
 use Rattle.cli_rows.specs.SelectedTables.{AreRowsOf, IsRowOf, batch_rows}
@@ -113,7 +115,7 @@ selected-each fs (indices places) rows picked e h = by_places (list_all (λ p. n
     by_places : (b : Bool) → (if b then Some (rows_at_indices rows places) else None) ≡ Some picked → AreRowsOf fs picked
     by_places true e = let same : rows_at_indices rows places ≡ picked = cc in subst (AreRowsOf fs) same (at-each (IsRowOf fs) rows places h)
     by_places false e = absurd cc
-selected-each fs (where_true column) rows picked e h = let same : filter (is_true_in column) rows ≡ picked = cc in subst (AreRowsOf fs) same (filter-each (IsRowOf fs) (is_true_in column) rows h)
+selected-each fs (where_true c) rows picked e h = let same : filter (is_true_in c) rows ≡ picked = cc in subst (AreRowsOf fs) same (filter-each (IsRowOf fs) (is_true_in c) rows h)
 
 no-items : {A : Type 0} (f : Slot → A) (o n : ℕ) (s : ℕ → Slot) → n ≡ 0 → map f (run s o n) ≡ []
 no-items f o zero s e = refl
@@ -215,20 +217,17 @@ cut-rows a b o n h = ap (λ t. rowed t (slots_of b)) h.same_type ∙ ap (map (λ
 pub no-window-rows : (w : WindowParts) → w.count ≡ 0 → rows_in w ≡ []
 no-window-rows w e = ap (λ n. rows_in (window_parts w.array w.offset n)) e
 
-there-at : (f : FieldTree) (fs : List FieldTree) (t : TypeTree) (s : ℕ → Slot) (o n i : ℕ) → i < n → AreRowsOf (f ∷ fs) (rowed t (run s o n)) → is_valid (s (o + i)) ≡ true
-there-at f fs t s o zero i h k = absurd (omega (arith, h))
-there-at f fs t s o (suc n) zero h k = let e : o ≡ o + 0 = omega arith in subst (λ j. is_valid (s j) ≡ true) e k.0.1
-there-at f fs t s o (suc n) (suc i) h k = let e : suc o + i ≡ o + suc i = omega arith in subst (λ j. is_valid (s j) ≡ true) e (there-at f fs t s (suc o) n i (omega (arith, h)) k.1)
+module _ (c : ConditionTree) (t : TypeTree) (whole : List Slot) (s : ℕ → Slot) where
+  abbrev mask : List RowSlot → List Slot
+  mask rows = map (λ r. slots.boolean (is_true_in c r)) rows
 
-module _ (column : ColumnTree) (t : TypeTree) (whole : List Slot) (s m : ℕ → Slot) where
-  abbrev Masks : ℕ → ℕ → Type 0
-  Masks o n = rowed t (selected whole (indices_from o (run m o n))) ≡ filter (is_true_in column) (rowed t (run s o n))
+  -- the slots at the indices of the rows where the condition is true
+  abbrev Takes : ℕ → ℕ → Type 0
+  Takes o n = rowed t (selected whole (indices_from o (mask (rowed t (run s o n))))) ≡ filter (is_true_in c) (rowed t (run s o n))
 
-  masked-run : (o n : ℕ) → ((i : ℕ) → i < n → get_or whole (o + i) slots.null ≡ s (o + i)) → ((i : ℕ) → i < n → is_true_in column (t, s (o + i)) ≡ spec_is_true (m (o + i))) → Masks o n
-  masked-run o zero here truth = refl
-  masked-run o (suc n) here truth =
-      by_slot (m o) (subst (λ k. is_true_in column (t, s k) ≡ spec_is_true (m k)) first (truth 0 (omega arith)))
-      (masked-run (suc o) n (λ i h. subst (λ k. get_or whole k slots.null ≡ s k) (next i) (here (suc i) (omega (arith, h)))) (λ i h. subst (λ k. is_true_in column (t, s k) ≡ spec_is_true (m k)) (next i) (truth (suc i) (omega (arith, h)))))
+  taken-run : (o n : ℕ) → ((i : ℕ) → i < n → get_or whole (o + i) slots.null ≡ s (o + i)) → Takes o n
+  taken-run o zero here = refl
+  taken-run o (suc n) here = by_truth (is_true_in c (t, s o)) (taken-run (suc o) n (λ i h. subst (λ k. get_or whole k slots.null ≡ s k) (next i) (here (suc i) (omega (arith, h)))))
     where
       first : o + 0 ≡ o
       first = omega arith
@@ -236,52 +235,26 @@ module _ (column : ColumnTree) (t : TypeTree) (whole : List Slot) (s m : ℕ →
       next : (i : ℕ) → o + suc i ≡ suc o + i
       next i = omega arith
 
-      left_out : is_true_in column (t, s o) ≡ false → Masks (suc o) n → rowed t (selected whole (indices_from (suc o) (run m (suc o) n))) ≡ filter (is_true_in column) ((t, s o) ∷ rowed t (run s (suc o) n))
-      left_out e rest = rw e rest
+      by_truth : (b : Bool) → Takes (suc o) n
+          → rowed t (selected whole (indices_from o (slots.boolean b ∷ mask (rowed t (run s (suc o) n))))) ≡ (if b then (t, s o) ∷ filter (is_true_in c) (rowed t (run s (suc o) n)) else filter (is_true_in c) (rowed t (run s (suc o) n)))
+      by_truth true rest =
+          let place : get_or whole o slots.null ≡ s o = subst (λ k. get_or whole k slots.null ≡ s k) first (here 0 (omega arith)) in
+          (λ i. (t, place i) ∷ rest i)
+      by_truth false rest = rest
 
-      by_slot : (x : Slot) → is_true_in column (t, s o) ≡ spec_is_true x → Masks (suc o) n
-          → rowed t (selected whole (indices_from o (x ∷ run m (suc o) n))) ≡ filter (is_true_in column) ((t, s o) ∷ rowed t (run s (suc o) n))
-      by_slot (slots.boolean true) e rest =
-          let indices : get_or whole o slots.null ≡ s o = subst (λ k. get_or whole k slots.null ≡ s k) first (here 0 (omega arith)) in
-          rw (e, indices) (ap (λ rs. (t, s o) ∷ rs) rest)
-      by_slot (slots.boolean false) e rest = left_out e rest
-      by_slot slots.null e rest = left_out e rest
-      by_slot (slots.number zs) e rest = left_out e rest
-      by_slot (slots.utf8 bs) e rest = left_out e rest
-      by_slot (slots.bytes bs) e rest = left_out e rest
-      by_slot (slots.list ss) e rest = left_out e rest
-      by_slot (slots.record_of ss) e rest = left_out e rest
-      by_slot (slots.pick f u x) e rest = left_out e rest
-
-and-true : (a b : Bool) → a ≡ true → (a && b) ≡ b
-and-true true b e = refl
-and-true false b e = absurd cc
-
-pub true-rows : (fs : List FieldTree) (column : ColumnTree) (a r m b : Layout) → 0 < length fs → AreRowsOf fs (rows_of a) → IsBooleanColumn column a (Some (r, m)) → IsTaken a (mask_indices (slots_of m)) b
-    → rows_of b ≡ filter (is_true_in column) (rows_of a)
-true-rows [] column a r m b some h c taken = absurd (omega (arith, some))
-true-rows (f ∷ fs) column a r m b some h c taken =
+pub true-rows : (c : ConditionTree) (a b : Layout) → IsTaken a (true_indices c (rows_of a)) b → rows_of b ≡ filter (is_true_in c) (rows_of a)
+true-rows c a b taken =
     ap (λ t. rowed t (slots_of b)) taken.same_type
-    ∙ ap (map (λ s. (layout_type a, s))) (taken.slots ∙ ap (λ n. selected (slots_of a) (indices_from 0 (run (slot m) 0 n))) c.1)
-    ∙ masked-run column (layout_type a) (slots_of a) (slot a) (slot m) 0 (len a)
+    ∙ ap (map (λ s. (layout_type a, s))) taken.slots
+    ∙ taken-run c (layout_type a) (slots_of a) (slot a) 0 (len a)
     (λ i lt. let e : 0 + i ≡ i = omega arith in subst (λ k. get_or (slots_of a) k slots.null ≡ slot a k) (sym e) (slot-place a i slots.null lt))
-    (λ i lt. c.2 (0 + i) ∙ and-true _ _ (there-at f fs (layout_type a) (slot a) 0 (len a) i lt h))
 
-pub no-true-rows : (column : ColumnTree) (a : Layout) → IsBooleanColumn column a None → filter (is_true_in column) (rows_of a) ≡ []
-no-true-rows column a h = none 0 (len a)
-  where
-    none : (o n : ℕ) → filter (is_true_in column) (map (λ s. (layout_type a, s)) (run (slot a) o n)) ≡ []
-    none o zero = refl
-    none o (suc n) = rw (h o) (none (suc o) n)
+pub true-below : (c : ConditionTree) (a : Layout) (is : List ℕ) → is ≡ true_indices c (rows_of a) → AreBelow is (len a)
+true-below c a is e = subst (λ z. AreBelow z (len a)) (sym e) (λ j d h. let t = mask_indices-true (map (λ r. slots.boolean (is_true_in c r)) (rows_of a)) j d h in omega (arith, t.0, length-map (rows_of a) (λ r. slots.boolean (is_true_in c r)), rows-length a))
 
-pub filtered-each : (fs : List FieldTree) (column : ColumnTree) (rows : List RowSlot) → AreRowsOf fs rows → AreRowsOf fs (filter (is_true_in column) rows)
-filtered-each fs column rows h = filter-each (IsRowOf fs) (is_true_in column) rows h
+pub filtered-each : (fs : List FieldTree) (c : ConditionTree) (rows : List RowSlot) → AreRowsOf fs rows → AreRowsOf fs (filter (is_true_in c) rows)
+filtered-each fs c rows h = filter-each (IsRowOf fs) (is_true_in c) rows h
 
 pub rows-result : {E : Type 0} (old new rows same : List RowSlot) (r : Result ⊤ E) → rows ≡ same → OnOk r (new ≡ old ++ rows) → OnOk r (new ≡ old ++ same)
 rows-result old new rows same (Ok x) e h = h ∙ ap (λ rs. old ++ rs) e
 rows-result old new rows same (Err x) e h = h
-
-pub some-column : (column : ColumnTree) (fs : List FieldTree) → spec_selection_error (where_true column) fs ≡ None → 0 < length fs
-some-column (named name) [] e = absurd cc
-some-column (indexed i) [] e = absurd cc
-some-column column (f ∷ fs) e = omega arith

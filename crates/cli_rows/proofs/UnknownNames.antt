@@ -7,7 +7,8 @@ use Rattle.nest_memory.specs.TypeOf.{field_of}
 use Rattle.nest_memory.specs.TypeTree.{FieldTree}
 use Rattle.nest_memory.specs.declared.datatypes.field.Field.{Field}
 use Rattle.json_write.specs.JsonText.{field_name}
-use Rattle.cli_rows.specs.ColumnNames.{lacks_name, spec_column_index, unknown_name}
+use Rattle.cli_rows.specs.ColumnNames.{lacks_name, unknown_name}
+use Rattle.cli_rows.specs.ColumnFields.{spec_column_index}
 use Rattle.cli_rows.proofs.ByName.{next-index, same-index}
 use Rattle.cli_rows.proofs.Resolved.{under-suc}
 

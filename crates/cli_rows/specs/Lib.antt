@@ -1,5 +1,9 @@
 pub mod Rows
-pub mod Booleans
+pub mod Truth
+pub mod Kinds
+pub mod Comparisons
+pub mod Conditions
+pub mod ConditionExamples
 pub mod Selection
 pub mod RowOffsets
 pub mod Difference
@@ -10,6 +14,8 @@ pub mod Text
 pub mod SupportText
 pub mod TextExamples
 pub mod Records
+pub mod ColumnFields
+pub mod ConditionErrors
 pub mod ColumnNames
 pub mod RequestText
 pub mod ColumnExamples

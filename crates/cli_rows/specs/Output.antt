@@ -8,7 +8,7 @@ use Rattle.cli_args.specs.Requests.{RequestTree}
 use Rattle.cli_rows.specs.RequestText.{spec_request_text}
 use Rattle.cli_rows.specs.RequestErrors.{IsRequestError}
 use Rattle.cli_rows.specs.declared.error.CliError.{CliError}
-use Rattle.cli_rows.specs.declared.error.CliError.TheVariants.{Input, Read, Write, MismatchedColumns, IndexOutOfRange, UnknownColumn, NotBoolean, Output, Memory}
+use Rattle.cli_rows.specs.declared.error.CliError.TheVariants.{Input, Read, Write, MismatchedColumns, IndexOutOfRange, Condition, Output, Memory}
 use Rattle.cli_rows.specs.Tables.{TableTree}
 
 -- the text that a request prints of a decoded table
@@ -26,8 +26,7 @@ abbrev pub IsPrintError : CliError → RequestTree → Result TableTree formats.
 IsPrintError (Read error) q read = FailsOrRunsOut error read
 IsPrintError MismatchedColumns q read = HasTable read (IsRequestError MismatchedColumns q)
 IsPrintError IndexOutOfRange q read = HasTable read (IsRequestError IndexOutOfRange q)
-IsPrintError UnknownColumn q read = HasTable read (IsRequestError UnknownColumn q)
-IsPrintError NotBoolean q read = HasTable read (IsRequestError NotBoolean q)
+IsPrintError (Condition error) q read = HasTable read (IsRequestError (Condition error) q)
 IsPrintError Memory q read = Unit {0}
 IsPrintError error q read = ⊥
 

@@ -5,7 +5,7 @@ use Rattle.cli_rows.specs.RequestText.{spec_request_text}
 use Rattle.cli_rows.specs.ColumnNames.{request_error}
 use Rattle.cli_rows.specs.Tables.{TableTree, MatchesSchema}
 use Rattle.cli_rows.specs.declared.error.CliError.{CliError}
-use Rattle.cli_rows.specs.declared.error.CliError.TheVariants.{MismatchedColumns, IndexOutOfRange, UnknownColumn, NotBoolean, Memory}
+use Rattle.cli_rows.specs.declared.error.CliError.TheVariants.{MismatchedColumns, IndexOutOfRange, Condition, Memory}
 
 -- an index is out of range, or an allocation failed
 abbrev pub IsIndexError : {A : Type 0} → CliError → Option A → Type 0
@@ -13,11 +13,9 @@ IsIndexError IndexOutOfRange found = found ≡ None
 IsIndexError Memory found = Unit {0}
 IsIndexError error found = ⊥
 
--- there is no column of the name, or it is not boolean; the columns of a batch do not match the schema; an index is out of range; or an
--- allocation failed
+-- the condition has an error; the columns of a batch do not match the schema; an index is out of range; or an allocation failed
 abbrev pub IsRequestError : CliError → RequestTree → TableTree → Type 0
-IsRequestError UnknownColumn q t = request_error q t.schema.fields ≡ Some UnknownColumn
-IsRequestError NotBoolean q t = request_error q t.schema.fields ≡ Some NotBoolean
+IsRequestError (Condition error) q t = request_error q t.schema.fields ≡ Some (Condition error)
 IsRequestError MismatchedColumns q t = (request_error q t.schema.fields ≡ None) × (MatchesSchema t → ⊥)
 IsRequestError IndexOutOfRange q t = (request_error q t.schema.fields ≡ None) × (spec_request_text q t ≡ None)
 IsRequestError Memory q t = Unit {0}

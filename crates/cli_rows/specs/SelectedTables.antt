@@ -9,7 +9,7 @@ use Rattle.ipc.specs.Streams.{RecordBatchTree, record_batch_of}
 use Rattle.cli_args.specs.Requests.{SelectionTree}
 use Rattle.cli_rows.specs.Selection.{selected_rows}
 use Rattle.cli_rows.specs.Rows.{RowSlot, rows_of}
-use Rattle.cli_rows.specs.Booleans.{is_valid}
+use Rattle.cli_rows.specs.Conditions.{is_valid}
 use Rattle.cli_rows.specs.RequestText.{unless_error}
 use Rattle.cli_rows.specs.ColumnNames.{spec_selection_error}
 use Rattle.cli_rows.specs.Records.{record_type}

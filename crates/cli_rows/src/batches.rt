@@ -1,5 +1,5 @@
 //! Arrays of rows as record batches.
-ghost use Rattle.std.specs.Prelude.{◌≡◌, ◌<◌, IfErr, IfOk, IsOkUnless, OnOk, None, Some, length, map};
+ghost use Rattle.std.specs.Prelude.{◌≡◌, ◌<◌, IfErr, IfOk, IsOkUnless, OnOk, None, Some, map};
 ghost use Rattle.std.specs.List.{filter, flat_map};
 ghost use Rattle.nest_memory.specs.Physical.{physical_type};
 ghost use Rattle.nest_memory.specs.TypeOf.{field_of};
@@ -10,9 +10,9 @@ ghost use Rattle.nest_model.specs.Layout.{layout_type};
 ghost use Rattle.nest_model.specs.Meaning.{len};
 ghost use Rattle.nest_array.specs.Seen.{layout_of, layouts_of};
 ghost use Rattle.ipc.specs.Streams.{record_batch_of};
-ghost use Rattle.cli_args.specs.RequestTrees.{column_tree, selection_tree};
-ghost use Rattle.cli_rows.specs.Booleans.{is_true_in};
-ghost use Rattle.cli_rows.specs.ColumnNames.{spec_selection_error};
+ghost use Rattle.cli_args.specs.ConditionTrees.{condition_tree};
+ghost use Rattle.cli_args.specs.RequestTrees.{selection_tree};
+ghost use Rattle.cli_rows.specs.Conditions.{is_true_in};
 ghost use Rattle.cli_rows.specs.Compared.{batch_array};
 ghost use Rattle.cli_rows.specs.RequestErrors.{IsIndexError};
 ghost use Rattle.cli_rows.specs.Rows.{rows_in, rows_of, rows_of_arrays};
@@ -21,13 +21,13 @@ ghost use Rattle.cli_rows.specs.Selection.{selected_rows};
 ghost use Rattle.cli_rows.specs.declared.error.CliError.TheVariants.{Memory};
 
 use crate::error::CliError;
-use crate::select::{boolean_column, select_rows};
+use crate::select::{select_rows, true_rows};
 use crate::take::copied_batches;
-use cli_args::{Column, Selection};
+use cli_args::{Condition, Selection};
 use ipc::Batch;
 use nest_array::{AnyArray, Window};
 use nest_memory::datatypes::Field;
-use nest_take::filter;
+use nest_take::take;
 use std::alloc::Global;
 
 /// Returns the columns of an array of records.
@@ -152,43 +152,39 @@ pub(crate) fn batches_of_windows(
     Ok(batches)
 }
 
-/// Appends the rows where a boolean column is true as a record batch, unless there are none.
+/// Appends the rows where a condition is true as a record batch, unless there are none.
 fn push_where(
     alloc: Global,
     fields: &[Field],
     batches: &mut Vec<Batch>,
     array: &AnyArray,
-    column: &Column,
+    condition: &Condition,
 ) -> Result<(), CliError>
-    requires some { 0 < length (map field_of fields.now) }
-    requires rows { AreRowsOf (map field_of fields.now) (rows_of (layout_of array.now)) }
-    ensures rows { OnOk result (AppendsRows (map field_of fields.now) batches.old.items batches.new.items (filter (is_true_in (column_tree column.now)) (rows_of (layout_of array.now)))) }
+    requires { AreRowsOf (map field_of fields.now) (rows_of (layout_of array.now)) }
+    ensures rows { OnOk result (AppendsRows (map field_of fields.now) batches.old.items batches.new.items (filter (is_true_in (condition_tree condition.now)) (rows_of (layout_of array.now)))) }
     ensures error { IsOkUnless result Memory }
 {
-    let Some((_, booleans)) = boolean_column(array, column) else {
-        return Ok(());
-    };
-    match filter(alloc, array, booleans) {
+    let indices = true_rows(alloc, array, condition)?;
+    match take(alloc, array, &indices) {
         Err(_) => Err(CliError::Memory),
         Ok(rows) => push_batch(alloc, fields, batches, rows),
     }
 }
 
-/// Returns the rows where a boolean column is true, those of each array as a record batch.
+/// Returns the rows where a condition is true, those of each array as a record batch.
 fn batches_where(
     alloc: Global,
     fields: &[Field],
     arrays: &[AnyArray],
-    column: &Column,
+    condition: &Condition,
 ) -> Result<Vec<Batch>, CliError>
-    requires some { 0 < length (map field_of fields.now) }
-    requires rows { AreRowsOf (map field_of fields.now) (flat_map rows_of (map layout_of arrays.now)) }
-    ensures rows { IfOk result (λ v. batch_rows (map field_of fields.now) (map record_batch_of v.items) ≡ filter (is_true_in (column_tree column.now)) (flat_map rows_of (map layout_of arrays.now))) }
+    requires { AreRowsOf (map field_of fields.now) (flat_map rows_of (map layout_of arrays.now)) }
+    ensures rows { IfOk result (λ v. batch_rows (map field_of fields.now) (map record_batch_of v.items) ≡ filter (is_true_in (condition_tree condition.now)) (rows_of_arrays arrays.now)) }
     ensures error { IsOkUnless result Memory }
 {
     let mut batches = Vec::new(alloc);
     for array in arrays {
-        push_where(alloc, fields, &mut batches, array, column)?;
+        push_where(alloc, fields, &mut batches, array, condition)?;
     }
     Ok(batches)
 }
@@ -204,13 +200,12 @@ pub fn selected_batches(
     selection: &Selection,
     arrays: &[AnyArray],
 ) -> Result<Vec<Batch>, CliError>
-    requires columns { spec_selection_error (selection_tree selection.now) (map field_of fields.now) ≡ None }
-    requires rows { AreRowsOf (map field_of fields.now) (flat_map rows_of (map layout_of arrays.now)) }
+    requires { AreRowsOf (map field_of fields.now) (flat_map rows_of (map layout_of arrays.now)) }
     ensures rows { IfOk result (λ v. selected_rows (selection_tree selection.now) (rows_of_arrays arrays.now) ≡ Some (batch_rows (map field_of fields.now) (map record_batch_of v.items))) }
     ensures error { IfErr result (λ e. IsIndexError e (selected_rows (selection_tree selection.now) (flat_map rows_of (map layout_of arrays.now)))) }
 {
-    if let Selection::Where(column) = selection {
-        return batches_where(alloc, fields, arrays, column);
+    if let Selection::Where(condition) = selection {
+        return batches_where(alloc, fields, arrays, condition);
     }
     match select_rows(alloc, selection, arrays)? {
         None => Err(CliError::IndexOutOfRange),

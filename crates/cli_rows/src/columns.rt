@@ -1,16 +1,18 @@
 //! Columns by name and by index.
 ghost use Rattle.std.specs.Prelude.{◌≡◌, map, option_map, string_bytes};
-ghost use Rattle.nest_memory.specs.TypeOf.{field_of, type_of};
+ghost use Rattle.nest_memory.specs.TypeOf.{field_of};
 ghost use Rattle.ipc_schema.specs.Projections.{projection_of};
-ghost use Rattle.cli_args.specs.RequestTrees.{column_tree, request_tree, selection_tree};
-ghost use Rattle.cli_rows.specs.Booleans.{spec_is_boolean};
-ghost use Rattle.cli_rows.specs.ColumnNames.{field_of_column, lacks_name, resolved_column, resolved_request, resolved_selection, spec_boolean_error, spec_column_index, spec_field_at, spec_field_named, spec_selection_error, unknown_name, unknown_projected_name};
+ghost use Rattle.cli_args.specs.ColumnTrees.{column_tree};
+ghost use Rattle.cli_args.specs.RequestTrees.{request_tree, selection_tree};
+ghost use Rattle.cli_rows.specs.ColumnFields.{field_of_column, resolved_column, spec_column_index, spec_field_at, spec_field_named};
+ghost use Rattle.cli_rows.specs.ColumnNames.{lacks_name, resolved_request, resolved_selection, spec_selection_error, unknown_name, unknown_projected_name};
 
+use crate::conditions::{condition_error, resolve_condition};
 use crate::error::CliError;
 use crate::select::{is_called, is_named};
 use cli_args::{Column, Request, Selection};
 use ipc_schema::Projection;
-use nest_memory::datatypes::{DataType, Field, PhysicalType};
+use nest_memory::datatypes::Field;
 
 /// Returns the first field of a name.
 fn field_named<'a>(name: &String, fields: &'a [Field]) -> Option<&'a Field>
@@ -35,44 +37,12 @@ fn field_at(index: usize, fields: &[Field]) -> Option<&Field>
 }
 
 /// Returns the field of a column.
-fn column_field<'a>(column: &Column, fields: &'a [Field]) -> Option<&'a Field>
+pub(crate) fn column_field<'a>(column: &Column, fields: &'a [Field]) -> Option<&'a Field>
     ensures { option_map (λ f. field_of f.now) result ≡ field_of_column (column_tree column.now) (map field_of fields.now) }
 {
     match column {
         Column::Named(name) => field_named(name, fields),
         Column::Indexed(index) => field_at(*index, fields),
-    }
-}
-
-fn is_boolean(data_type: &DataType) -> bool
-    ensures { result ≡ spec_is_boolean (type_of data_type.now) }
-{
-    matches!(data_type.to_physical_type(), PhysicalType::Boolean)
-}
-
-/// Returns why a field is not a boolean column.
-fn boolean_error(field: Option<&Field>) -> Option<CliError>
-    ensures { result ≡ spec_boolean_error (option_map (λ f. field_of f.now) field.entry) }
-{
-    match field {
-        None => Some(CliError::UnknownColumn),
-        Some(field) => {
-            if is_boolean(field.data_type()) {
-                None
-            } else {
-                Some(CliError::NotBoolean)
-            }
-        }
-    }
-}
-
-/// Returns why a selection is invalid for a schema, whatever its rows: the column of `Where` is unknown or not boolean.
-pub fn selection_error(selection: &Selection, fields: &[Field]) -> Option<CliError>
-    ensures { result ≡ spec_selection_error (selection_tree selection.now) (map field_of fields.now) }
-{
-    match selection {
-        Selection::Where(column) => boolean_error(column_field(column, fields)),
-        _ => None,
     }
 }
 
@@ -88,22 +58,31 @@ fn column_index(name: &String, fields: &[Field]) -> Option<usize>
     None
 }
 
-fn resolve_column(column: Column, fields: &[Field]) -> Column
-    ensures { column_tree result ≡ resolved_column (map field_of fields.now) (column_tree column) }
+/// Replaces a name by the index of its first field, if there is one.
+pub(crate) fn resolve_column(column: &mut Column, fields: &[Field])
+    ensures { column_tree column.new ≡ resolved_column (map field_of fields.now) (column_tree column.old) }
 {
-    match column {
-        Column::Named(name) => match column_index(&name, fields) {
-            None => Column::Named(name),
-            Some(index) => {
-                drop(name);
-                Column::Indexed(index)
-            }
-        },
-        Column::Indexed(index) => Column::Indexed(index),
+    if let Column::Named(name) = column {
+        if let Some(index) = column_index(name, fields) {
+            *column = Column::Indexed(index);
+        }
     }
 }
 
-/// Returns a selection with the index of the column of `Where` in place of its name, if there is a column of the name. It selects the same
+/// Returns why a selection is invalid for a schema, whatever its rows: the first error of the condition of `Where`.
+pub fn selection_error(selection: &Selection, fields: &[Field]) -> Option<CliError>
+    ensures { result ≡ spec_selection_error (selection_tree selection.now) (map field_of fields.now) }
+{
+    match selection {
+        Selection::Where(condition) => match condition_error(condition, fields) {
+            None => None,
+            Some(error) => Some(CliError::Condition(error)),
+        },
+        _ => None,
+    }
+}
+
+/// Returns a selection with the index of each column of `Where` in place of its name, if there is a column of the name. It selects the same
 /// rows of these fields, and has the same error.
 pub fn resolve_selection(selection: Selection, fields: &[Field]) -> Selection
     ensures { selection_tree result ≡ resolved_selection (map field_of fields.now) (selection_tree selection) }
@@ -112,7 +91,10 @@ pub fn resolve_selection(selection: Selection, fields: &[Field]) -> Selection
         Selection::All => Selection::All,
         Selection::Slice(start, count) => Selection::Slice(start, count),
         Selection::Indices(indices) => Selection::Indices(indices),
-        Selection::Where(column) => Selection::Where(resolve_column(column, fields)),
+        Selection::Where(mut condition) => {
+            resolve_condition(&mut condition, fields);
+            Selection::Where(condition)
+        }
     }
 }
 

@@ -9,6 +9,23 @@ use std::fmt;
 use std::fmt::{Display, Formatter};
 use thiserror::Error;
 
+/// Error of a column in a condition on rows, by the position of its name in the text of the condition, in bytes.
+#[derive(Clone, Copy, Debug, PartialEq, Eq, Error)]
+pub enum ColumnError {
+    /// There is no column of this name.
+    #[error("position {0}: there is no column of this name")]
+    UnknownColumn(usize),
+    /// The column is not boolean.
+    #[error("position {0}: the column is not boolean")]
+    NotBoolean(usize),
+    /// Values of the column's type cannot be compared.
+    #[error("position {0}: columns of this type cannot be compared")]
+    NotComparable(usize),
+    /// The literal is of another kind than the values of the column.
+    #[error("position {0}: the column cannot be compared with this literal")]
+    OtherLiteral(usize),
+}
+
 /// Error returned where an input is not read, or an output not written.
 #[derive(Clone, Copy, Debug, PartialEq, Eq, Error)]
 pub enum CliError {
@@ -27,15 +44,12 @@ pub enum CliError {
     /// There is no row at an index.
     #[error("a row index is out of range")]
     IndexOutOfRange,
-    /// There is no column of a name.
-    #[error("there is no column of that name")]
-    UnknownColumn,
+    /// A condition does not fit the columns.
+    #[error("{0}")]
+    Condition(ColumnError),
     /// No column has a projected name. The number of the first such name, from 0.
     #[error("there is no column of projected name {0}")]
     UnknownName(usize),
-    /// The first column of a name is not boolean.
-    #[error("the column is not boolean")]
-    NotBoolean,
     /// Writing the output failed. A prefix of it may have been written.
     #[error("output cannot be written")]
     Output,

@@ -1,9 +1,12 @@
 //! Examples and laws of selected rows, text and tables. Each function's contract is an example or a law, and its body is empty.
 ghost use Rattle.std.specs.Prelude.{◌≡◌, ◌++◌, ℕ, List, [], ◌∷◌, true, false, Ok, Option, Some, None, codes, get_or};
 ghost use Rattle.nest_memory.specs.TypeTree.{FieldTree};
-ghost use Rattle.cli_args.specs.Requests.{SelectionTree, all, columns, indexed, indices, named, rows, slice, where_true};
+ghost use Rattle.cli_args.specs.Columns.{indexed, named};
+ghost use Rattle.cli_args.specs.Conditions.{is_true};
+ghost use Rattle.cli_args.specs.Requests.{SelectionTree, all, columns, indices, rows, slice, where_true};
 ghost use Rattle.cli_rows.specs.ColumnExamples.{ok_and_id};
-ghost use Rattle.cli_rows.specs.ColumnNames.{request_error, resolved_selection, spec_column_index, spec_selection_error, unknown_name};
+ghost use Rattle.cli_rows.specs.ColumnFields.{spec_column_index};
+ghost use Rattle.cli_rows.specs.ColumnNames.{request_error, resolved_selection, spec_selection_error, unknown_name};
 ghost use Rattle.cli_rows.specs.Compared.{IsTableDifference};
 ghost use Rattle.cli_rows.specs.Concatenated.{IsConcatenation};
 ghost use Rattle.cli_rows.specs.Difference.{AreEqualUpTo, IsDifference};
@@ -19,13 +22,14 @@ ghost use Rattle.cli_rows.specs.Text.{text_of_schema};
 ghost use Rattle.cli_rows.specs.TextExamples.{id_field, name_field, view_columns, view_field};
 ghost use Rattle.cli_rows.specs.declared.difference.Difference.{Difference};
 ghost use Rattle.cli_rows.specs.declared.difference.Difference.TheVariants.{Row as RowDiffers, Schema};
-ghost use Rattle.cli_rows.specs.declared.error.CliError.TheVariants.{UnknownColumn, NotBoolean};
+ghost use Rattle.cli_rows.specs.declared.error.CliError.TheVariants.{Condition};
+ghost use Rattle.cli_rows.specs.declared.error.ColumnError.TheVariants.{UnknownColumn, NotBoolean};
 
 /// Of a boolean column and an integer column: the first, the second, an unknown name, and no name.
 pub fn columns_are_found_by_name()
-    ensures found { request_error (rows (where_true (named (codes "ok")))) ok_and_id ≡ None }
-    ensures numbers { request_error (rows (where_true (named (codes "id")))) ok_and_id ≡ Some NotBoolean }
-    ensures absent { request_error (rows (where_true (named (codes "o")))) ok_and_id ≡ Some UnknownColumn }
+    ensures found { request_error (rows (where_true (is_true (named (codes "ok")) 0))) ok_and_id ≡ None }
+    ensures numbers { request_error (rows (where_true (is_true (named (codes "id")) 3))) ok_and_id ≡ Some (Condition (NotBoolean 3)) }
+    ensures absent { request_error (rows (where_true (is_true (named (codes "o")) 3))) ok_and_id ≡ Some (Condition (UnknownColumn 3)) }
     ensures unnamed { request_error columns ok_and_id ≡ None }
 {}
 
@@ -54,9 +58,9 @@ pub fn rows_are_selected()
 /// The rows where the first column of a name is true: neither null nor false, in a valid record. None if the column is not boolean, or
 /// there is no column of the name.
 pub fn rows_where_true_are_selected()
-    ensures column { selected_rows (where_true (named (codes "ok"))) (third ∷ first ∷ second ∷ null_record ∷ first ∷ []) ≡ Some (first ∷ first ∷ []) }
-    ensures numbers { selected_rows (where_true (named (codes "id"))) three ≡ Some [] }
-    ensures absent { selected_rows (where_true (named (codes "o"))) three ≡ Some [] }
+    ensures column { selected_rows (where_true (is_true (named (codes "ok")) 0)) (third ∷ first ∷ second ∷ null_record ∷ first ∷ []) ≡ Some (first ∷ first ∷ []) }
+    ensures numbers { selected_rows (where_true (is_true (named (codes "id")) 0)) three ≡ Some [] }
+    ensures absent { selected_rows (where_true (is_true (named (codes "o")) 0)) three ≡ Some [] }
 {}
 
 /// Of two columns: names of both, and twice; a name that is only the beginning of one, after one that has a column; an empty name.
@@ -74,10 +78,10 @@ pub fn unknown_names_have_no_column()
 
 /// Columns of names `id` and `ok`, by their indices; an unknown name stays.
 pub fn names_are_resolved()
-    ensures first { resolved_selection ok_and_id (where_true (named (codes "ok"))) ≡ where_true (indexed 0) }
-    ensures second { resolved_selection ok_and_id (where_true (named (codes "id"))) ≡ where_true (indexed 1) }
-    ensures absent { resolved_selection ok_and_id (where_true (named (codes "o"))) ≡ where_true (named (codes "o")) }
-    ensures rows { selected_rows (where_true (indexed 1)) (third ∷ first ∷ second ∷ null_record ∷ []) ≡ Some (first ∷ []) }
+    ensures first { resolved_selection ok_and_id (where_true (is_true (named (codes "ok")) 0)) ≡ where_true (is_true (indexed 0) 0) }
+    ensures second { resolved_selection ok_and_id (where_true (is_true (named (codes "id")) 0)) ≡ where_true (is_true (indexed 1) 0) }
+    ensures absent { resolved_selection ok_and_id (where_true (is_true (named (codes "o")) 0)) ≡ where_true (is_true (named (codes "o")) 0) }
+    ensures rows { selected_rows (where_true (is_true (indexed 1) 0)) (third ∷ first ∷ second ∷ null_record ∷ []) ≡ Some (first ∷ []) }
 {}
 
 /// A resolved selection has the same error, and selects the same rows of record batches of the fields.
@@ -141,7 +145,7 @@ pub fn selected_rows_are_a_table()
     ensures batch { IsSelectedFrom (slice 1 9) three_booleans (boolean_table ((false ∷ true ∷ []) ∷ [])) }
     ensures none { IsSelectedFrom (slice 3 1) three_booleans (boolean_table []) }
     ensures indices { IsSelectedFrom (indices (1 ∷ 0 ∷ 1 ∷ [])) three_booleans (boolean_table ((false ∷ true ∷ false ∷ []) ∷ [])) }
-    ensures column { IsSelectedFrom (where_true (named (codes "ok"))) three_booleans (boolean_table ((true ∷ []) ∷ (true ∷ []) ∷ [])) }
+    ensures column { IsSelectedFrom (where_true (is_true (named (codes "ok")) 0)) three_booleans (boolean_table ((true ∷ []) ∷ (true ∷ []) ∷ [])) }
 {}
 
 /// Neither another row, fewer or more rows, another order, nor another schema. No rows by an index out of range, or of an unknown column.
@@ -152,7 +156,7 @@ pub fn other_rows_are_not_selected()
     ensures order { IsSelectedFrom (indices (1 ∷ 0 ∷ [])) three_booleans (boolean_table ((true ∷ false ∷ []) ∷ [])) → ⊥ }
     ensures schema { IsSelectedFrom (slice 3 1) three_booleans (columnless_table []) → ⊥ }
     ensures index { IsSelectedFrom (indices (3 ∷ [])) three_booleans (boolean_table []) → ⊥ }
-    ensures column { IsSelectedFrom (where_true (named (codes "o"))) three_booleans (boolean_table []) → ⊥ }
+    ensures column { IsSelectedFrom (where_true (is_true (named (codes "o")) 0)) three_booleans (boolean_table []) → ⊥ }
 {}
 
 /// Selected rows of tables without columns are counted: a slice of two rows in two batches, and two rows by index; not one of two rows.

@@ -6,6 +6,8 @@
 
 mod batches;
 mod columns;
+pub mod condition_laws;
+mod conditions;
 mod difference;
 mod encoding;
 mod error;
@@ -24,7 +26,7 @@ pub use batches::{batches_of_arrays, push_batch, selected_batches};
 pub use columns::{first_unknown_name, resolve_request, resolve_selection, selection_error};
 pub use difference::{Difference, difference_text};
 pub use encoding::encode_table;
-pub use error::{BatchError, CliError};
+pub use error::{BatchError, CliError, ColumnError};
 pub use other_formats::{OtherFormat, other_format};
 pub use output::{read_input, write_output};
 pub use print::{array_lines, request_text, table_text};

@@ -89,9 +89,8 @@ fn schema_text(alloc: Global, schema: &Schema, batches: Vec<Batch>) -> Result<St
 /// Returns the text that a request prints of record batches: a line for each column, or for each selected row.
 ///
 /// # Errors
-/// First `UnknownColumn` if there is no column of the name of `Where`, and `NotBoolean` if the first one is not boolean. Then
-/// `MismatchedColumns` if the columns of a batch do not match the schema, or there is no column, and `IndexOutOfRange` if there is no row
-/// at an index. `Memory`, in place of any, if an allocation fails.
+/// First `Condition` if the condition of `Where` has an error. Then `MismatchedColumns` if the columns of a batch do not match the schema,
+/// or there is no column, and `IndexOutOfRange` if there is no row at an index. `Memory`, in place of any, if an allocation fails.
 pub fn request_text(
     alloc: Global,
     schema: &Schema,

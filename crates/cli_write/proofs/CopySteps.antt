@@ -32,7 +32,7 @@ use Rattle.cli_write.specs.Writers.{FailsFinish, FailsBatch, FailsBatches, Fails
 use Rattle.cli_write.specs.CopyStates.{CopyEnd, CopyState, FailsNextBatch, FailsToWriteSelection, FailsAfterBatches, IsCopyStateError, WritesSelection}
 use Rattle.cli_write.specs.declared.writer.BatchWriter.{BatchWriter}
 use Rattle.cli_rows.proofs.RemainingSelections.{remaining-error, remaining-none, remaining-twice}
-use Rattle.cli_write.proofs.Lists.{IsOfColumn, rows-both, copied-more, copied-none, enough, is-copy, no-place, not-enough, of-column}
+use Rattle.cli_write.proofs.Lists.{IsOfCondition, rows-both, copied-more, copied-none, enough, is-copy, no-place, not-enough, of-condition}
 
 pub held-why : (error : CliError) (c : SelectionTree) (form : forms.Format) (front : List RecordBatchTree) (read : Result TableTree formats.IpcReadError) → IsReadErrorOf error read → IsCopyError error c form front read
 held-why (causes.Read error) c form front read h = h
@@ -42,8 +42,7 @@ held-why causes.Output c form front read h = tt
 held-why (causes.Write why) c form front read h = absurd h
 held-why causes.MismatchedColumns c form front read h = absurd h
 held-why causes.IndexOutOfRange c form front read h = absurd h
-held-why causes.UnknownColumn c form front read h = absurd h
-held-why causes.NotBoolean c form front read h = absurd h
+held-why (causes.Condition why) c form front read h = absurd h
 held-why (causes.UnknownName i) c form front read h = absurd h
 
 next-stops : (error : CliError) (c : SelectionTree) (form : forms.Format) (front : List RecordBatchTree) (s : SchemaModel) (t u : Remaining) (k : ℕ) (bs : List RecordBatchTree) → IsAfter t k bs u → IsReadErrorOf error (u.first 1) → IsCopyError error c form front (table_with s (t.first (k + 1)))
@@ -54,14 +53,12 @@ next-stops causes.Output c form front s t u k bs at h = tt
 next-stops (causes.Write why) c form front s t u k bs at h = absurd h
 next-stops causes.MismatchedColumns c form front s t u k bs at h = absurd h
 next-stops causes.IndexOutOfRange c form front s t u k bs at h = absurd h
-next-stops causes.UnknownColumn c form front s t u k bs at h = absurd h
-next-stops causes.NotBoolean c form front s t u k bs at h = absurd h
+next-stops (causes.Condition why) c form front s t u k bs at h = absurd h
 next-stops (causes.UnknownName i) c form front s t u k bs at h = absurd h
 
 batch-stops : (error : CliError) (c : SelectionTree) (form : forms.Format) (front : List RecordBatchTree) (s : SchemaModel) (came : List RecordBatchTree) (b : RecordBatchTree) (k : ℕ) → IsInRowOrder c → IsBatchSelectionError error (remaining_selection c k) s.fields (b ∷ []) → IsCopyError error c form front (Ok (table_of_batches s (came ++ b ∷ [])))
 batch-stops (causes.Read error) c form front s came b k order h = λ real. absurd (h real)
-batch-stops causes.UnknownColumn c form front s came b k order h = sym (remaining-error c k s.fields) ∙ h
-batch-stops causes.NotBoolean c form front s came b k order h = sym (remaining-error c k s.fields) ∙ h
+batch-stops (causes.Condition why) c form front s came b k order h = sym (remaining-error c k s.fields) ∙ h
 batch-stops (causes.UnknownName i) c form front s came b k order h = absurd h
 batch-stops causes.MismatchedColumns c form front s came b k order h = λ fit. h (fits-last s.fields came (b ∷ []) fit)
 batch-stops causes.IndexOutOfRange c form front s came b k order h = no-place c k (batch_rows s.fields (b ∷ [])) order h
@@ -78,8 +75,7 @@ part-stops causes.Memory c form front s came went copy h = tt
 part-stops (causes.Read error) c form front s came went copy h = absurd h
 part-stops causes.MismatchedColumns c form front s came went copy h = absurd h
 part-stops causes.IndexOutOfRange c form front s came went copy h = absurd h
-part-stops causes.UnknownColumn c form front s came went copy h = absurd h
-part-stops causes.NotBoolean c form front s came went copy h = absurd h
+part-stops (causes.Condition why) c form front s came went copy h = absurd h
 part-stops (causes.UnknownName i) c form front s came went copy h = absurd h
 
 end-stops : (error : CliError) (c : SelectionTree) (form : forms.Format) (front : List RecordBatchTree) (s : SchemaModel) (came went : List RecordBatchTree) → IsCopy c (table_of_batches s came) (table_of_batches s went) → FailsFinish error form s (front ++ went) → IsCopyError error c form front (Ok (table_of_batches s came))
@@ -90,8 +86,7 @@ end-stops causes.Memory c form front s came went copy h = tt
 end-stops (causes.Read error) c form front s came went copy h = absurd h
 end-stops causes.MismatchedColumns c form front s came went copy h = absurd h
 end-stops causes.IndexOutOfRange c form front s came went copy h = absurd h
-end-stops causes.UnknownColumn c form front s came went copy h = absurd h
-end-stops causes.NotBoolean c form front s came went copy h = absurd h
+end-stops (causes.Condition why) c form front s came went copy h = absurd h
 end-stops (causes.UnknownName i) c form front s came went copy h = absurd h
 
 pub empty-refused : (form : forms.Format) (s : SchemaModel) (why : reasons.IpcWriteError) → IsErrorOrMemory (schema_error s) why → IsErrorOrMemory (write_refusal form (table_of_batches s [])) why
@@ -106,13 +101,11 @@ schema-stops causes.Memory c form s copy h = tt
 schema-stops (causes.Read error) c form s copy h = absurd h
 schema-stops causes.MismatchedColumns c form s copy h = absurd h
 schema-stops causes.IndexOutOfRange c form s copy h = absurd h
-schema-stops causes.UnknownColumn c form s copy h = absurd h
-schema-stops causes.NotBoolean c form s copy h = absurd h
+schema-stops (causes.Condition why) c form s copy h = absurd h
 schema-stops (causes.UnknownName i) c form s copy h = absurd h
 
-column-stops : (r : CliError) (c : SelectionTree) (form : forms.Format) (s : SchemaModel) → IsOfColumn r → spec_selection_error c s.fields ≡ Some r → IsCopyError r c form [] (Ok (table_of_batches s []))
-column-stops causes.UnknownColumn c form s is h = h
-column-stops causes.NotBoolean c form s is h = h
+column-stops : (r : CliError) (c : SelectionTree) (form : forms.Format) (s : SchemaModel) → IsOfCondition r → spec_selection_error c s.fields ≡ Some r → IsCopyError r c form [] (Ok (table_of_batches s []))
+column-stops (causes.Condition why) c form s is h = h
 column-stops (causes.UnknownName i) c form s is h = absurd is
 column-stops (causes.Read error) c form s is h = absurd is
 column-stops (causes.Write why) c form s is h = absurd is
@@ -130,8 +123,7 @@ part-of causes.Memory form s went b more all e h = absurd h
 part-of (causes.Read error) form s went b more all e h = absurd h
 part-of causes.MismatchedColumns form s went b more all e h = absurd h
 part-of causes.IndexOutOfRange form s went b more all e h = absurd h
-part-of causes.UnknownColumn form s went b more all e h = absurd h
-part-of causes.NotBoolean form s went b more all e h = absurd h
+part-of (causes.Condition why) form s went b more all e h = absurd h
 part-of (causes.UnknownName i) form s went b more all e h = absurd h
 
 read-stops : (error : CliError) (c : SelectionTree) (form : forms.Format) (front : List RecordBatchTree) (s : SchemaModel) (read : Result (List RecordBatchTree) formats.IpcReadError) (bs : List RecordBatchTree) → read ≡ Ok bs → IsCopyError error c form front (Ok (table_of_batches s bs)) → IsCopyError error c form front (table_with s read)
@@ -277,7 +269,7 @@ module _ {W : Type 0} (contents : W → Option (List ℕ)) where
 
   pub no-column : (form : forms.Format) (c : SelectionTree) (s : SchemaModel) (t : Option Remaining) (start : W) (r : CliError) → StartsEmpty t → spec_selection_error c s.fields ≡ Some r → Copies contents form c (option_map (with_schema s) t) start (Err (record { batch = None; error = r }))
   no-column form c s None start r fresh h = tt
-  no-column form c s (Some t) start r fresh h = read-stops r c form [] s (t.first 0) [] fresh (column-stops r c form s (of-column c s.fields r h) h)
+  no-column form c s (Some t) start r fresh h = read-stops r c form [] s (t.first 0) [] fresh (column-stops r c form s (of-condition c s.fields r h) h)
 
   pub opened : (form : forms.Format) (c : SelectionTree) (x : Option Decoded) (s : SchemaModel) (t : Option Remaining) (start : W) (result : Result W BatchError) → IsOpened x s t → Copies contents form c (option_map (with_schema s) t) start result → Copies contents form c x start result
   opened form c None s t start result o h = tt

@@ -116,8 +116,7 @@ unwritten-lines looks.Input fs form lines first others h e holds f = absurd f
 unwritten-lines (looks.Read error) fs form lines first others h e holds f = absurd f
 unwritten-lines looks.MismatchedColumns fs form lines first others h e holds f = absurd f
 unwritten-lines looks.IndexOutOfRange fs form lines first others h e holds f = absurd f
-unwritten-lines looks.UnknownColumn fs form lines first others h e holds f = absurd f
-unwritten-lines looks.NotBoolean fs form lines first others h e holds f = absurd f
+unwritten-lines (looks.Condition why) fs form lines first others h e holds f = absurd f
 unwritten-lines (looks.UnknownName i) fs form lines first others h e holds f = absurd f
 unwritten-lines looks.Memory fs form lines first others h e holds f = absurd f
 
@@ -128,8 +127,7 @@ fails-more looks.Input P Q f h = absurd h
 fails-more (looks.Read error) P Q f h = absurd h
 fails-more looks.MismatchedColumns P Q f h = absurd h
 fails-more looks.IndexOutOfRange P Q f h = absurd h
-fails-more looks.UnknownColumn P Q f h = absurd h
-fails-more looks.NotBoolean P Q f h = absurd h
+fails-more (looks.Condition why) P Q f h = absurd h
 fails-more (looks.UnknownName i) P Q f h = absurd h
 fails-more looks.Memory P Q f h = absurd h
 

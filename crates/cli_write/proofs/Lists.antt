@@ -1,10 +1,10 @@
 -- Selected rows of record batches.
 use Rattle.std.proofs.Common.{Ok, append-nil, ◌≡◌, ℕ, ◌+◌, ◌-◌, ◌≤◌, List, [], ◌∷◌, ◌++◌, length, Option, Some, None, true, false, refl, sym, ap, ◌∙◌, subst, arith, append_assoc, eqb-true, length-append}
 use Rattle.std.specs.List.{filter, flat_map, slice_get}
-use Rattle.std.specs.Prelude.{◌==◌, Bool, map, if◌then◌else◌}
+use Rattle.std.specs.Prelude.{◌==◌, map, option_map}
 use Rattle.std.proofs.lemmas.List.Elements.{filter-append}
 use Rattle.nest_memory.specs.Sublist.{sublist}
-use Rattle.nest_memory.specs.TypeTree.{FieldTree, field_type}
+use Rattle.nest_memory.specs.TypeTree.{FieldTree}
 use Rattle.nest_model.specs.Layout.{Layout}
 use Rattle.nest_model.specs.Meaning.{first_len, len}
 use Rattle.nest_array.specs.Seen.{layout_of}
@@ -12,13 +12,15 @@ use Rattle.nest_array.specs.declared.any.AnyArray.{AnyArray}
 use Rattle.ipc_schema.specs.Schemas.{SchemaModel}
 use Rattle.ipc.specs.Streams.{RecordBatchTree}
 use Rattle.cli_rows.specs.RequestText.{unless_error}
-use Rattle.cli_rows.specs.ColumnNames.{field_of_column, spec_boolean_error, spec_selection_error}
+use Rattle.cli_rows.specs.ColumnNames.{spec_selection_error}
+use Rattle.cli_rows.specs.ConditionErrors.{spec_condition_error}
+use Rattle.cli_rows.specs.declared.error.ColumnError.{ColumnError}
 use Rattle.cli_rows.specs.Records.{side_by_side}
 use Rattle.cli_rows.specs.declared.error.CliError.{CliError}
 use Rattle.cli_rows.specs.Selection.{selected_rows}
 use Rattle.cli_rows.specs.RowLaws.{cut-none, rows-length, sublist-both}
 use Rattle.cli_rows.specs.Rows.{RowSlot, rows_of}
-use Rattle.cli_rows.specs.Booleans.{spec_is_boolean, is_true_in}
+use Rattle.cli_rows.specs.Conditions.{is_true_in}
 use Rattle.cli_read.specs.RowBuffers.{table_of_batches}
 use Rattle.cli_rows.specs.Compared.{IsRowsError, batch_array}
 use Rattle.cli_rows.specs.RequestErrors.{IsIndexError}
@@ -39,7 +41,7 @@ rows-both fs (a ∷ as_) bs = ap (λ rs. rows_of (batch_array fs a) ++ rs) (rows
 pub enough : (c : SelectionTree) (s : SchemaModel) (bs : List RecordBatchTree) → is_complete_selection (remaining_selection c (length (batch_rows s.fields bs))) ≡ true → HasSelectedRows c (table_of_batches s bs)
 enough all s bs h = absurd cc
 enough (slice o n) s bs h = let e = eqb-true (n - (length (batch_rows s.fields bs) - o)) 0 h in omega (arith, e)
-enough (where_true column) s bs h = absurd cc
+enough (where_true condition) s bs h = absurd cc
 enough (indices places) s bs h = absurd cc
 
 pub not-enough : (c : SelectionTree) (s : SchemaModel) (bs : List RecordBatchTree) → is_complete_selection (remaining_selection c (length (batch_rows s.fields bs))) ≡ false → HasSelectedRows c (table_of_batches s bs) → ⊥
@@ -48,7 +50,7 @@ not-enough (slice o n) s bs h e =
     let none : n - (length (batch_rows s.fields bs) - o) ≡ 0 = omega (arith, e) in
     let untrue : (0 == 0) ≡ false = subst (λ (m : ℕ). (m == 0) ≡ false) none h in
     cc
-not-enough (where_true column) s bs h e = absurd e
+not-enough (where_true condition) s bs h e = absurd e
 not-enough (indices places) s bs h e = absurd e
 
 some-is : {A : Type 0} (x y : A) → Some x ≡ Some y → x ≡ y
@@ -57,7 +59,7 @@ some-is x y e = cc
 pub copied-none : (c : SelectionTree) (fs : List FieldTree) → IsInRowOrder c → AreSelectedBatches c fs [] []
 copied-none all fs h = refl
 copied-none (slice o n) fs h = ap Some (cut-none o n)
-copied-none (where_true column) fs h = refl
+copied-none (where_true condition) fs h = refl
 copied-none (indices places) fs h = absurd h
 
 pub copied-more : (c : SelectionTree) (fs : List FieldTree) (bs vs more ws : List RecordBatchTree) → IsInRowOrder c → AreSelectedBatches c fs bs vs → AreSelectedBatches (remaining_selection c (length (batch_rows fs bs))) fs more ws → AreSelectedBatches c fs (bs ++ more) (vs ++ ws)
@@ -68,63 +70,57 @@ copied-more (slice o n) fs bs vs more ws h e f =
     let y : sublist (batch_rows fs more) (o - k) (n - (k - o)) ≡ batch_rows fs ws = some-is (sublist (batch_rows fs more) (o - k) (n - (k - o))) (batch_rows fs ws) f in
     ap (λ rs. Some (sublist rs o n)) (rows-both fs bs more)
     ∙ ap Some (sublist-both (batch_rows fs bs) (batch_rows fs more) o n ∙ (λ i. x i ++ y i) ∙ sym (rows-both fs vs ws))
-copied-more (where_true column) fs bs vs more ws h e f =
-    let x : filter (is_true_in column) (batch_rows fs bs) ≡ batch_rows fs vs = some-is (filter (is_true_in column) (batch_rows fs bs)) (batch_rows fs vs) e in
-    let y : filter (is_true_in column) (batch_rows fs more) ≡ batch_rows fs ws = some-is (filter (is_true_in column) (batch_rows fs more)) (batch_rows fs ws) f in
-    ap (λ rs. Some (filter (is_true_in column) rs)) (rows-both fs bs more)
-    ∙ ap Some (filter-append (is_true_in column) (batch_rows fs bs) (batch_rows fs more) ∙ (λ i. x i ++ y i) ∙ sym (rows-both fs vs ws))
+copied-more (where_true condition) fs bs vs more ws h e f =
+    let x : filter (is_true_in condition) (batch_rows fs bs) ≡ batch_rows fs vs = some-is (filter (is_true_in condition) (batch_rows fs bs)) (batch_rows fs vs) e in
+    let y : filter (is_true_in condition) (batch_rows fs more) ≡ batch_rows fs ws = some-is (filter (is_true_in condition) (batch_rows fs more)) (batch_rows fs ws) f in
+    ap (λ rs. Some (filter (is_true_in condition) rs)) (rows-both fs bs more)
+    ∙ ap Some (filter-append (is_true_in condition) (batch_rows fs bs) (batch_rows fs more) ∙ (λ i. x i ++ y i) ∙ sym (rows-both fs vs ws))
 copied-more (indices places) fs bs vs more ws h e f = absurd h
 
 pub is-copy : (c : SelectionTree) (s : SchemaModel) (bs vs : List RecordBatchTree) → spec_selection_error c s.fields ≡ None → AreSelectedBatches c s.fields bs vs → IsCopy c (table_of_batches s bs) (table_of_batches s vs)
 is-copy all s bs vs none e = ap (table_of_batches s) e
 is-copy (slice o n) s bs vs none e = (refl, e)
-is-copy (where_true column) s bs vs none e = (refl, ap (λ f. unless_error f (selected_rows (where_true column) (batch_rows s.fields bs))) none ∙ e)
+is-copy (where_true condition) s bs vs none e = (refl, ap (λ f. unless_error f (selected_rows (where_true condition) (batch_rows s.fields bs))) none ∙ e)
 is-copy (indices places) s bs vs none e = (refl, e)
 
 pub no-place : (c : SelectionTree) (k : ℕ) (rows : List RowSlot) → IsInRowOrder c → selected_rows (remaining_selection c k) rows ≡ None → ⊥
 no-place all k rows h e = cc
 no-place (slice o n) k rows h e = cc
-no-place (where_true column) k rows h e = cc
+no-place (where_true condition) k rows h e = cc
 no-place (indices places) k rows h e = h
 
 pub picked-copied : (c : SelectionTree) (fs : List FieldTree) (bs vs : List RecordBatchTree) → (c ≡ all → ⊥) → AreSelectedRows c fs bs vs → AreSelectedBatches c fs bs vs
 picked-copied all fs bs vs other e = absurd (other refl)
 picked-copied (slice o n) fs bs vs other e = e
-picked-copied (where_true column) fs bs vs other e = e
+picked-copied (where_true condition) fs bs vs other e = e
 picked-copied (indices places) fs bs vs other e = e
 
-abbrev pub IsOfColumn : CliError → Type 0
-IsOfColumn causes.UnknownColumn = Unit {0}
-IsOfColumn causes.NotBoolean = Unit {0}
-IsOfColumn (causes.UnknownName i) = ⊥
-IsOfColumn (causes.Read error) = ⊥
-IsOfColumn (causes.Write why) = ⊥
-IsOfColumn causes.MismatchedColumns = ⊥
-IsOfColumn causes.IndexOutOfRange = ⊥
-IsOfColumn causes.Memory = ⊥
-IsOfColumn causes.Input = ⊥
-IsOfColumn causes.Output = ⊥
+abbrev pub IsOfCondition : CliError → Type 0
+IsOfCondition (causes.Condition why) = Unit {0}
+IsOfCondition (causes.UnknownName i) = ⊥
+IsOfCondition (causes.Read error) = ⊥
+IsOfCondition (causes.Write why) = ⊥
+IsOfCondition causes.MismatchedColumns = ⊥
+IsOfCondition causes.IndexOutOfRange = ⊥
+IsOfCondition causes.Memory = ⊥
+IsOfCondition causes.Input = ⊥
+IsOfCondition causes.Output = ⊥
 
-pub of-column : (c : SelectionTree) (fs : List FieldTree) (r : CliError) → spec_selection_error c fs ≡ Some r → IsOfColumn r
-of-column all fs r e = absurd cc
-of-column (slice o n) fs r e = absurd cc
-of-column (indices places) fs r e = absurd cc
-of-column (where_true column) fs r e = by (field_of_column column fs) e
+pub of-condition : (c : SelectionTree) (fs : List FieldTree) (r : CliError) → spec_selection_error c fs ≡ Some r → IsOfCondition r
+of-condition all fs r e = absurd cc
+of-condition (slice o n) fs r e = absurd cc
+of-condition (indices places) fs r e = absurd cc
+of-condition (where_true condition) fs r e = by (spec_condition_error condition fs) e
   where
-    if-boolean : (b : Bool) → (if b then None else Some causes.NotBoolean) ≡ Some r → IsOfColumn r
-    if-boolean true e = absurd cc
-    if-boolean false e = let is : causes.NotBoolean ≡ r = cc in subst IsOfColumn is tt
-
-    by : (f : Option FieldTree) → spec_boolean_error f ≡ Some r → IsOfColumn r
-    by None e = let is : causes.UnknownColumn ≡ r = cc in subst IsOfColumn is tt
-    by (Some f) e = if-boolean (spec_is_boolean (field_type f)) e
+    by : (o : Option ColumnError) → option_map causes.Condition o ≡ Some r → IsOfCondition r
+    by None e = absurd cc
+    by (Some why) e = let is : causes.Condition why ≡ r = cc in subst IsOfCondition is tt
 
 pub column-fails : (error : CliError) (c : SelectionTree) (fs : List FieldTree) (bs : List RecordBatchTree) → spec_selection_error c fs ≡ Some error → IsBatchSelectionError error c fs bs
-column-fails error c fs bs e = by error (of-column c fs error e) e
+column-fails error c fs bs e = by error (of-condition c fs error e) e
   where
-    by : (f : CliError) → IsOfColumn f → spec_selection_error c fs ≡ Some f → IsBatchSelectionError f c fs bs
-    by causes.UnknownColumn is e = e
-    by causes.NotBoolean is e = e
+    by : (f : CliError) → IsOfCondition f → spec_selection_error c fs ≡ Some f → IsBatchSelectionError f c fs bs
+    by (causes.Condition why) is e = e
     by (causes.UnknownName i) is e = absurd is
     by (causes.Read error) is e = absurd is
     by (causes.Write why) is e = absurd is
@@ -140,8 +136,7 @@ rows-fail causes.MismatchedColumns c s b e = e
 rows-fail causes.Memory c s b e = tt
 rows-fail (causes.Write why) c s b e = e
 rows-fail causes.IndexOutOfRange c s b e = absurd e
-rows-fail causes.UnknownColumn c s b e = absurd e
-rows-fail causes.NotBoolean c s b e = absurd e
+rows-fail (causes.Condition why) c s b e = absurd e
 rows-fail (causes.UnknownName i) c s b e = absurd e
 rows-fail causes.Input c s b e = e
 rows-fail causes.Output c s b e = e
@@ -152,8 +147,7 @@ index-fails causes.Memory c fs bs rows same e = tt
 index-fails (causes.Read error) c fs bs rows same e = absurd e
 index-fails (causes.Write why) c fs bs rows same e = e
 index-fails causes.MismatchedColumns c fs bs rows same e = absurd e
-index-fails causes.UnknownColumn c fs bs rows same e = absurd e
-index-fails causes.NotBoolean c fs bs rows same e = absurd e
+index-fails (causes.Condition why) c fs bs rows same e = absurd e
 index-fails (causes.UnknownName i) c fs bs rows same e = absurd e
 index-fails causes.Input c fs bs rows same e = e
 index-fails causes.Output c fs bs rows same e = e

@@ -5,7 +5,7 @@ use Rattle.std.proofs.Common.{◌≡◌, ◌∙◌, ℕ, List, [], ◌∷◌, ta
 use Rattle.ipc.specs.Streams.{RecordBatchTree}
 use Rattle.cli_rows.specs.Records.{record_type}
 use Rattle.cli_rows.specs.Rows.{rows_of}
-use Rattle.cli_rows.specs.Booleans.{is_valid}
+use Rattle.cli_rows.specs.Conditions.{is_valid}
 use Rattle.cli_write.specs.Imports.{records_of}
 use Rattle.cli_write.specs.ImportStates.{ReadsBatch, IsLinesError, json_import_error}
 use Rattle.json_read.specs.JsonLines.{AreAllValid, IsJsonReadError, line_row}

@@ -1,4 +1,4 @@
--- Copies of selections whose column is resolved.
+-- Copies of selections whose columns are resolved.
 use Rattle.std.proofs.Common.{◌≡◌, ◌⊎◌, ◌∙◌, ◌+◌, ℕ, List, [], Option, Some, None, Result, Ok, Err, inl, inr, ap, sym}
 use Rattle.std.specs.Option.{option_map}
 use Rattle.ipc_flatbuf.specs.declared.error.IpcReadError as formats
@@ -15,7 +15,7 @@ use Rattle.cli_rows.specs.Selection.{selected_rows}
 use Rattle.cli_rows.specs.Tables.{TableTree}
 use Rattle.cli_rows.specs.declared.error.BatchError.{BatchError}
 use Rattle.cli_rows.specs.declared.error.CliError.{CliError}
-use Rattle.cli_rows.specs.declared.error.CliError.TheVariants.{Input, Read, Write, MismatchedColumns, IndexOutOfRange, UnknownColumn, NotBoolean, UnknownName, Output, Memory}
+use Rattle.cli_rows.specs.declared.error.CliError.TheVariants.{Input, Read, Write, MismatchedColumns, IndexOutOfRange, Condition, UnknownName, Output, Memory}
 use Rattle.cli_rows.proofs.Resolved.{resolved-error, resolved-rows, rows-typed}
 use Rattle.cli_rows.proofs.SelectedBatches.{held-each}
 use Rattle.cli_read.specs.Decoded.{table_with}
@@ -27,7 +27,7 @@ use Rattle.nest_memory.specs.TypeTree.{FieldTree}
 pub in-order : (fs : List FieldTree) (c : SelectionTree) → IsInRowOrder c → IsInRowOrder (resolved_selection fs c)
 in-order fs all h = tt
 in-order fs (slice o n) h = tt
-in-order fs (where_true column) h = tt
+in-order fs (where_true condition) h = tt
 in-order fs (indices places) h = h
 
 -- the selected rows of a table of the schema are the same
@@ -42,19 +42,19 @@ copy-of : (s : SchemaModel) (c : SelectionTree) (bs : List RecordBatchTree) (t :
 copy-of s all bs t h = h
 copy-of s (slice o n) bs t h = h
 copy-of s (indices places) bs t h = h
-copy-of s (where_true column) bs t h = (h.0, sym (selected-same s (where_true column) bs) ∙ h.1)
+copy-of s (where_true condition) bs t h = (h.0, sym (selected-same s (where_true condition) bs) ∙ h.1)
 
 all-rows : (s : SchemaModel) (c : SelectionTree) (h : TableTree) → HasSelectedRows (resolved_selection s.fields c) h → HasSelectedRows c h
 all-rows s all h p = p
 all-rows s (slice o n) h p = p
 all-rows s (indices places) h p = p
-all-rows s (where_true column) h p = p
+all-rows s (where_true condition) h p = p
 
 all-rows-back : (s : SchemaModel) (c : SelectionTree) (h : TableTree) → HasSelectedRows c h → HasSelectedRows (resolved_selection s.fields c) h
 all-rows-back s all h p = p
 all-rows-back s (slice o n) h p = p
 all-rows-back s (indices places) h p = p
-all-rows-back s (where_true column) h p = p
+all-rows-back s (where_true condition) h p = p
 
 abbrev Batches : Type 0
 Batches = Result (List RecordBatchTree) formats.IpcReadError
@@ -76,10 +76,8 @@ copy-error : (error : CliError) (form : forms.Format) (front : List RecordBatchT
 copy-error (Read error) form front s c read h = h
 copy-error (Write why) form front s c (Ok bs) (t, copy, refusal) = (t, copy-of s c bs t copy, refusal)
 copy-error (Write why) form front s c (Err error) h = absurd h
-copy-error UnknownColumn form front s c (Ok bs) h = sym (resolved-error s.fields c) ∙ h
-copy-error UnknownColumn form front s c (Err error) h = absurd h
-copy-error NotBoolean form front s c (Ok bs) h = sym (resolved-error s.fields c) ∙ h
-copy-error NotBoolean form front s c (Err error) h = absurd h
+copy-error (Condition why) form front s c (Ok bs) h = sym (resolved-error s.fields c) ∙ h
+copy-error (Condition why) form front s c (Err error) h = absurd h
 copy-error (UnknownName i) form front s c read h = h
 copy-error MismatchedColumns form front s c read h = h
 copy-error IndexOutOfRange form front s c read h = h

@@ -21,7 +21,7 @@ use Rattle.cli_rows.specs.Tables.{TableTree}
 use Rattle.cli_rows.specs.Output.{HasTable}
 use Rattle.cli_rows.specs.SelectedTables.{IsSelectedFrom}
 use Rattle.cli_rows.specs.declared.error.CliError.{CliError}
-use Rattle.cli_rows.specs.declared.error.CliError.TheVariants.{Input, Read, Write, MismatchedColumns, IndexOutOfRange, UnknownColumn, NotBoolean, UnknownName, Output, Memory}
+use Rattle.cli_rows.specs.declared.error.CliError.TheVariants.{Input, Read, Write, MismatchedColumns, IndexOutOfRange, Condition, UnknownName, Output, Memory}
 use Rattle.cli_args.specs.Requests.{SelectionTree, all, slice, indices, where_true}
 use Rattle.cli_args.specs.declared.format.Format as forms
 use Rattle.cli_args.specs.declared.format.Format.TheVariants.{File, Stream}
@@ -30,14 +30,14 @@ use Rattle.cli_args.specs.declared.format.Format.TheVariants.{File, Stream}
 abbrev pub HasSelectedRows : SelectionTree → TableTree → Type 0
 HasSelectedRows (slice o n) h = n ≤ length (table_rows h) - o
 HasSelectedRows all h = ⊥
-HasSelectedRows (where_true column) h = ⊥
+HasSelectedRows (where_true condition) h = ⊥
 HasSelectedRows (indices places) h = ⊥
 
 -- the selected rows with the same schema; of all rows the same record batches
 abbrev pub IsCopy : SelectionTree → TableTree → TableTree → Type 0
 IsCopy all h t = t ≡ h
 IsCopy (slice o n) h t = IsSelectedFrom (slice o n) h t
-IsCopy (where_true column) h t = IsSelectedFrom (where_true column) h t
+IsCopy (where_true condition) h t = IsSelectedFrom (where_true condition) h t
 IsCopy (indices places) h t = IsSelectedFrom (indices places) h t
 
 -- bytes were written that decode to a copy
@@ -68,8 +68,7 @@ after_batches front t = record { schema = t.schema; batches = front ++ t.batches
 abbrev pub IsCopyError : CliError → SelectionTree → forms.Format → List RecordBatchTree → Result TableTree formats.IpcReadError → Type 0
 IsCopyError (Read error) c form front read = FailsOrRunsOut error read
 IsCopyError (Write why) c form front read = HasTable read (λ h. (t : TableTree) × IsCopy c h t × IsWriteRefusal form (after_batches front t) why)
-IsCopyError UnknownColumn c form front read = HasTable read (λ h. spec_selection_error c h.schema.fields ≡ Some UnknownColumn)
-IsCopyError NotBoolean c form front read = HasTable read (λ h. spec_selection_error c h.schema.fields ≡ Some NotBoolean)
+IsCopyError (Condition error) c form front read = HasTable read (λ h. spec_selection_error c h.schema.fields ≡ Some (Condition error))
 IsCopyError (UnknownName i) c form front read = ⊥
 IsCopyError MismatchedColumns c form front read = HasTable read (λ h. AllByRecursion Fits (batch_arrays h) → ⊥)
 IsCopyError IndexOutOfRange c form front read = ⊥

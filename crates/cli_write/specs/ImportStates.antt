@@ -88,8 +88,7 @@ import_error looks.Input = causes.Output
 import_error (looks.Read error) = causes.Output
 import_error looks.MismatchedColumns = causes.Output
 import_error looks.IndexOutOfRange = causes.Output
-import_error looks.UnknownColumn = causes.Output
-import_error looks.NotBoolean = causes.Output
+import_error (looks.Condition error) = causes.Output
 import_error (looks.UnknownName i) = causes.Output
 import_error looks.Output = causes.Output
 

@@ -16,7 +16,7 @@ use Rattle.ipc_io.specs.Writers.{StartsWriting, SchemaRoundTrips, WriterTree}
 use Rattle.cli_read.specs.RowBuffers.{table_of_batches}
 use Rattle.cli_rows.specs.Encodings.{IsEncodingOf, write_refusal}
 use Rattle.cli_rows.specs.declared.error.CliError.{CliError}
-use Rattle.cli_rows.specs.declared.error.CliError.TheVariants.{Input, Read, Write, MismatchedColumns, IndexOutOfRange, UnknownColumn, NotBoolean, UnknownName, Output, Memory}
+use Rattle.cli_rows.specs.declared.error.CliError.TheVariants.{Input, Read, Write, MismatchedColumns, IndexOutOfRange, Condition, UnknownName, Output, Memory}
 use Rattle.cli_args.specs.declared.format.Format as forms
 use Rattle.cli_write.specs.Copies.{IsWriteRefusal}
 use Rattle.cli_write.specs.declared.writer.BatchWriter.{BatchWriter}
@@ -64,8 +64,7 @@ FailsWrite Input IsReason = ⊥
 FailsWrite (Read error) IsReason = ⊥
 FailsWrite MismatchedColumns IsReason = ⊥
 FailsWrite IndexOutOfRange IsReason = ⊥
-FailsWrite UnknownColumn IsReason = ⊥
-FailsWrite NotBoolean IsReason = ⊥
+FailsWrite (Condition error) IsReason = ⊥
 FailsWrite (UnknownName i) IsReason = ⊥
 FailsWrite Memory IsReason = ⊥
 

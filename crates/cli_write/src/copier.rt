@@ -194,9 +194,8 @@ fn copy_reader<R: SeekRead + Drop, W: Write + Drop, P: Progress>(
 ///
 /// # Errors
 /// Before any record batch: `Read` with the first error of the bytes in reading order; `UnknownName` with the first projected name that no
-/// column has; `UnknownColumn` if there is no column of the name of `Where`, and `NotBoolean` if the first one is not boolean; `Write` if
-/// the schema cannot be written. In a record batch: `Read`;
-/// `MismatchedColumns` if its columns do not match the schema, unless all rows are selected; `Write` with the first reason why the
+/// column has; `Condition` with the first error of the condition of `Where`; `Write` if the schema cannot be written. In a record batch:
+/// `Read`; `MismatchedColumns` if its columns do not match the schema, unless all rows are selected; `Write` with the first reason why the
 /// selected rows up to it cannot be written, or the end after the last one. `Input` if a read fails, `Output` if a write fails. `Memory`,
 /// also in `Read` and `Write`, if an allocation fails. A prefix of the bytes may have been written then.
 pub fn copy<R: SeekRead + Drop, W: Write + Drop, P: Progress>(

@@ -6,12 +6,15 @@ ghost use Rattle.nest_memory.specs.TypeTree.{FieldTree};
 ghost use Rattle.json_read.specs.JsonLines.{json_value};
 ghost use Rattle.json_read.specs.declared.error.LineError.TheVariants.{InvalidJson};
 ghost use Rattle.json_read.specs.declared.error.UnsupportedTypeError.TheVariants.{FloatingPoint};
-ghost use Rattle.cli_args.specs.Requests.{all, named, slice, where_true};
+ghost use Rattle.cli_args.specs.Columns.{named};
+ghost use Rattle.cli_args.specs.Conditions.{is_true};
+ghost use Rattle.cli_args.specs.Requests.{all, slice, where_true};
 ghost use Rattle.cli_args.specs.declared.format.Format.TheVariants.{Stream};
 ghost use Rattle.cli_rows.specs.Concatenated.{HaveSchema, all_batches};
 ghost use Rattle.cli_rows.specs.TableExamples.{boolean_table, columnless_table, ok_field, three_booleans};
 ghost use Rattle.cli_rows.specs.Tables.{TableTree};
-ghost use Rattle.cli_rows.specs.declared.error.CliError.TheVariants.{Read, UnknownColumn};
+ghost use Rattle.cli_rows.specs.declared.error.CliError.TheVariants.{Condition, Read};
+ghost use Rattle.cli_rows.specs.declared.error.ColumnError.TheVariants.{UnknownColumn};
 ghost use Rattle.cli_read.specs.InputExamples.{broken_input, complete_input};
 ghost use Rattle.cli_write.specs.Concat.{IsAppendError, WritesConcatenation};
 ghost use Rattle.cli_write.specs.ConcatExamples.{truncated_batch};
@@ -29,7 +32,7 @@ use cli_args::Format;
 pub fn selected_rows_are_copied()
     ensures whole { IsCopy all three_booleans three_booleans }
     ensures slice { IsCopy (slice 1 1) three_booleans (boolean_table ((false ∷ []) ∷ [])) }
-    ensures column { IsCopy (where_true (named (codes "ok"))) three_booleans (boolean_table ((true ∷ []) ∷ (true ∷ []) ∷ [])) }
+    ensures column { IsCopy (where_true (is_true (named (codes "ok")) 0)) three_booleans (boolean_table ((true ∷ []) ∷ (true ∷ []) ∷ [])) }
     ensures other { IsCopy all three_booleans (boolean_table ((true ∷ false ∷ true ∷ []) ∷ [])) → ⊥ }
     ensures fewer { IsCopy (slice 1 2) three_booleans (boolean_table ((false ∷ []) ∷ [])) → ⊥ }
 {}
@@ -50,7 +53,7 @@ pub fn errors_stop_a_copy()
     ensures early { FailsWhileCopying all Stream [] (broken_input (boolean_table ((true ∷ []) ∷ [])) Truncated) (Some 0) (Read Truncated) → ⊥ }
     ensures late { FailsWhileCopying all Stream [] (broken_input (boolean_table ((true ∷ []) ∷ [])) Truncated) (Some 2) (Read Truncated) → ⊥ }
     ensures enough { FailsWhileCopying (slice 0 1) Stream [] (broken_input (boolean_table ((true ∷ []) ∷ [])) Truncated) (Some 1) (Read Truncated) → ⊥ }
-    ensures column { FailsWhileCopying (where_true (named (codes "o"))) Stream [] (complete_input three_booleans) None UnknownColumn }
+    ensures column { FailsWhileCopying (where_true (is_true (named (codes "o")) 4)) Stream [] (complete_input three_booleans) None (Condition (UnknownColumn 4)) }
 {}
 
 /// An input of the same schema is appended, and one of another schema is not. An error is returned in its record batch, and not for an input

@@ -128,6 +128,10 @@ fn commands_have_files(rt: HostRuntime) -> Result<(), Fail> {
             "3 indices f g",
         ),
         (["where", "f", "ok"].as_slice(), "where f "),
+        (
+            ["where", "f", "-o", "g", "\"is ok\" and n >= -1.5"].as_slice(),
+            "where f g",
+        ),
         (["equal", "f", "g"].as_slice(), "equal f g"),
         (["concat", "-o", "g", "f", "h"].as_slice(), "concat f 2 g"),
         (["convert", "f", "-"].as_slice(), "convert f -"),
@@ -176,6 +180,15 @@ fn invalid_arguments_are_errors(rt: HostRuntime) -> Result<(), Fail> {
             ["where", "f", "a", "b"].as_slice(),
             ErrorKind::UnknownArgument,
         ),
+        (
+            ["where", "f"].as_slice(),
+            ErrorKind::MissingRequiredArgument,
+        ),
+        (
+            ["where", "f", "is ok"].as_slice(),
+            ErrorKind::ValueValidation,
+        ),
+        (["where", "f", ""].as_slice(), ErrorKind::ValueValidation),
         (
             ["equal", "f"].as_slice(),
             ErrorKind::MissingRequiredArgument,

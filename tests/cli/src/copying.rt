@@ -3,9 +3,9 @@ use crate::comparing::{bytes_in, read_error};
 use crate::devices::{Count, Device, NEVER, Sink, input};
 use crate::oracle::{converted, lines_of, selected};
 use crate::samples::{BOOLEANS, COLUMNLESS, COMPRESSED, EMPTY, FILE, STREAM, bytes_of};
-use cli_args::{Column, Format, Selection};
+use cli_args::{Column, Condition, Format, Selection};
 use cli_read::open;
-use cli_rows::{BatchError, CliError, in_row_order};
+use cli_rows::{BatchError, CliError, ColumnError, in_row_order};
 use cli_write::copy;
 use ipc_flatbuf::{CompressionError, IpcReadError};
 use ipc_schema::Projection;
@@ -126,7 +126,10 @@ fn true_rows_are_copied(rt: HostRuntime) -> Result<(), Fail> {
     let bytes = bytes_of(alloc, BOOLEANS)?;
     for name in ["a", "b"] {
         for format in [Format::File, Format::Stream] {
-            let selection = Selection::Where(Column::Named(String::from_str(alloc, name)?));
+            let selection = Selection::Where(Condition::IsTrue(
+                Column::Named(String::from_str(alloc, name)?),
+                0,
+            ));
             let want = selected(alloc, format, &selection, &bytes).expect(&rt, "bytes");
             let selection = in_row_order(selection).ok().expect(&rt, "an order");
             let (made, _) = copied(alloc, &bytes, format, selection, (NEVER, NEVER)).expect(
@@ -191,8 +194,14 @@ fn errors_end_a_copy(rt: HostRuntime) -> Result<(), Fail> {
         )
         .is_ok()
     );
-    for (name, error) in [("b", CliError::NotBoolean), ("c", CliError::UnknownColumn)] {
-        let selection = Selection::Where(Column::Named(String::from_str(alloc, name)?));
+    for (name, error) in [
+        ("b", ColumnError::NotBoolean(0)),
+        ("c", ColumnError::UnknownColumn(0)),
+    ] {
+        let selection = Selection::Where(Condition::IsTrue(
+                Column::Named(String::from_str(alloc, name)?),
+                0,
+            ));
         let found = copied(
             alloc,
             &compressed,
@@ -201,7 +210,8 @@ fn errors_end_a_copy(rt: HostRuntime) -> Result<(), Fail> {
             (NEVER, NEVER),
         )
         .err();
-        assert!(rt; found == Some(before_batches(error)), "{found:?}");
+        let error = before_batches(CliError::Condition(error));
+        assert!(rt; found == Some(error), "{found:?}");
     }
     Ok(())
 }

@@ -9,6 +9,7 @@
 //! | `schemas` | Schemas as text; dictionaries and bodies that are not read |
 //! | `tailing` | The last rows as lines; record batches that are not read; hostile bytes |
 //! | `comparing` | The first difference of two inputs; which input has an error, and when |
+//! | `conditions` | Rows where a condition is true; errors of conditions |
 //! | `copying` | Copies of all rows, of slices, and of rows where a column is true, in either format |
 //! | `concatenating` | Inputs appended to an output; which input has an error |
 //! | `names` | Projected names that no column has |
@@ -23,6 +24,8 @@ mod arguments;
 mod comparing;
 #[cfg(test)]
 mod concatenating;
+#[cfg(test)]
+mod conditions;
 #[cfg(test)]
 mod copying;
 #[cfg(test)]

@@ -3,7 +3,7 @@ use crate::oracle::{arrays_of, read_table, request, text_of};
 use crate::samples::{BOOLEANS, COLUMNLESS, COMPRESSED, EMPTY, FILE, STREAM, bytes_of};
 use cli_args::{Request, Selection};
 use cli_rows::{
-    CliError, Difference, Table, array_lines, batch_records, difference_text, read_input,
+    CliError, ColumnError, Difference, Table, array_lines, batch_records, difference_text, read_input,
     request_text, row_type, table_text, window_difference, write_output,
 };
 use ipc::Batch;
@@ -178,6 +178,14 @@ fn rows_are_printed(rt: HostRuntime) {
             [2usize, 0, 2, 1].as_slice(),
         ),
         (["take"].as_slice(), [].as_slice()),
+        (["where", "id >= 2"].as_slice(), [1usize].as_slice()),
+        (["where", "id < 1.5"].as_slice(), [0usize, 2].as_slice()),
+        (["where", "id > -3.5 and not id = 2.0"].as_slice(), [0usize, 2].as_slice()),
+        (["where", "name = 'a' or name is null"].as_slice(), [0usize, 1].as_slice()),
+        (["where", "name <> 'a'"].as_slice(), [2usize].as_slice()),
+        (["where", "not (name = 'b')"].as_slice(), [0usize, 2].as_slice()),
+        (["where", "name is not null and id <= 0"].as_slice(), [2usize].as_slice()),
+        (["where", "id = 4"].as_slice(), [].as_slice()),
     ] {
         let table = table(rt.alloc()).expect(&rt, "a table");
         let text = printed(rt.alloc(), arguments, table)
@@ -190,14 +198,19 @@ fn rows_are_printed(rt: HostRuntime) {
 #[test]
 fn column_names_are_checked(rt: HostRuntime) {
     for (name, want) in [
-        ("id", CliError::NotBoolean),
-        ("name", CliError::NotBoolean),
-        ("i", CliError::UnknownColumn),
-        ("", CliError::UnknownColumn),
+        ("id", ColumnError::NotBoolean(0)),
+        ("not name", ColumnError::NotBoolean(4)),
+        ("i", ColumnError::UnknownColumn(0)),
+        ("\"\"", ColumnError::UnknownColumn(0)),
+        ("i is null", ColumnError::UnknownColumn(0)),
+        ("id = 1 and (name = 'a' or i < 2)", ColumnError::UnknownColumn(26)),
+        ("id = '1'", ColumnError::OtherLiteral(0)),
+        ("name < 1", ColumnError::OtherLiteral(0)),
+        ("id = true or name", ColumnError::OtherLiteral(0)),
     ] {
         let table = table(rt.alloc()).expect(&rt, "a table");
         let error = printed(rt.alloc(), &["where", name], table).err();
-        assert!(rt; error == Some(want), "{name}");
+        assert!(rt; error == Some(CliError::Condition(want)), "{name}");
     }
 }
 
@@ -287,8 +300,16 @@ fn requests_of_record_batches_are_printed(rt: HostRuntime) -> Result<(), Fail> {
     assert!(rt; text.as_str() == want, "{text}");
     // The arguments are checked before the columns of the record batches, and those before the indices.
     for (arguments, rows, want) in [
-        (["where", "x"].as_slice(), 3usize, CliError::UnknownColumn),
-        (["where", "id"].as_slice(), 3, CliError::NotBoolean),
+        (
+            ["where", "x"].as_slice(),
+            3usize,
+            CliError::Condition(ColumnError::UnknownColumn(0)),
+        ),
+        (
+            ["where", "id"].as_slice(),
+            3,
+            CliError::Condition(ColumnError::NotBoolean(0)),
+        ),
         (["take", "9"].as_slice(), 3, CliError::MismatchedColumns),
         (["take", "2"].as_slice(), 2, CliError::IndexOutOfRange),
     ] {
@@ -361,12 +382,26 @@ fn errors_are_printed(rt: HostRuntime) -> Result<(), Fail> {
             "the record batch has no columns of the schema",
         ),
         (CliError::IndexOutOfRange, "a row index is out of range"),
-        (CliError::UnknownColumn, "there is no column of that name"),
+        (
+            CliError::Condition(ColumnError::UnknownColumn(4)),
+            "position 4: there is no column of this name",
+        ),
+        (
+            CliError::Condition(ColumnError::NotBoolean(0)),
+            "position 0: the column is not boolean",
+        ),
+        (
+            CliError::Condition(ColumnError::NotComparable(7)),
+            "position 7: columns of this type cannot be compared",
+        ),
+        (
+            CliError::Condition(ColumnError::OtherLiteral(12)),
+            "position 12: the column cannot be compared with this literal",
+        ),
         (
             CliError::UnknownName(2),
             "there is no column of projected name 2",
         ),
-        (CliError::NotBoolean, "the column is not boolean"),
         (CliError::Output, "output cannot be written"),
         (CliError::Memory, "out of memory"),
     ] {

@@ -1,12 +1,20 @@
-//! Selection of rows as windows over arrays, and the first row in which two windows differ. No value is copied.
+//! Selection of rows as windows over arrays, the truth of conditions in rows, and the first row in which two windows differ. No value is
+//! copied.
 
-mod booleans;
+mod columns;
+mod conditions;
+mod decimals;
 mod difference;
+mod kinds;
 mod offsets;
 mod order;
+mod truth;
+mod values;
 mod windows;
 
-pub use booleans::{boolean_column, is_called, is_named};
+pub use columns::{is_called, is_named};
+pub use conditions::true_rows;
 pub use difference::window_difference;
+pub use kinds::{accepts, value_kind};
 pub use order::{in_row_order, is_complete, skip_rows};
 pub use windows::select_rows;

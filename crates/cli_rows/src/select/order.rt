@@ -15,7 +15,7 @@ pub fn in_row_order(selection: Selection) -> Result<Selection, Vec<usize>>
     match selection {
         Selection::All => Ok(Selection::All),
         Selection::Slice(start, count) => Ok(Selection::Slice(start, count)),
-        Selection::Where(name) => Ok(Selection::Where(name)),
+        Selection::Where(condition) => Ok(Selection::Where(condition)),
         Selection::Indices(wanted) => Err(wanted),
     }
 }

@@ -5,15 +5,16 @@ ghost use Rattle.nest_memory.specs.Sublist.{sublist};
 ghost use Rattle.nest_model.specs.Meaning.{len};
 ghost use Rattle.nest_array.specs.Seen.{layout_of};
 ghost use Rattle.nest_array.specs.WindowParts.{window_parts};
+ghost use Rattle.cli_args.specs.ConditionTrees.{condition_tree};
 ghost use Rattle.cli_args.specs.Requests.{indices};
-ghost use Rattle.cli_args.specs.RequestTrees.{column_tree, selection_tree};
+ghost use Rattle.cli_args.specs.RequestTrees.{selection_tree};
 ghost use Rattle.cli_rows.specs.Selection.{selected_rows};
 ghost use Rattle.cli_rows.specs.Rows.{rows_in, rows_of};
-ghost use Rattle.cli_rows.specs.Booleans.{is_true_in};
+ghost use Rattle.cli_rows.specs.Conditions.{is_true_in};
 
-use crate::select::booleans::{boolean_column, is_true};
+use crate::select::conditions::is_true_at;
 use crate::select::offsets::{locate, row_offsets};
-use cli_args::{Column, Selection};
+use cli_args::{Condition, Selection};
 use nest_array::{AnyArray, Window};
 use std::alloc::{AllocError, Global};
 
@@ -91,36 +92,33 @@ fn rows_at_indices<'a>(
     Ok(Some(windows))
 }
 
-/// Appends the rows of an array where a boolean column is true.
+/// Appends the rows of an array where a condition is true.
 fn push_where<'a>(
     windows: &mut Vec<Window<'a>>,
     array: &'a AnyArray,
-    column: &Column,
+    condition: &Condition,
 ) -> Result<(), AllocError>
-    ensures { OnOk result (flat_map rows_in windows.new.items ≡ flat_map rows_in windows.old.items ++ filter (is_true_in (column_tree column.now)) (rows_of (layout_of array.now))) }
+    ensures { OnOk result (flat_map rows_in windows.new.items ≡ flat_map rows_in windows.old.items ++ filter (is_true_in (condition_tree condition.now)) (rows_of (layout_of array.now))) }
 {
-    let Some((records, booleans)) = boolean_column(array, column) else {
-        return Ok(());
-    };
     for i in 0..array.len() {
-        if is_true(records, booleans, i) {
+        if is_true_at(array, condition, i) {
             windows.push(one_row(array, i))?;
         }
     }
     Ok(())
 }
 
-/// Returns the rows where a boolean column is true.
+/// Returns the rows where a condition is true.
 fn rows_where<'a>(
     alloc: Global,
     arrays: &'a [AnyArray],
-    column: &Column,
+    condition: &Condition,
 ) -> Result<Vec<Window<'a>>, AllocError>
-    ensures { IfOk result (λ v. flat_map rows_in v.items ≡ filter (is_true_in (column_tree column.now)) (flat_map rows_of (map layout_of arrays.now))) }
+    ensures { IfOk result (λ v. flat_map rows_in v.items ≡ filter (is_true_in (condition_tree condition.now)) (flat_map rows_of (map layout_of arrays.now))) }
 {
     let mut windows = Vec::new(alloc);
     for array in arrays {
-        push_where(&mut windows, array, column)?;
+        push_where(&mut windows, array, condition)?;
     }
     Ok(windows)
 }
@@ -138,6 +136,6 @@ pub fn select_rows<'a>(
         Selection::All => Ok(Some(all_rows(alloc, arrays)?)),
         Selection::Slice(o, n) => Ok(Some(rows_in_slice(alloc, arrays, *o, *n)?)),
         Selection::Indices(indices) => rows_at_indices(alloc, arrays, indices),
-        Selection::Where(column) => Ok(Some(rows_where(alloc, arrays, column)?)),
+        Selection::Where(condition) => Ok(Some(rows_where(alloc, arrays, condition)?)),
     }
 }

@@ -56,8 +56,7 @@ impl From<CliError> for ImportError {
             | CliError::Read(_)
             | CliError::MismatchedColumns
             | CliError::IndexOutOfRange
-            | CliError::UnknownColumn
-            | CliError::NotBoolean
+            | CliError::Condition(_)
             | CliError::UnknownName(_)
             | CliError::Output => ImportError::Output,
         }

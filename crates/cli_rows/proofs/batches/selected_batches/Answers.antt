@@ -12,10 +12,10 @@ pub batches_of_windows-requires : goal.batches_of_windows-requires
 batches_of_windows-requires c =
     let fs = map field_of c.args.fields.now in
     let picked = sym c.in_ok-select_rows.ensures ∙ ap (option_map (λ v. flat_map rows_in v.items)) c.in-Some.is in
-    rw c.deref-in_default-selection.ensures.value (selected-each fs (selection_tree c.args.selection.now) (flat_map rows_of (map layout_of c.args.arrays.now)) (flat_map rows_in c.in-Some.windows.items) picked c.requires.rows)
+    rw c.deref-in_default-selection.ensures.value (selected-each fs (selection_tree c.args.selection.now) (flat_map rows_of (map layout_of c.args.arrays.now)) (flat_map rows_in c.in-Some.windows.items) picked c.requires)
 
 pub copied_batches-requires : goal.copied_batches-requires
 copied_batches-requires c =
     let fs = map field_of c.args.fields.now in
     let picked = sym c.in_ok-select_rows.ensures ∙ ap (option_map (λ v. flat_map rows_in v.items)) c.in-Some.is in
-    rw c.deref.ensures.value (selected-each fs (selection_tree c.args.selection.now) (flat_map rows_of (map layout_of c.args.arrays.now)) (flat_map rows_in c.in-Some.windows.items) picked c.requires.rows)
+    rw c.deref.ensures.value (selected-each fs (selection_tree c.args.selection.now) (flat_map rows_of (map layout_of c.args.arrays.now)) (flat_map rows_in c.in-Some.windows.items) picked c.requires)

@@ -1,7 +1,7 @@
 use Rattle.std.proofs.Common.{◌≡◌, map}
 use Rattle.std.specs.Prelude.{string_bytes}
 use Rattle.nest_memory.specs.TypeOf.{field_of}
-use Rattle.cli_rows.specs.ColumnNames.{spec_column_index}
+use Rattle.cli_rows.specs.ColumnFields.{spec_column_index}
 use Rattle.cli_rows.proofs.ByName.{index_from}
 use Rattle.cli_rows.proofs.columns.column_index.Given as goal
 

@@ -1,7 +1,7 @@
 use Rattle.std.proofs.Common.{◌≡◌, drop, map}
 use Rattle.std.specs.Prelude.{string_bytes}
 use Rattle.nest_memory.specs.TypeOf.{field_of}
-use Rattle.cli_rows.specs.ColumnNames.{spec_field_named}
+use Rattle.cli_rows.specs.ColumnFields.{spec_field_named}
 use Rattle.cli_rows.proofs.columns.field_named.Given as goal
 
 abbrev pub invariant-loop-field : goal.invariant-loop-field

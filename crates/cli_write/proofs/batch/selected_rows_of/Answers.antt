@@ -23,13 +23,8 @@ returns-in-Some-clause-error c =
 pub returns-in-Err-clause-error : goal.returns-in-Err-clause-error
 returns-in-Err-clause-error c = rows-fail c.in-Err.error (selection_tree c.args.selection.now) (schema_of c.args.schema.now) (record_batch_of c.args.batch) c.in-Err.ensures.error
 
-pub selected_batches-batches-requires-clause-columns : goal.selected_batches-batches-requires-clause-columns
-selected_batches-batches-requires-clause-columns c =
-    let d = selection_tree c.args.selection.now in
-    ap (λ fs. spec_selection_error d (map field_of fs)) (c.deref-in-Ok.ensures.value ∙ sym c.deref.ensures.value) ∙ sym c.in_default.ensures
-
-pub selected_batches-batches-requires-clause-rows : goal.selected_batches-batches-requires-clause-rows
-selected_batches-batches-requires-clause-rows c =
+pub selected_batches-batches-requires : goal.selected_batches-batches-requires
+selected_batches-batches-requires c =
     let fs = map field_of c.args.schema.now.fields.items in
     let b = record_batch_of c.args.batch in
     let rows = rows-alone c.from_ref-rows.result.now c.in-Ok.array fs b c.from_ref-rows.ensures.value c.in-Ok.ensures.rows in

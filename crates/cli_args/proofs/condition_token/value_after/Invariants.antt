@@ -1,0 +1,6 @@
+use Rattle.std.proofs.Common.{◌≡◌, take}
+use Rattle.std.specs.Str.Parse.{digits_value_after}
+use Rattle.cli_args.proofs.condition_token.value_after.Given as goal
+
+abbrev pub invariant-loop-digit : goal.invariant-loop-digit
+invariant-loop-digit l = l.value ≡ digits_value_after 10 l.number (take l.digit-index l.digits)

@@ -1,0 +1,8 @@
+use Rattle.std.proofs.Common.{◌≡◌, ◌^◌, ◌*ℤ◌, pos, ℕ, ◌+◌, ◌-◌, ◌*◌, ◌<◌, ◌≤◌, length, ℤ, ◌+ℤ◌, ◌-ℤ◌, ◌≤ℤ◌, ◌<ℤ◌, FitsSigned, to_z, of_z}
+use Rattle.std.specs.Ordering.{int_cmp}
+use Rattle.cli_rows.specs.Comparisons.{decimal_cmp}
+use Rattle.cli_rows.proofs.select.decimals.+order_scaled.Given as goal
+
+-- proposed from what the function passes where it calls itself
+abbrev pub decreases-order_scaled : goal.decreases-order_scaled
+decreases-order_scaled l = l.digits

@@ -1,0 +1,148 @@
+//! Examples and laws of conditions. Each function's contract is an example or a law, and its body is empty.
+ghost use Rattle.std.specs.Prelude.{◌≡◌, Bool, List, [], ◌∷◌, true, false, Option, Some, None, IsSome, codes, negsuc, pos};
+ghost use Rattle.nest_memory.specs.TypeTree as types;
+ghost use Rattle.nest_memory.specs.TypeTree.{FieldTree, TypeTree};
+ghost use Rattle.nest_model.specs.Slot as slots;
+ghost use Rattle.nest_model.specs.Slot.{Slot};
+ghost use Rattle.cli_args.specs.Columns.{indexed};
+ghost use Rattle.cli_args.specs.Conditions.{ConditionTree, LiteralTree, boolean, both, compare, either, is_null, is_true, negation, number, text};
+ghost use Rattle.cli_args.specs.declared.condition.Comparison.{Comparison};
+ghost use Rattle.cli_args.specs.declared.condition.Comparison.TheVariants.{Equal, NotEqual, Less, LessOrEqual, Greater, GreaterOrEqual};
+ghost use Rattle.cli_rows.specs.ConditionErrors.{resolved_condition, spec_condition_error};
+ghost use Rattle.cli_rows.specs.ConditionExamples.{absent, booleans_row, example_fields, first, integer_value, minus_three, minus_three_and_a_half, n, p, q, s, second, string_value, three, three_and_a_half, three_point_zero, x};
+ghost use Rattle.cli_rows.specs.Conditions.{is_true_in, nullness, spec_compared, truth_in};
+ghost use Rattle.cli_rows.specs.Truth.{truth_and, truth_not, truth_or};
+ghost use Rattle.cli_rows.specs.declared.error.ColumnError.TheVariants.{UnknownColumn, NotBoolean, NotComparable, OtherLiteral};
+
+/// The truth table of `not`.
+pub fn negations()
+    ensures yes { truth_not (Some true) ≡ Some false }
+    ensures no { truth_not (Some false) ≡ Some true }
+    ensures unknown { truth_not None ≡ None }
+{}
+
+/// The truth table of `and`.
+pub fn conjunctions()
+    ensures yes_yes { truth_and (Some true) (Some true) ≡ Some true }
+    ensures yes_no { truth_and (Some true) (Some false) ≡ Some false }
+    ensures yes_unknown { truth_and (Some true) None ≡ None }
+    ensures no_yes { truth_and (Some false) (Some true) ≡ Some false }
+    ensures no_no { truth_and (Some false) (Some false) ≡ Some false }
+    ensures no_unknown { truth_and (Some false) None ≡ Some false }
+    ensures unknown_yes { truth_and None (Some true) ≡ None }
+    ensures unknown_no { truth_and None (Some false) ≡ Some false }
+    ensures unknown_unknown { truth_and None None ≡ None }
+{}
+
+/// The truth table of `or`.
+pub fn disjunctions()
+    ensures yes_yes { truth_or (Some true) (Some true) ≡ Some true }
+    ensures yes_no { truth_or (Some true) (Some false) ≡ Some true }
+    ensures yes_unknown { truth_or (Some true) None ≡ Some true }
+    ensures no_yes { truth_or (Some false) (Some true) ≡ Some true }
+    ensures no_no { truth_or (Some false) (Some false) ≡ Some false }
+    ensures no_unknown { truth_or (Some false) None ≡ None }
+    ensures unknown_yes { truth_or None (Some true) ≡ Some true }
+    ensures unknown_no { truth_or None (Some false) ≡ None }
+    ensures unknown_unknown { truth_or None None ≡ None }
+{}
+
+/// De Morgan's laws, and double negation.
+pub fn truths_are_negated()
+    ensures conjunction { (t u : Option Bool) → truth_not (truth_and t u) ≡ truth_or (truth_not t) (truth_not u) }
+    ensures disjunction { (t u : Option Bool) → truth_not (truth_or t u) ≡ truth_and (truth_not t) (truth_not u) }
+    ensures twice { (t : Option Bool) → truth_not (truth_not t) ≡ t }
+{}
+
+/// 3 and 3.5; 3 and 3.0; -3 and -3.5.
+pub fn integers_are_compared()
+    ensures less { spec_compared Less three_and_a_half three ≡ Some true }
+    ensures not_equal { spec_compared NotEqual three_and_a_half three ≡ Some true }
+    ensures not_greater { spec_compared GreaterOrEqual three_and_a_half three ≡ Some false }
+    ensures equal { spec_compared Equal three_point_zero three ≡ Some true }
+    ensures at_most { spec_compared LessOrEqual three_point_zero three ≡ Some true }
+    ensures at_least { spec_compared GreaterOrEqual three_point_zero three ≡ Some true }
+    ensures not_less { spec_compared Less three_point_zero three ≡ Some false }
+    ensures negative { spec_compared Greater minus_three_and_a_half minus_three ≡ Some true }
+    ensures signs { spec_compared Less three_and_a_half minus_three ≡ Some true }
+{}
+
+/// The largest and the least integers, of 64 bits.
+pub fn large_integers_are_compared()
+    ensures largest { spec_compared Less (number (pos 184467440737095516155) 1) (types.uint64, slots.number (pos 18446744073709551615 ∷ [])) ≡ Some true }
+    ensures least { spec_compared LessOrEqual (number (negsuc 9223372036854775807) 0) (integer_value (negsuc 9223372036854775807)) ≡ Some true }
+{}
+
+/// A decimal of two digits after the point, 5.00, and 5, 5.0001 and 4.9.
+pub fn decimals_are_compared()
+    ensures equal { spec_compared Equal (number (pos 5) 0) (types.decimal 10 2, slots.number (pos 500 ∷ [])) ≡ Some true }
+    ensures less { spec_compared Less (number (pos 50001) 4) (types.decimal 10 2, slots.number (pos 500 ∷ [])) ≡ Some true }
+    ensures greater { spec_compared Greater (number (pos 49) 1) (types.decimal 10 2, slots.number (pos 500 ∷ [])) ≡ Some true }
+{}
+
+/// Strings by their bytes: an upper-case letter before each lower-case one, a prefix first, and whatever their lengths.
+pub fn strings_are_compared()
+    ensures cases { spec_compared Less (text (codes "a")) (string_value (codes "Z")) ≡ Some true }
+    ensures prefix { spec_compared Less (text (codes "abc")) (string_value (codes "ab")) ≡ Some true }
+    ensures lengths { spec_compared Greater (text (codes "aa")) (string_value (codes "b")) ≡ Some true }
+    ensures equal { spec_compared Equal (text (codes "ab")) (string_value (codes "ab")) ≡ Some true }
+    ensures large { spec_compared GreaterOrEqual (text []) (types.large_utf8, slots.utf8 []) ≡ Some true }
+{}
+
+/// False before true.
+pub fn booleans_are_compared()
+    ensures less { spec_compared Less (boolean true) (types.boolean, slots.boolean false) ≡ Some true }
+    ensures equal { spec_compared Equal (boolean false) (types.boolean, slots.boolean false) ≡ Some true }
+    ensures other { spec_compared NotEqual (boolean false) (types.boolean, slots.boolean true) ≡ Some true }
+{}
+
+/// A comparison with a null is unknown.
+pub fn nulls_are_not_compared()
+    ensures { (op : Comparison) (literal : LiteralTree) (t : TypeTree) → spec_compared op literal (t, slots.null) ≡ None }
+{}
+
+/// Whether a value is null is never unknown.
+pub fn nulls_are_found()
+    ensures known { (t : TypeTree) (v : Slot) → IsSome (nullness (t, v)) }
+    ensures null { nullness (types.int64, slots.null) ≡ Some true }
+    ensures value { nullness three ≡ Some false }
+{}
+
+/// In a row of true and null: each column, their conjunction and disjunction, and which is null.
+pub fn conditions_have_truths()
+    ensures column { truth_in (first p) (booleans_row (slots.boolean true) slots.null) ≡ Some true }
+    ensures null { truth_in (first q) (booleans_row (slots.boolean true) slots.null) ≡ None }
+    ensures not { truth_in (negation (first q)) (booleans_row (slots.boolean true) slots.null) ≡ None }
+    ensures and { truth_in (both (first p) (second q)) (booleans_row (slots.boolean true) slots.null) ≡ None }
+    ensures or { truth_in (either (first q) (second p)) (booleans_row (slots.boolean true) slots.null) ≡ Some true }
+    ensures is_null { truth_in (is_null q 0) (booleans_row (slots.boolean true) slots.null) ≡ Some true }
+    ensures is_not_null { truth_in (negation (is_null q 0)) (booleans_row (slots.boolean true) slots.null) ≡ Some false }
+    ensures selected { is_true_in (negation (first q)) (booleans_row (slots.boolean true) (slots.boolean false)) ≡ true }
+    ensures unknown { is_true_in (negation (first q)) (booleans_row (slots.boolean true) slots.null) ≡ false }
+{}
+
+/// An unknown column, one that is not boolean, one whose type is not compared, and a literal of another kind than the column.
+pub fn conditions_have_errors()
+    ensures unknown { spec_condition_error (first absent) example_fields ≡ Some (UnknownColumn 0) }
+    ensures unknown_null { spec_condition_error (is_null absent 3) example_fields ≡ Some (UnknownColumn 3) }
+    ensures unknown_compared { spec_condition_error (compare absent 4 Less three_and_a_half) example_fields ≡ Some (UnknownColumn 4) }
+    ensures not_boolean { spec_condition_error (second n) example_fields ≡ Some (NotBoolean 6) }
+    ensures not_compared { spec_condition_error (compare x 2 Less three_and_a_half) example_fields ≡ Some (NotComparable 2) }
+    ensures number { spec_condition_error (compare n 5 Equal (text (codes "3"))) example_fields ≡ Some (OtherLiteral 5) }
+    ensures string { spec_condition_error (compare s 0 Equal three_point_zero) example_fields ≡ Some (OtherLiteral 0) }
+    ensures boolean { spec_condition_error (compare p 1 Equal three_point_zero) example_fields ≡ Some (OtherLiteral 1) }
+    ensures none { spec_condition_error (both (compare n 0 Less three_and_a_half) (either (is_null x 6) (negation (compare s 20 Equal (text []))))) example_fields ≡ None }
+{}
+
+/// Of two errors the first in the text, also where a column is only negated.
+pub fn first_error_is_found()
+    ensures and { spec_condition_error (both (first n) (second absent)) example_fields ≡ Some (NotBoolean 0) }
+    ensures or { spec_condition_error (either (first absent) (second n)) example_fields ≡ Some (UnknownColumn 0) }
+    ensures second { spec_condition_error (both (first p) (second absent)) example_fields ≡ Some (UnknownColumn 6) }
+    ensures not { spec_condition_error (both (negation (first n)) (second absent)) example_fields ≡ Some (NotBoolean 0) }
+{}
+
+/// Columns by their indices; an unknown name stays.
+pub fn conditions_are_resolved()
+    ensures { resolved_condition example_fields (both (first q) (negation (second absent))) ≡ both (is_true (indexed 1) 0) (negation (second absent)) }
+{}

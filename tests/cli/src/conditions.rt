@@ -1,0 +1,166 @@
+//! Rows where a condition is true, of integers, decimals, strings and booleans with nulls; errors of conditions.
+use crate::oracle::{request, text_of};
+use cli_args::parse_condition;
+use cli_rows::{CliError, ColumnError};
+use ipc::{batch_of_columns, write_stream};
+use ipc_schema::Projection;
+use nest_array::Boxed;
+use nest_flat::boolean::BooleanArray;
+use nest_flat::primitive::PrimitiveArray;
+use nest_flat::primitive::mutable::MutablePrimitiveArray;
+use nest_flat::utf8::Utf8Array;
+use nest_memory::datatypes::DataType;
+use nest_memory::error::Error;
+use std::alloc::Global;
+use std::test::*;
+
+fn prices(alloc: Global) -> Result<PrimitiveArray<i128>, Error> {
+    let mut builder = MutablePrimitiveArray::<i128>::new(alloc).to(DataType::Decimal(5, 2));
+    for price in [Some(950), Some(1000), None, Some(-1), Some(0), Some(5)] {
+        builder.try_push(price)?;
+    }
+    builder.freeze()
+}
+
+// A stream of six rows: `id`, `price`, `name`, `ok`, `day`, and the number of the row in `a b`.
+fn stream(alloc: Global) -> Result<Vec<u8>, Fail> {
+    let ids = [Some(1), Some(2), Some(3), None, Some(-5), Some(i32::MAX)];
+    let names = [Some("b"), Some("a"), None, Some("Z"), Some("ab"), Some("")];
+    let oks = [Some(true), None, Some(false), Some(true), None, Some(false)];
+    let mut columns = Vec::new(alloc);
+    let ids = PrimitiveArray::<i32>::from_options(alloc, &ids)?;
+    columns.push(ids.boxed())?;
+    columns.push(prices(alloc)?.boxed())?;
+    columns.push(Utf8Array::<i32>::from_options(alloc, &names)?.boxed())?;
+    columns.push(BooleanArray::from_options(alloc, &oks)?.boxed())?;
+    let mut days = MutablePrimitiveArray::<i32>::new(alloc).to(DataType::Date32);
+    let mut numbers = MutablePrimitiveArray::<u8>::new(alloc);
+    for i in 0..6u8 {
+        days.try_push(Some(0))?;
+        numbers.try_push(Some(i))?;
+    }
+    columns.push(days.freeze()?.boxed())?;
+    columns.push(numbers.freeze()?.boxed())?;
+    let names = ["id", "price", "name", "ok", "day", "a b"];
+    let (schema, batch) = batch_of_columns(alloc, &names, columns)?;
+    Ok(write_stream(alloc, &schema, &[batch])?)
+}
+
+// The indices of the rows where a condition is true, as digits. Each row ends with the number of the row and a brace.
+fn selected(alloc: Global, bytes: &[u8], condition: &str) -> Result<String, CliError> {
+    let Ok(Some(request)) = request(alloc, &["where", condition]) else {
+        return Err(CliError::Memory);
+    };
+    let text = text_of(alloc, Projection::All, &request, bytes)?;
+    let mut rows = String::new(alloc);
+    for line in text.as_str().lines() {
+        let from = line.len() - 2;
+        rows.push_str(&line[from..from + 1])?;
+    }
+    Ok(rows)
+}
+
+#[test]
+fn rows_are_selected(rt: HostRuntime) -> Result<(), Fail> {
+    let alloc = rt.alloc();
+    let bytes = stream(alloc)?;
+    for (condition, rows) in [
+        ("ok", "03"),
+        ("not ok", "25"),
+        ("ok is null", "14"),
+        ("ok IS NOT NULL", "0235"),
+        ("ok = true", "03"),
+        ("ok != true", "25"),
+        ("ok < true", "25"),
+        ("ok is null or ok", "0134"),
+        ("not (ok is null or ok)", "25"),
+        ("id = 2", "1"),
+        ("id != 2", "0245"),
+        ("id <> 2", "0245"),
+        ("id < 2", "04"),
+        ("id <= 2", "014"),
+        ("id > 2", "25"),
+        ("id >= 2.0", "125"),
+        ("id > 1.5", "125"),
+        ("id < 1.5", "04"),
+        ("id = 1.5", ""),
+        ("id >= -5", "01245"),
+        ("id > -5.00", "0125"),
+        ("id < 99999999999999999999999999999999999999", "01245"),
+        ("id > -0.0000000000000000000000000000000000001", "0125"),
+        ("id is null", "3"),
+        ("price = 9.5", "0"),
+        ("price = 9.500", "0"),
+        ("price > 9.499", "01"),
+        ("price >= 10", "1"),
+        ("price < 0.05", "34"),
+        ("price <= 0.05", "345"),
+        ("price = -0.01", "3"),
+        ("price != 0", "0135"),
+        ("price > 0 and price < 10", "05"),
+        ("name = 'a'", "1"),
+        ("name < 'a'", "35"),
+        ("name > 'a'", "04"),
+        ("name >= 'ab'", "04"),
+        ("name = ''", "5"),
+        ("name != ''", "0134"),
+        ("name is null", "2"),
+        ("not name = 'a'", "0345"),
+        ("day is null", ""),
+        ("day is not null", "012345"),
+        ("\"a b\" >= 2 and \"a b\" < 4", "23"),
+        ("ok or id = 2 and price > 10", "03"),
+        ("(ok or id = 2) and price >= 10", "1"),
+        ("not not ok", "03"),
+        ("ok and not ok", ""),
+        ("id = 3 or name = 'b'", "02"),
+    ] {
+        let found = selected(alloc, &bytes, condition)?;
+        assert!(rt; found.as_str() == rows, "{condition}: {found}");
+    }
+    Ok(())
+}
+
+#[test]
+fn columns_have_errors(rt: HostRuntime) -> Result<(), Fail> {
+    let alloc = rt.alloc();
+    let bytes = stream(alloc)?;
+    for (condition, error) in [
+        ("okay", ColumnError::UnknownColumn(0)),
+        ("ok and (no or id)", ColumnError::UnknownColumn(8)),
+        ("ok and (id or no)", ColumnError::NotBoolean(8)),
+        ("not name", ColumnError::NotBoolean(4)),
+        ("nothing is null", ColumnError::UnknownColumn(0)),
+        ("id = '1'", ColumnError::OtherLiteral(0)),
+        ("ok or name = 1", ColumnError::OtherLiteral(6)),
+        ("ok = 1", ColumnError::OtherLiteral(0)),
+        ("price = true", ColumnError::OtherLiteral(0)),
+        ("day = 1", ColumnError::NotComparable(0)),
+    ] {
+        let found = selected(alloc, &bytes, condition);
+        assert!(rt; found.err() == Some(CliError::Condition(error)), "{condition}");
+    }
+    Ok(())
+}
+
+// `not` so many times before the column `ok`.
+fn negated(alloc: Global, times: usize) -> Result<String, Fail> {
+    let mut text = String::new(alloc);
+    for _ in 0..times {
+        text.push_str("not ")?;
+    }
+    text.push_str("ok")?;
+    Ok(text)
+}
+
+#[test]
+fn deep_conditions_are_errors(rt: HostRuntime) -> Result<(), Fail> {
+    let alloc = rt.alloc();
+    let deep = negated(alloc, 900)?;
+    let found = selected(alloc, &stream(alloc)?, deep.as_str())?;
+    assert!(rt; found.as_str() == "03", "{found}");
+    assert!(rt; parse_condition(alloc, deep.as_str()).is_ok());
+    let deeper = negated(alloc, 2000)?;
+    assert!(rt; parse_condition(alloc, deeper.as_str()).is_err());
+    Ok(())
+}
