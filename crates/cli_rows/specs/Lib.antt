@@ -17,6 +17,7 @@ pub mod Records
 pub mod ColumnFields
 pub mod ConditionErrors
 pub mod ColumnNames
+pub mod NearNames
 pub mod RequestText
 pub mod ColumnExamples
 pub mod RowErrors

@@ -1,4 +1,4 @@
--- Columns: two that are supported, and a list view in a struct.
+-- Columns: three that are supported, and a list view in a struct.
 use Rattle.std.specs.Prelude.{List, [], ◌∷◌, true, false, Some, None, codes}
 use Rattle.nest_memory.specs.TypeTree as types
 use Rattle.nest_memory.specs.TypeTree.{FieldTree, field}
@@ -10,6 +10,9 @@ id_field = field (codes "id") types.int64 false []
 
 abbrev pub name_field : FieldTree
 name_field = field (codes "name") types.utf8 true []
+
+abbrev pub names_field : FieldTree
+names_field = field (codes "names") types.utf8 true []
 
 abbrev pub view_field : UnsupportedFieldModel
 view_field = record { names = codes "v" ∷ codes "s" ∷ []; type = ListView }

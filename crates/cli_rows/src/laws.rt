@@ -11,6 +11,7 @@ ghost use Rattle.cli_rows.specs.Compared.{IsTableDifference};
 ghost use Rattle.cli_rows.specs.Concatenated.{IsConcatenation};
 ghost use Rattle.cli_rows.specs.Difference.{AreEqualUpTo, IsDifference};
 ghost use Rattle.cli_rows.specs.ListExamples.{other_numbers, three_numbers, two_numbers};
+ghost use Rattle.cli_rows.specs.NearNames.{edit_distance, spec_is_similar, spec_unknown_name_text};
 ghost use Rattle.cli_rows.specs.Rows.{RowSlot};
 ghost use Rattle.cli_rows.specs.SelectExamples.{first, null_record, second, third, three};
 ghost use Rattle.cli_rows.specs.SelectedTables.{AreRowsOf, IsSelectedFrom};
@@ -19,7 +20,7 @@ ghost use Rattle.cli_rows.specs.TableExamples.{boolean_table, columnless_table, 
 ghost use Rattle.cli_rows.specs.SupportText.{text_of_columns, text_of_error};
 ghost use Rattle.cli_rows.specs.Tables.{TableTree};
 ghost use Rattle.cli_rows.specs.Text.{text_of_schema};
-ghost use Rattle.cli_rows.specs.TextExamples.{id_field, name_field, view_columns, view_field};
+ghost use Rattle.cli_rows.specs.TextExamples.{id_field, name_field, names_field, view_columns, view_field};
 ghost use Rattle.cli_rows.specs.declared.difference.Difference.{Difference};
 ghost use Rattle.cli_rows.specs.declared.difference.Difference.TheVariants.{Row as RowDiffers, Schema};
 ghost use Rattle.cli_rows.specs.declared.error.CliError.TheVariants.{Condition};
@@ -74,6 +75,39 @@ pub fn unknown_names_are_found()
 /// An unknown name is that of no column.
 pub fn unknown_names_have_no_column()
     ensures { (names : List (List ℕ)) (fields : List FieldTree) (i : ℕ) → unknown_name names fields ≡ Some i → spec_column_index (get_or names i []) fields ≡ None }
+{}
+
+/// No edit; a character inserted, deleted, replaced, exchanged with the next one; one of two bytes replaced; several edits; an empty name.
+pub fn edits_are_counted()
+    ensures none { edit_distance (codes "id") (codes "id") ≡ 0 }
+    ensures inserted { edit_distance (codes "nme") (codes "name") ≡ 1 }
+    ensures deleted { edit_distance (codes "nam e") (codes "name") ≡ 1 }
+    ensures replaced { edit_distance (codes "neme") (codes "name") ≡ 1 }
+    ensures exchanged { edit_distance (codes "naem") (codes "name") ≡ 1 }
+    ensures two_bytes { edit_distance (195 ∷ 169 ∷ []) (codes "e") ≡ 1 }
+    ensures several { edit_distance (codes "id") (codes "price") ≡ 4 }
+    ensures empty { edit_distance (codes "") (codes "id") ≡ 2 }
+{}
+
+/// One edit of a wanted name of two, three, four and five bytes; two edits of one of two, three and six; more; another case.
+pub fn names_are_similar()
+    ensures one_of_two { spec_is_similar (codes "od") (codes "id") ≡ true }
+    ensures one_of_three { spec_is_similar (codes "nme") (codes "name") ≡ true }
+    ensures one_of_four { spec_is_similar (codes "naem") (codes "name") ≡ true }
+    ensures one_of_five { spec_is_similar (codes "nam e") (codes "name") ≡ true }
+    ensures two_of_two { spec_is_similar (codes "ok") (codes "id") ≡ false }
+    ensures two_of_three { spec_is_similar (codes "nme") (codes "names") ≡ false }
+    ensures two_of_six { spec_is_similar (codes "naemes") (codes "names") ≡ true }
+    ensures more { spec_is_similar (codes "id") (codes "price") ≡ false }
+    ensures case { spec_is_similar (codes "ID") (codes "id") ≡ true }
+{}
+
+/// No similar name, one, two in the order of the columns; no column.
+pub fn unknown_names_are_text()
+    ensures none { spec_unknown_name_text (codes "price") (id_field ∷ name_field ∷ []) ≡ codes "there is no column \"price\"" }
+    ensures one { spec_unknown_name_text (codes "nme") (id_field ∷ name_field ∷ []) ≡ codes "there is no column \"nme\" (similar: \"name\")" }
+    ensures two { spec_unknown_name_text (codes "nams") (names_field ∷ id_field ∷ name_field ∷ []) ≡ codes "there is no column \"nams\" (similar: \"names\", \"name\")" }
+    ensures empty { spec_unknown_name_text (codes "id") [] ≡ codes "there is no column \"id\"" }
 {}
 
 /// Columns of names `id` and `ok`, by their indices; an unknown name stays.

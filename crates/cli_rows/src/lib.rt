@@ -12,6 +12,7 @@ mod difference;
 mod encoding;
 mod error;
 pub mod laws;
+mod near_names;
 mod other_formats;
 mod output;
 mod print;
@@ -27,6 +28,7 @@ pub use columns::{first_unknown_name, resolve_request, resolve_selection, select
 pub use difference::{Difference, difference_text};
 pub use encoding::encode_table;
 pub use error::{BatchError, CliError, ColumnError};
+pub use near_names::{similar_names, unknown_name_text};
 pub use other_formats::{OtherFormat, other_format};
 pub use output::{read_input, write_output};
 pub use print::{array_lines, request_text, table_text};

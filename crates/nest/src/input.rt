@@ -157,6 +157,13 @@ pub fn open_path(rt: &HostRuntime, file: &str) -> Result<File, OpenError> {
     Ok(opened)
 }
 
+fn is_regular_file(rt: &HostRuntime, file: &str) -> bool {
+    match fs::metadata(rt, file) {
+        Ok(metadata) => metadata.is_file(),
+        Err(_) => false,
+    }
+}
+
 /// Opens a file or standard input, as an Arrow file or stream by its first bytes.
 pub fn open_input(rt: &HostRuntime, file: &str) -> Result<Input<Source>, OpenError> {
     if file == "-" {
@@ -164,4 +171,12 @@ pub fn open_input(rt: &HostRuntime, file: &str) -> Result<Input<Source>, OpenErr
     }
     let opened = open_path(rt, file)?;
     open_file(rt, opened)
+}
+
+/// Opens an input again, from its first byte. Standard input cannot be read twice, nor can a pipe: opening it may wait for a writer.
+pub fn open_again(rt: &HostRuntime, file: &str) -> Result<Input<Source>, OpenError> {
+    if file == "-" || !is_regular_file(rt, file) {
+        return Err(OpenError::Input);
+    }
+    open_input(rt, file)
 }

@@ -10,6 +10,7 @@ mod output;
 mod print;
 mod support;
 mod take;
+mod unknown_names;
 
 use cli_args::{Arguments, Command, Selection, parse_arguments, parse_column_names};
 use cli_rows::CliError;

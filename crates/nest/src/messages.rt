@@ -2,6 +2,7 @@
 use crate::input::OpenError;
 use crate::output::StandardOutput;
 use crate::support::unsupported_column;
+use crate::unknown_names::{report_unknown_name, unknown_name};
 use cli_read::CompareError;
 use cli_rows::{BatchError, CliError, Difference, difference_text, write_output};
 use ipc_schema::Projection;
@@ -55,22 +56,16 @@ pub fn report<E: Display>(rt: &HostRuntime, file: &str, error: &E) -> ExitCode {
     failed()
 }
 
-/// Reports an error in a record batch, or before the record batches. A projected name that no column has is printed, and the path of a
-/// column that is not supported.
+/// Reports an error in a record batch, or before the record batches. A projected name that no column has is printed with similar names, and
+/// the path of a column that is not supported.
 fn report_batch(
     rt: &HostRuntime,
     columns: Projection<'_>,
     file: &str,
     error: &BatchError,
 ) -> ExitCode {
-    if let CliError::UnknownName(index) = error.error {
-        if let Projection::Names(names) = columns {
-            if index < names.len() {
-                let name = names[index];
-                let _ = eprintln!(rt; "nest: {file}: there is no column \"{name}\"");
-                return failed();
-            }
-        }
+    if let Some(name) = unknown_name(columns, error.error) {
+        return report_unknown_name(rt, file, name);
     }
     match unsupported_column(rt, columns, file, error.error) {
         Some(text) => report(rt, file, &text),

@@ -4,9 +4,11 @@ use crate::devices::{Count, Device, NEVER, Sink, input};
 use crate::samples::{EMPTY, FILE, STREAM, bytes_of};
 use cli_args::{Format, Request, Selection};
 use cli_read::{CompareError, Input, compare, open, print, take, take_encoded, take_lines};
-use cli_rows::{BatchError, CliError, first_unknown_name};
+use cli_rows::{BatchError, CliError, first_unknown_name, similar_names, unknown_name_text};
 use cli_write::{AppendError, append, begin_concat, copy};
 use ipc_schema::Projection;
+use nest_memory::datatypes::{DataType, Field};
+use nest_memory::error::Error;
 use std::alloc::Global;
 use std::test::*;
 
@@ -18,6 +20,38 @@ const NAMES: [(&[&str], usize); 6] = [
     (&["A"], 0),
     (&["a", "a", "ab"], 2),
     (&["a", "b", "a", "b", " a"], 4),
+];
+
+/// Names, and those of `FIELDS` that are similar: equal but for the case of ASCII letters, one edit, two edits, none.
+const SIMILAR: [(&str, &[&str]); 18] = [
+    ("nme", &["name"]),
+    ("nam e", &["name"]),
+    ("naem", &["name"]),
+    ("amen", &[]),
+    ("nams", &["name", "names"]),
+    ("NAMES", &["names"]),
+    ("Name", &["name"]),
+    ("di", &["id"]),
+    ("od", &["id"]),
+    ("ok", &[]),
+    ("pri", &[]),
+    ("prices", &["price"]),
+    ("prcies", &["price"]),
+    ("größe", &["Größe"]),
+    ("Grösse", &["Größe"]),
+    ("GRÖSSE", &[]),
+    ("", &[]),
+    ("description", &[]),
+];
+
+const FIELDS: [&str; 5] = ["id", "name", "names", "price", "Größe"];
+
+/// Names, and their messages for columns `a` and `b`.
+const MESSAGES: [(&str, &str); 4] = [
+    ("c", "there is no column \"c\" (similar: \"a\", \"b\")"),
+    (" a", "there is no column \" a\" (similar: \"a\")"),
+    ("\"", "there is no column \"\"\" (similar: \"a\", \"b\")"),
+    ("column", "there is no column \"column\""),
 ];
 
 fn stopped(name: usize) -> BatchError {
@@ -45,6 +79,41 @@ fn names_are_looked_up(rt: HostRuntime) -> Result<(), Fail> {
         }
         assert!(rt; first_unknown_name(Projection::All, fields) == None);
         assert!(rt; first_unknown_name(Projection::Indices(&[7]), fields) == None);
+    }
+    Ok(())
+}
+
+fn integer_fields(alloc: Global, names: &[&str]) -> Result<Vec<Field>, Error> {
+    let mut fields = Vec::new(alloc);
+    for name in names {
+        fields.push(Field::new(alloc, name, DataType::Int64, true)?)?;
+    }
+    Ok(fields)
+}
+
+#[test]
+fn similar_names_are_found(rt: HostRuntime) -> Result<(), Fail> {
+    let alloc = rt.alloc();
+    let fields = integer_fields(alloc, &FIELDS)?;
+    for (name, similar) in SIMILAR {
+        let found = similar_names(alloc, name, &fields)?;
+        assert!(rt; found.as_slice() == similar, "{name}: {found:?}");
+        let found = similar_names(alloc, name, &[])?;
+        assert!(rt; found.is_empty(), "{name}: {found:?}");
+    }
+    Ok(())
+}
+
+#[test]
+fn messages_have_similar_names(rt: HostRuntime) -> Result<(), Fail> {
+    let alloc = rt.alloc();
+    for sample in [STREAM, FILE] {
+        let bytes = bytes_of(alloc, sample)?;
+        let reader = open(alloc, Projection::All, device(alloc, &bytes)?).expect(&rt, "a reader");
+        for (name, want) in MESSAGES {
+            let text = unknown_name_text(alloc, name, &reader.schema().fields)?;
+            assert!(rt; text.as_str() == want, "{text}");
+        }
     }
     Ok(())
 }
