@@ -101,6 +101,11 @@ for end in arrow arrows; do
     expect 2 '' "nest: $inside: column \"s.v.item\": list_view is not supported $hint" schema --columns s "$inside"
     expect 2 '' "nest: $inside: column \"s.v.item\": list_view is not supported $hint" convert "$inside" "$room/as"
     expect 0 '{"id":1}\n{"id":2}\n' '' rows --columns id "$inside"
+    # A pipe is not opened a second time, which would wait for another writer.
+    rm -f "$room/pipe" && mkfifo "$room/pipe" && cat "$inside" >"$room/pipe" &
+    while [ ! -p "$room/pipe" ]; do sleep 0.1; done
+    expect 2 '' "nest: $room/pipe: type of a field is not supported" schema "$room/pipe"
+    rm -f "$room/pipe"
     expect 2 '' "nest: $formats/run_ends.$end: column \"run\": run_end_encoded is not supported $hint" head "$formats/run_ends.$end"
 done
 # Files of other formats: by their first bytes.

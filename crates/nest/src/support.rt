@@ -1,7 +1,7 @@
 //! Columns whose types are not supported: printed with a schema, and named in errors.
 ghost use Rattle.std.specs.Prelude.{◌<◌, ◌^◌, length, IfOk};
 
-use crate::input::{OpenError, Source, open_input};
+use crate::input::{OpenError, Source, open_again};
 use crate::messages::InputError;
 use cli_read::{Input, open_schema};
 use cli_rows::{CliError, support_error, support_lines, write_output};
@@ -16,7 +16,7 @@ const UNSUPPORTED: CliError = CliError::Read(IpcReadError::UnsupportedType);
 
 /// Opens an input again at its first message. In a file, which has a stream after its magic and two bytes of padding.
 fn open_stream(rt: &HostRuntime, file: &str) -> Result<Source, OpenError> {
-    match open_input(rt, file)? {
+    match open_again(rt, file)? {
         Input::Stream(source) => Ok(source),
         Input::File(mut source) => {
             let mut magic = [0u8; 8];
@@ -26,14 +26,13 @@ fn open_stream(rt: &HostRuntime, file: &str) -> Result<Source, OpenError> {
     }
 }
 
-/// Reads the first message of an input again. Standard input cannot be read twice.
+/// Reads the first message of an input again. Of one that cannot be read twice, the error is the one that it had.
 fn first_message(rt: &HostRuntime, file: &str) -> Result<FetchedMessage, InputError>
     ensures { IfOk result (λ message. length message.metadata.items < 2 ^ 31) }
 {
-    if file == "-" {
+    let Ok(mut source) = open_stream(rt, file) else {
         return Err(InputError::from(UNSUPPORTED));
-    }
-    let mut source = open_stream(rt, file)?;
+    };
     match fetch_message(rt.alloc(), &mut source) {
         Ok(Some(message)) => Ok(message),
         Ok(None) => Err(InputError::from(UNSUPPORTED)),
@@ -72,7 +71,7 @@ pub fn print_support<W: Write>(
     let message = first_message(rt, file)?;
     let columns = columns_of(rt.alloc(), &message)?;
     let indices = supported_indices(rt.alloc(), &columns)?;
-    let input = open_input(rt, file)?;
+    let input = open_again(rt, file)?;
     let reader = open_schema(rt.alloc(), Projection::Indices(&indices), input)?;
     let text = support_lines(rt.alloc(), &columns, &reader.schema().fields)?;
     write_output(out, text.as_bytes())?;
