@@ -1,5 +1,7 @@
 -- Conditions in boxes.
-use Rattle.std.proofs.Common.{◌≡◌, Box, Global, sym, ap, ◌∙◌}
+use Rattle.std.proofs.Common.{◌≡◌, List, Box, Global, sym, ap, ◌∙◌}
+use Rattle.nest_memory.specs.TypeTree.{FieldTree}
+use Rattle.cli_rows.specs.ConditionErrors.{resolved_condition}
 use Rattle.cli_args.specs.Conditions.{ConditionTree, both, either, negation}
 use Rattle.cli_args.specs.ConditionTrees.{condition_step, condition_tree}
 use Rattle.cli_args.specs.declared.condition.Condition.{Condition}
@@ -7,11 +9,24 @@ use Rattle.cli_args.specs.declared.condition.Condition.TheFolds.{fold-roll-Condi
 use Rattle.cli_args.specs.declared.condition.Condition.TheOpen.{Condition-F}
 use Rattle.cli_args.specs.declared.condition.Condition.TheVariants.{Not, And, Or, rolls-Not, rolls-And, rolls-Or}
 
-pub tree-not : (b : Box Condition Global) → condition_tree (Not b) ≡ negation (condition_tree b.value)
+tree-not : (b : Box Condition Global) → condition_tree (Not b) ≡ negation (condition_tree b.value)
 tree-not b = ap condition_tree (sym (rolls-Not b)) ∙ fold-roll-Condition ConditionTree condition_step (Condition-F.Not b)
 
-pub tree-and : (a b : Box Condition Global) → condition_tree (And a b) ≡ both (condition_tree a.value) (condition_tree b.value)
+tree-and : (a b : Box Condition Global) → condition_tree (And a b) ≡ both (condition_tree a.value) (condition_tree b.value)
 tree-and a b = ap condition_tree (sym (rolls-And a b)) ∙ fold-roll-Condition ConditionTree condition_step (Condition-F.And a b)
 
-pub tree-or : (a b : Box Condition Global) → condition_tree (Or a b) ≡ either (condition_tree a.value) (condition_tree b.value)
+tree-or : (a b : Box Condition Global) → condition_tree (Or a b) ≡ either (condition_tree a.value) (condition_tree b.value)
 tree-or a b = ap condition_tree (sym (rolls-Or a b)) ∙ fold-roll-Condition ConditionTree condition_step (Condition-F.Or a b)
+
+-- ---- resolved inside
+
+pub resolved-not : (fs : List FieldTree) (a : Condition) (b d : Box Condition Global) → a ≡ Not b → condition_tree d.value ≡ resolved_condition fs (condition_tree b.value) → condition_tree (Not d) ≡ resolved_condition fs (condition_tree a)
+resolved-not fs a b d is h = tree-not d ∙ ap negation h ∙ ap (resolved_condition fs) (sym (ap condition_tree is ∙ tree-not b))
+
+pub resolved-and : (fs : List FieldTree) (a : Condition) (b c d e : Box Condition Global) → a ≡ And b c → condition_tree d.value ≡ resolved_condition fs (condition_tree b.value) → condition_tree e.value ≡ resolved_condition fs (condition_tree c.value)
+    → condition_tree (And d e) ≡ resolved_condition fs (condition_tree a)
+resolved-and fs a b c d e is h k = tree-and d e ∙ (λ i. both (h i) (k i)) ∙ ap (resolved_condition fs) (sym (ap condition_tree is ∙ tree-and b c))
+
+pub resolved-or : (fs : List FieldTree) (a : Condition) (b c d e : Box Condition Global) → a ≡ Or b c → condition_tree d.value ≡ resolved_condition fs (condition_tree b.value) → condition_tree e.value ≡ resolved_condition fs (condition_tree c.value)
+    → condition_tree (Or d e) ≡ resolved_condition fs (condition_tree a)
+resolved-or fs a b c d e is h k = tree-or d e ∙ (λ i. either (h i) (k i)) ∙ ap (resolved_condition fs) (sym (ap condition_tree is ∙ tree-or b c))

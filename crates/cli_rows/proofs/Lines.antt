@@ -1,13 +1,11 @@
 -- Rows as lines.
-use Rattle.std.proofs.Common.{◌≡◌, ℕ, zero, suc, ◌+◌, ◌<◌, ◌≤◌, List, [], ◌∷◌, ◌++◌, map, refl, sym, ap, ◌∙◌, arith, append_assoc}
-use Rattle.std.specs.List.{flat_map}
+use Rattle.std.proofs.Common.{◌≡◌, ℕ, zero, suc, ◌+◌, ◌<◌, ◌≤◌, [], ◌∷◌, ◌++◌, map, sym, ap, ◌∙◌, arith, append_assoc}
 use Rattle.std.proofs.lemmas.List.{flat_map_more, map-append}
-use Rattle.std.proofs.lemmas.List.Concat.{flat_map-append}
 use Rattle.nest_model.specs.Layout.{Layout, layout_type}
 use Rattle.nest_model.specs.Meaning.{len, run, slot}
 use Rattle.nest_model.specs.Reads.{items-cut}
 use Rattle.nest_model.specs.Slot.{Slot}
-use Rattle.nest_array.specs.WindowParts.{WindowParts, window_parts}
+use Rattle.nest_array.specs.WindowParts.{window_parts}
 use Rattle.json_write.specs.JsonText.{slot_json}
 use Rattle.cli_rows.specs.Rows.{RowSlot, rows_in}
 use Rattle.cli_rows.specs.Text.{json_line, text_of_rows}

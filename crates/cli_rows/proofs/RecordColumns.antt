@@ -18,7 +18,7 @@ use Rattle.nest_model.specs.Layout as layouts
 use Rattle.nest_model.specs.Layout.{Layout, Layouts, layout_type, no_layouts, more_layouts}
 use Rattle.nest_model.specs.Meaning.{each, first_len, len, slot}
 use Rattle.nest_model.specs.Nullness.{is_null_at}
-use Rattle.nest_model.specs.Part.{Validity, valid_at}
+use Rattle.nest_model.specs.Part.{valid_at}
 use Rattle.nest_model.specs.Slot as slots
 use Rattle.nest_model.specs.Slot.{Slot}
 use Rattle.nest_array.specs.Seen.{layout_of, layouts_of}

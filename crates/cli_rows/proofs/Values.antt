@@ -1,5 +1,5 @@
 -- Values of arrays by their kinds.
-use Rattle.std.proofs.Common.{◌≡◌, ℕ, ◌+◌, ◌<◌, ℤ, pos, Bool, true, false, not, List, Option, Some, None, if◌then◌else◌, option_map, refl, sym, ap, subst, ◌∙◌, arith}
+use Rattle.std.proofs.Common.{◌≡◌, ℕ, ◌<◌, pos, Bool, true, false, not, Option, Some, None, if◌then◌else◌, option_map, refl, sym, ap, subst, ◌∙◌, arith}
 use Rattle.std.specs.Prelude.{◌↔◌, IfSome, IsTrue}
 use Rattle.nest_memory.specs.Physical.{physical_type}
 use Rattle.nest_memory.specs.declared.datatypes.physical_type.PhysicalType.TheVariants as physical
@@ -10,7 +10,7 @@ use Rattle.nest_model.specs.Array.{TopFits}
 use Rattle.nest_model.specs.Fits.{Names, is_dictionary}
 use Rattle.nest_model.specs.Layout as layouts
 use Rattle.nest_model.specs.Layout.{Layout, layout_type, weight}
-use Rattle.nest_model.specs.Meaning.{len, slot}
+use Rattle.nest_model.specs.Meaning.{len}
 use Rattle.nest_model.specs.Nullness.{has_keys, is_null_at}
 use Rattle.nest_model.specs.Part.{valid_at}
 use Rattle.nest_model.specs.Slot as slots

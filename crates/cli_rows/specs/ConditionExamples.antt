@@ -1,5 +1,5 @@
 -- Examples of conditions.
-use Rattle.std.specs.Prelude.{ℕ, ℤ, true, false, List, [], ◌∷◌, codes, negsuc, pos}
+use Rattle.std.specs.Prelude.{ℕ, ℤ, true, List, [], ◌∷◌, codes, negsuc, pos}
 use Rattle.nest_memory.specs.TypeTree as types
 use Rattle.nest_memory.specs.TypeTree.{FieldTree, TypeTree, field}
 use Rattle.nest_memory.specs.TypeOf.{field_trees}

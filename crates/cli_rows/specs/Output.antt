@@ -8,7 +8,7 @@ use Rattle.cli_args.specs.Requests.{RequestTree}
 use Rattle.cli_rows.specs.RequestText.{spec_request_text}
 use Rattle.cli_rows.specs.RequestErrors.{IsRequestError}
 use Rattle.cli_rows.specs.declared.error.CliError.{CliError}
-use Rattle.cli_rows.specs.declared.error.CliError.TheVariants.{Input, Read, Write, MismatchedColumns, IndexOutOfRange, Condition, Output, Memory}
+use Rattle.cli_rows.specs.declared.error.CliError.TheVariants.{Input, Read, MismatchedColumns, IndexOutOfRange, Condition, Output, Memory}
 use Rattle.cli_rows.specs.Tables.{TableTree}
 
 -- the text that a request prints of a decoded table

@@ -1,8 +1,8 @@
 -- Columns that are not supported, as text.
-use Rattle.std.specs.Prelude.{ℕ, List, [], ◌∷◌, ◌++◌, codes, drop, Option, Some, None, option_map}
+use Rattle.std.specs.Prelude.{ℕ, List, [], ◌∷◌, ◌++◌, codes, drop, Option, Some, None}
 use Rattle.nest_memory.specs.TypeText.{text_of_field}
 use Rattle.nest_memory.specs.TypeTree.{FieldTree}
-use Rattle.ipc_schema.specs.FieldSupport.{UnsupportedFieldModel, FieldSupportModel, path_of, first_unsupported, spec_type_name}
+use Rattle.ipc_schema.specs.FieldSupport.{UnsupportedFieldModel, FieldSupportModel, path_of, spec_type_name}
 
 -- an unsupported field: its path and its type
 abbrev pub text_of_unsupported : UnsupportedFieldModel → List ℕ

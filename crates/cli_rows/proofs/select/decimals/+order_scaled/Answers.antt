@@ -1,7 +1,6 @@
-use Rattle.std.proofs.Common.{rules, ◌≡◌, ◌^◌, ◌*ℤ◌, pos, ℕ, ◌-◌, ◌≤ℤ◌, ◌<ℤ◌, FitsSigned, to_z, of_z, sym, ap, ◌∙◌, arith}
+use Rattle.std.proofs.Common.{◌≡◌, ◌*ℤ◌, pos, to_z, of_z, ap, ◌∙◌, arith}
 use Rattle.std.proofs.lemmas.Int.{ints, to_z-of_z}
 use Rattle.std.specs.Int.{w128}
-use Rattle.std.specs.Ordering.{int_cmp}
 use Rattle.cli_rows.proofs.Decimals.{far-above, far-below, one-digit}
 use Rattle.cli_rows.proofs.select.decimals.+order_scaled.Goals as goal
 

@@ -1,6 +1,3 @@
-use Rattle.std.proofs.Common.{◌≡◌, ◌^◌, ◌*ℤ◌, pos, ℕ, ◌+◌, ◌-◌, ◌*◌, ◌<◌, ◌≤◌, length, ℤ, ◌+ℤ◌, ◌-ℤ◌, ◌≤ℤ◌, ◌<ℤ◌, FitsSigned, to_z, of_z}
-use Rattle.std.specs.Ordering.{int_cmp}
-use Rattle.cli_rows.specs.Comparisons.{decimal_cmp}
 use Rattle.cli_rows.proofs.select.decimals.+order_scaled.Given as goal
 
 -- proposed from what the function passes where it calls itself

@@ -1,5 +1,5 @@
 use Rattle.std.proofs.Common.{◌<◌, ap, arith, sym, ◌∙◌, subst}
-use Rattle.nest_model.specs.Layout.{layout_type, weight}
+use Rattle.nest_model.specs.Layout.{weight}
 use Rattle.nest_model.specs.Meaning.{len, slot}
 use Rattle.nest_array.specs.Seen.{layout_of}
 use Rattle.cli_rows.proofs.Values.{key-within, lighter, null-test, unkeyed}
