@@ -456,6 +456,10 @@ expect 0 '' '' from-json 'struct<x: double, y: list<item: float>>' "$room/floats
 expect 0 '{"x":0.1,"y":[1.5,null]}\n{"x":1e23,"y":[16777216.0]}\n{"x":"NaN","y":["-Infinity"]}\n{"x":-0.0,"y":null}\n' '' rows "$room/floats"
 expect 0 'x: double\ny: list<item: float>\n' '' schema "$room/floats"
 expect 0 '' '' equal "$room/floats" "$room/floats"
+expect 0 '{"x":0.1,"y":[1.5,null]}\n{"x":1e23,"y":[16777216.0]}\n' '' where "$room/floats" 'x > 0.05'
+expect 0 '{"x":0.1,"y":[1.5,null]}\n' '' where "$room/floats" 'x = 0.1'
+expect 0 '{"x":"NaN","y":["-Infinity"]}\n{"x":-0.0,"y":null}\n' '' where "$room/floats" 'not (x = 0.1 or x > 1)'
+expect 0 '{"x":-0.0,"y":null}\n' '' where "$room/floats" 'x = 0'
 printf '{"x":1e309}\n' >"$room/past"
 expect 2 '' "nest: $room/past: line 1: number out of range" from-json 'struct<x: double>' "$room/past" "$room/as"
 expect 2 '' "nest: $room/none: no such file" from-json "$rows" "$room/none" "$room/as"

@@ -1,5 +1,6 @@
 -- The model of `Token`.
-use Rattle.cli_args.specs.Conditions.{number, text, boolean}
+use Rattle.cli_args.specs.Conditions.{text, boolean}
+use Rattle.cli_args.specs.NumberLiterals.{decimal_number}
 use Rattle.cli_args.specs.ConditionTokens.{TokenTree, and_word, or_word, not_word, is_word, null_word, name, literal, operator, opening, closing, end_of_text, undoubled}
 use Rattle.cli_args.specs.declared.condition_token.Token.{Token}
 use Rattle.cli_args.specs.declared.condition_token.Token.TheVariants as tokens
@@ -13,7 +14,7 @@ token_tree tokens.Null = null_word
 token_tree (tokens.Name s) = name s.now
 token_tree (tokens.QuotedName raw) = name (undoubled 34 raw.now)
 token_tree (tokens.Text raw) = literal (text (undoubled 39 raw.now))
-token_tree (tokens.Number value scale) = literal (number value scale)
+token_tree (tokens.Number value scale) = literal (decimal_number value scale)
 token_tree (tokens.Boolean b) = literal (boolean b)
 token_tree (tokens.Operator comparison) = operator comparison
 token_tree tokens.Opening = opening

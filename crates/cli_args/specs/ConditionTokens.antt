@@ -4,7 +4,8 @@ use Rattle.std.specs.Char.{is_ascii_alphanumeric, is_ascii_digit, is_ascii_white
 use Rattle.std.specs.List.{prefix_len}
 use Rattle.std.specs.Str.Parse.{digits_value}
 use Rattle.cli_args.specs.ConditionResults.{error_at}
-use Rattle.cli_args.specs.Conditions.{LiteralTree, number, text, boolean}
+use Rattle.cli_args.specs.Conditions.{LiteralTree, text, boolean}
+use Rattle.cli_args.specs.NumberLiterals.{decimal_number}
 use Rattle.cli_args.specs.declared.condition.Comparison.{Comparison}
 use Rattle.cli_args.specs.declared.condition.Comparison.TheVariants.{Equal, NotEqual, Less, LessOrEqual, Greater, GreaterOrEqual}
 use Rattle.cli_args.specs.declared.condition_error.SyntaxError.{SyntaxError}
@@ -118,7 +119,7 @@ signed negative n = if negative then neg_ℤ (pos n) else pos n
 
 -- a number by its sign, its digits before the decimal point and its digits after it
 abbrev pub number_of : Bool → List ℕ → List ℕ → LiteralTree
-number_of negative whole fraction = number (signed negative (digits_value 10 (whole ++ fraction))) (length fraction)
+number_of negative whole fraction = decimal_number (signed negative (digits_value 10 (whole ++ fraction))) (length fraction)
 
 abbrev pub number_token : SyntaxError → Bool → List ℕ → List ℕ × List ℕ → Result TokenAndRest SyntaxError
 number_token too_long negative whole fraction =

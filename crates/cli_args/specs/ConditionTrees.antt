@@ -1,14 +1,18 @@
--- The models of `Literal` and `Condition`.
+-- The models of `NumberLiteral`, `Literal` and `Condition`.
 use Rattle.std.specs.Prelude.{string_bytes}
 use Rattle.cli_args.specs.ColumnTrees.{column_tree}
-use Rattle.cli_args.specs.Conditions.{LiteralTree, number, text, boolean, ConditionTree, is_true, is_null, compare, negation, both, either}
+use Rattle.cli_args.specs.Conditions.{LiteralTree, NumberTree, number, text, boolean, ConditionTree, is_true, is_null, compare, negation, both, either}
 use Rattle.cli_args.specs.declared.condition.Literal.{Literal}
 use Rattle.cli_args.specs.declared.condition.Literal.TheVariants as literals
 use Rattle.cli_args.specs.declared.condition.Condition.{Condition, fold-Condition}
+use Rattle.cli_args.specs.declared.number_literal.NumberLiteral.{NumberLiteral}
 use Rattle.cli_args.specs.declared.condition.Condition.TheOpen.{Condition-F}
 
+abbrev pub number_tree : NumberLiteral → NumberTree
+number_tree n = record { value = n.value; digits = n.digits; single = n.single; double = n.double }
+
 abbrev pub literal_tree : Literal → LiteralTree
-literal_tree (literals.Number value scale) = number value scale
+literal_tree (literals.Number n) = number (number_tree n)
 literal_tree (literals.String s) = text (string_bytes s)
 literal_tree (literals.Boolean b) = boolean b
 

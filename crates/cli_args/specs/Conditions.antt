@@ -3,9 +3,15 @@ use Rattle.std.specs.Prelude.{ℕ, ℤ, Bool, List}
 use Rattle.cli_args.specs.Columns.{ColumnTree}
 use Rattle.cli_args.specs.declared.condition.Comparison.{Comparison}
 
--- a decimal number, by an integer and the number of its digits after the decimal point; a string; a boolean
+-- a decimal number: an integer, and the number of its digits after the decimal point; and the bits of the nearest single and double
+pub record NumberTree : Type 0 where
+  pub value : ℤ
+  pub digits : ℕ
+  pub single : ℕ
+  pub double : ℕ
+
 pub data LiteralTree : Type 0 where
-  number : ℤ → ℕ → LiteralTree
+  number : NumberTree → LiteralTree
   text : List ℕ → LiteralTree
   boolean : Bool → LiteralTree
 

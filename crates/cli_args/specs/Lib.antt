@@ -1,6 +1,7 @@
 pub mod Columns
 pub mod ColumnTrees
 pub mod Conditions
+pub mod NumberLiterals
 pub mod ConditionTrees
 pub mod ConditionResults
 pub mod ConditionTokens

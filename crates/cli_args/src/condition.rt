@@ -1,4 +1,5 @@
 //! Conditions on rows.
+use crate::number_literal::NumberLiteral;
 use crate::request::Column;
 
 /// A comparison of a value with a literal.
@@ -21,8 +22,8 @@ pub enum Comparison {
 /// A literal of a condition.
 #[derive(Drop)]
 pub enum Literal {
-    /// A decimal number: an integer, and the number of its digits after the decimal point.
-    Number(i128, u8),
+    /// A number.
+    Number(NumberLiteral),
     /// A string.
     String(String),
     /// A boolean.

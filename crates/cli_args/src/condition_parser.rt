@@ -11,6 +11,7 @@ ghost use Rattle.cli_args.specs.ConditionTrees.{condition_tree, literal_tree};
 use crate::condition::{Comparison, Condition, Literal};
 use crate::condition_error::{ParseConditionError, SyntaxErrorKind};
 use crate::condition_token::{Token, error_at, next_token, without_space};
+use crate::number_literal::number_literal;
 use crate::request::Column;
 use std::alloc::{AllocError, Global};
 
@@ -42,7 +43,10 @@ fn literal<'a>(
 {
     let (token, rest) = next_token(len, text)?;
     match token {
-        Token::Number(value, scale) => Ok((Literal::Number(value, scale), rest)),
+        Token::Number(value, scale) => {
+            let number = number_literal(alloc, value, scale)?;
+            Ok((Literal::Number(number), rest))
+        }
         Token::Text(raw) => Ok((Literal::String(undoubled_text(alloc, raw)?), rest)),
         Token::Boolean(value) => Ok((Literal::Boolean(value), rest)),
         Token::And

@@ -2,7 +2,8 @@
 ghost use Rattle.std.specs.Prelude.{◌≡◌, [], ◌∷◌, Some, None, codes, negsuc};
 ghost use Rattle.clap.specs.declared.error.kind.ErrorKind.TheVariants.{InvalidValue, MissingRequiredArgument, UnknownArgument, ValueValidation};
 ghost use Rattle.cli_args.specs.ColumnNames.{column_names};
-ghost use Rattle.cli_args.specs.Conditions.{compare, is_true, number};
+ghost use Rattle.cli_args.specs.Conditions.{compare, is_true};
+ghost use Rattle.cli_args.specs.NumberLiterals.{decimal_number};
 ghost use Rattle.cli_args.specs.declared.condition.Comparison.TheVariants.{GreaterOrEqual};
 ghost use Rattle.cli_args.specs.Requests.{all, indices, named, slice, where_true};
 ghost use Rattle.cli_args.specs.Commands.{concat, count, from_json, schema, tail};
@@ -27,7 +28,7 @@ pub fn last_rows_and_counts_are_parsed()
 pub fn selections_are_parsed()
     ensures indices { Selects (codes "take" ∷ codes "f" ∷ codes "7" ∷ codes "0" ∷ codes "7" ∷ []) (indices (7 ∷ 0 ∷ 7 ∷ [])) None }
     ensures column { Selects (codes "where" ∷ codes "--" ∷ codes "f" ∷ codes "ok" ∷ []) (where_true (is_true (named (codes "ok")) 0)) None }
-    ensures comparison { Selects (codes "where" ∷ codes "f" ∷ codes "n >= -1.5" ∷ []) (where_true (compare (named (codes "n")) 0 GreaterOrEqual (number (negsuc 14) 1))) None }
+    ensures comparison { Selects (codes "where" ∷ codes "f" ∷ codes "n >= -1.5" ∷ []) (where_true (compare (named (codes "n")) 0 GreaterOrEqual (decimal_number (negsuc 14) 1))) None }
 {}
 
 /// `schema - --columns a,b`; `concat -o c f g`; `from-json t f g`.

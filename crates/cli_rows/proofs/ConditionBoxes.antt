@@ -1,13 +1,20 @@
 -- Conditions in boxes.
-use Rattle.std.proofs.Common.{◌≡◌, List, Box, Global, sym, ap, ◌∙◌}
+use Rattle.std.proofs.Common.{◌≡◌, ℕ, List, Box, Global, sym, ap, ◌∙◌}
 use Rattle.nest_memory.specs.TypeTree.{FieldTree}
 use Rattle.cli_rows.specs.ConditionErrors.{resolved_condition}
-use Rattle.cli_args.specs.Conditions.{ConditionTree, both, either, negation}
-use Rattle.cli_args.specs.ConditionTrees.{condition_step, condition_tree}
+use Rattle.cli_args.specs.ColumnTrees.{column_tree}
+use Rattle.cli_args.specs.Conditions.{ConditionTree, both, compare, either, negation}
+use Rattle.cli_args.specs.ConditionTrees.{condition_step, condition_tree, literal_tree}
+use Rattle.cli_args.specs.declared.condition.Comparison.{Comparison}
+use Rattle.cli_args.specs.declared.condition.Literal.{Literal}
+use Rattle.cli_args.specs.declared.request.Column.{Column}
 use Rattle.cli_args.specs.declared.condition.Condition.{Condition}
 use Rattle.cli_args.specs.declared.condition.Condition.TheFolds.{fold-roll-Condition}
 use Rattle.cli_args.specs.declared.condition.Condition.TheOpen.{Condition-F}
-use Rattle.cli_args.specs.declared.condition.Condition.TheVariants.{Not, And, Or, rolls-Not, rolls-And, rolls-Or}
+use Rattle.cli_args.specs.declared.condition.Condition.TheVariants.{Compare, Not, And, Or, rolls-Compare, rolls-Not, rolls-And, rolls-Or}
+
+pub tree-compare : (column : Column) (at : ℕ) (op : Comparison) (literal : Literal) → condition_tree (Compare column at op literal) ≡ compare (column_tree column) at op (literal_tree literal)
+tree-compare column at op literal = ap condition_tree (sym (rolls-Compare column at op literal)) ∙ fold-roll-Condition ConditionTree condition_step (Condition-F.Compare column at op literal)
 
 tree-not : (b : Box Condition Global) → condition_tree (Not b) ≡ negation (condition_tree b.value)
 tree-not b = ap condition_tree (sym (rolls-Not b)) ∙ fold-roll-Condition ConditionTree condition_step (Condition-F.Not b)

@@ -11,7 +11,7 @@ use Rattle.cli_rows.specs.Kinds.{spec_value_kind}
 use Rattle.cli_rows.specs.Truth.{truth_and, truth_not, truth_or}
 use Rattle.cli_rows.specs.declared.select.kinds.ValueKind.{ValueKind}
 use Rattle.cli_rows.specs.declared.select.kinds.ValueKind.TheVariants as kinds
-use Rattle.cli_rows.specs.Comparisons.{spec_holds}
+use Rattle.cli_rows.specs.Comparisons.{spec_holds_of}
 
 pub not-and : (t u : Option Bool) → truth_not (truth_and t u) ≡ truth_or (truth_not t) (truth_not u)
 not-and (Some true) (Some true) = refl
@@ -41,18 +41,21 @@ not-not (Some false) = refl
 not-not None = refl
 
 no-order : (kind : Option ValueKind) (literal : LiteralTree) → spec_order kind literal slots.null ≡ None
-no-order None (literals.number y k) = refl
+no-order None (literals.number n) = refl
 no-order None (literals.text bs) = refl
 no-order None (literals.boolean b) = refl
-no-order (Some (kinds.Number s)) (literals.number y k) = refl
+no-order (Some (kinds.Number s)) (literals.number n) = refl
 no-order (Some (kinds.Number s)) (literals.text bs) = refl
 no-order (Some (kinds.Number s)) (literals.boolean b) = refl
-no-order (Some kinds.String) (literals.number y k) = refl
+no-order (Some (kinds.Float p)) (literals.number n) = refl
+no-order (Some (kinds.Float p)) (literals.text bs) = refl
+no-order (Some (kinds.Float p)) (literals.boolean b) = refl
+no-order (Some kinds.String) (literals.number n) = refl
 no-order (Some kinds.String) (literals.text bs) = refl
 no-order (Some kinds.String) (literals.boolean b) = refl
-no-order (Some kinds.Boolean) (literals.number y k) = refl
+no-order (Some kinds.Boolean) (literals.number n) = refl
 no-order (Some kinds.Boolean) (literals.text bs) = refl
 no-order (Some kinds.Boolean) (literals.boolean b) = refl
 
 pub null-unknown : (op : Comparison) (literal : LiteralTree) (t : TypeTree) → spec_compared op literal (t, slots.null) ≡ None
-null-unknown op literal t = ap (option_map (spec_holds op)) (no-order (spec_value_kind t) literal)
+null-unknown op literal t = ap (option_map (spec_holds_of op)) (no-order (spec_value_kind t) literal)

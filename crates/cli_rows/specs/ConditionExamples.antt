@@ -3,18 +3,21 @@ use Rattle.std.specs.Prelude.{ℕ, ℤ, true, List, [], ◌∷◌, codes, negsuc
 use Rattle.nest_memory.specs.TypeTree as types
 use Rattle.nest_memory.specs.TypeTree.{FieldTree, TypeTree, field}
 use Rattle.nest_memory.specs.TypeOf.{field_trees}
+use Rattle.nest_memory.specs.Floats.{spec_float_type}
+use Rattle.nest_memory.specs.declared.datatypes.floats.Precision.TheVariants.{Half, Single, Double}
 use Rattle.nest_model.specs.Slot as slots
 use Rattle.nest_model.specs.Slot.{Slot, more_slots, no_slots}
 use Rattle.cli_args.specs.Columns.{ColumnTree, named}
 use Rattle.cli_args.specs.Conditions.{ConditionTree, LiteralTree, is_true, number}
+use Rattle.cli_args.specs.NumberLiterals.{decimal_number}
 use Rattle.cli_rows.specs.Rows.{RowSlot}
 
 abbrev nullable : List ℕ → TypeTree → FieldTree
 nullable name t = field name t true []
 
--- two booleans, an integer, a string and a floating-point number
+-- two booleans, an integer, a string and a date
 abbrev pub example_fields : List FieldTree
-example_fields = nullable (codes "p") types.boolean ∷ nullable (codes "q") types.boolean ∷ nullable (codes "n") types.int64 ∷ nullable (codes "s") types.utf8 ∷ nullable (codes "x") types.float64 ∷ []
+example_fields = nullable (codes "p") types.boolean ∷ nullable (codes "q") types.boolean ∷ nullable (codes "n") types.int64 ∷ nullable (codes "s") types.utf8 ∷ nullable (codes "x") types.date32 ∷ []
 
 abbrev pub p : ColumnTree
 p = named (codes "p")
@@ -58,12 +61,29 @@ three = integer_value (pos 3)
 abbrev pub minus_three : RowSlot
 minus_three = integer_value (negsuc 2)
 
+-- a double, a single and a half, by their bits
+abbrev pub double_value : ℕ → RowSlot
+double_value bits = (spec_float_type Double, slots.number (pos bits ∷ []))
+
+abbrev pub single_value : ℕ → RowSlot
+single_value bits = (spec_float_type Single, slots.number (pos bits ∷ []))
+
+abbrev pub value_of_half : ℕ → RowSlot
+value_of_half bits = (spec_float_type Half, slots.number (pos bits ∷ []))
+
+-- 0.1 with the nearest single and double, and 0
+abbrev pub tenth : LiteralTree
+tenth = number (record { value = pos 1; digits = 1; single = 0x3dcc_cccd; double = 0x3fb9_9999_9999_999a })
+
+abbrev pub nought : LiteralTree
+nought = number (record { value = pos 0; digits = 0; single = 0; double = 0 })
+
 -- 3.5, 3.0 and -3.5
 abbrev pub three_and_a_half : LiteralTree
-three_and_a_half = number (pos 35) 1
+three_and_a_half = decimal_number (pos 35) 1
 
 abbrev pub three_point_zero : LiteralTree
-three_point_zero = number (pos 30) 1
+three_point_zero = decimal_number (pos 30) 1
 
 abbrev pub minus_three_and_a_half : LiteralTree
-minus_three_and_a_half = number (negsuc 34) 1
+minus_three_and_a_half = decimal_number (negsuc 34) 1

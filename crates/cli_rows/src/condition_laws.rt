@@ -5,11 +5,12 @@ ghost use Rattle.nest_memory.specs.TypeTree.{FieldTree, TypeTree};
 ghost use Rattle.nest_model.specs.Slot as slots;
 ghost use Rattle.nest_model.specs.Slot.{Slot};
 ghost use Rattle.cli_args.specs.Columns.{indexed};
-ghost use Rattle.cli_args.specs.Conditions.{ConditionTree, LiteralTree, boolean, both, compare, either, is_null, is_true, negation, number, text};
+ghost use Rattle.cli_args.specs.Conditions.{ConditionTree, LiteralTree, boolean, both, compare, either, is_null, is_true, negation, text};
+ghost use Rattle.cli_args.specs.NumberLiterals.{decimal_number};
 ghost use Rattle.cli_args.specs.declared.condition.Comparison.{Comparison};
 ghost use Rattle.cli_args.specs.declared.condition.Comparison.TheVariants.{Equal, NotEqual, Less, LessOrEqual, Greater, GreaterOrEqual};
 ghost use Rattle.cli_rows.specs.ConditionErrors.{resolved_condition, spec_condition_error};
-ghost use Rattle.cli_rows.specs.ConditionExamples.{absent, booleans_row, example_fields, first, integer_value, minus_three, minus_three_and_a_half, n, p, q, s, second, string_value, three, three_and_a_half, three_point_zero, x};
+ghost use Rattle.cli_rows.specs.ConditionExamples.{absent, booleans_row, double_value, example_fields, first, value_of_half, integer_value, minus_three, minus_three_and_a_half, n, nought, p, q, s, second, single_value, string_value, tenth, three, three_and_a_half, three_point_zero, x};
 ghost use Rattle.cli_rows.specs.Conditions.{is_true_in, nullness, spec_compared, truth_in};
 ghost use Rattle.cli_rows.specs.Truth.{truth_and, truth_not, truth_or};
 ghost use Rattle.cli_rows.specs.declared.error.ColumnError.TheVariants.{UnknownColumn, NotBoolean, NotComparable, OtherLiteral};
@@ -69,15 +70,30 @@ pub fn integers_are_compared()
 
 /// The largest and the least integers, of 64 bits.
 pub fn large_integers_are_compared()
-    ensures largest { spec_compared Less (number (pos 184467440737095516155) 1) (types.uint64, slots.number (pos 18446744073709551615 ∷ [])) ≡ Some true }
-    ensures least { spec_compared LessOrEqual (number (negsuc 9223372036854775807) 0) (integer_value (negsuc 9223372036854775807)) ≡ Some true }
+    ensures largest { spec_compared Less (decimal_number (pos 184467440737095516155) 1) (types.uint64, slots.number (pos 18446744073709551615 ∷ [])) ≡ Some true }
+    ensures least { spec_compared LessOrEqual (decimal_number (negsuc 9223372036854775807) 0) (integer_value (negsuc 9223372036854775807)) ≡ Some true }
 {}
 
 /// A decimal of two digits after the point, 5.00, and 5, 5.0001 and 4.9.
 pub fn decimals_are_compared()
-    ensures equal { spec_compared Equal (number (pos 5) 0) (types.decimal 10 2, slots.number (pos 500 ∷ [])) ≡ Some true }
-    ensures less { spec_compared Less (number (pos 50001) 4) (types.decimal 10 2, slots.number (pos 500 ∷ [])) ≡ Some true }
-    ensures greater { spec_compared Greater (number (pos 49) 1) (types.decimal 10 2, slots.number (pos 500 ∷ [])) ≡ Some true }
+    ensures equal { spec_compared Equal (decimal_number (pos 5) 0) (types.decimal 10 2, slots.number (pos 500 ∷ [])) ≡ Some true }
+    ensures less { spec_compared Less (decimal_number (pos 50001) 4) (types.decimal 10 2, slots.number (pos 500 ∷ [])) ≡ Some true }
+    ensures greater { spec_compared Greater (decimal_number (pos 49) 1) (types.decimal 10 2, slots.number (pos 500 ∷ [])) ≡ Some true }
+{}
+
+/// 0.1 as a double, a single and a half, which is less, compared with 0.1; negative zero with 0; NaN and infinity with 0.1.
+pub fn floats_are_compared()
+    ensures double { spec_compared Equal tenth (double_value 0x3fb9_9999_9999_999a) ≡ Some true }
+    ensures next { spec_compared Greater tenth (double_value 0x3fb9_9999_9999_999b) ≡ Some true }
+    ensures single { spec_compared Equal tenth (single_value 0x3dcc_cccd) ≡ Some true }
+    ensures half { spec_compared Less tenth (value_of_half 0x2e66) ≡ Some true }
+    ensures zero { spec_compared Equal nought (double_value 0x8000_0000_0000_0000) ≡ Some true }
+    ensures negative { spec_compared Less nought (double_value 0xbfb9_9999_9999_999a) ≡ Some true }
+    ensures nan_equal { spec_compared Equal tenth (double_value 0x7ff8_0000_0000_0000) ≡ Some false }
+    ensures nan_other { spec_compared NotEqual tenth (double_value 0x7ff8_0000_0000_0000) ≡ Some true }
+    ensures nan_less { spec_compared Less tenth (double_value 0x7ff8_0000_0000_0000) ≡ Some false }
+    ensures nan_more { spec_compared GreaterOrEqual tenth (single_value 0x7fc0_0000) ≡ Some false }
+    ensures infinity { spec_compared Greater tenth (double_value 0x7ff0_0000_0000_0000) ≡ Some true }
 {}
 
 /// Strings by their bytes: an upper-case letter before each lower-case one, a prefix first, and whatever their lengths.

@@ -1,4 +1,4 @@
-//! Rows where a condition is true, of integers, decimals, strings and booleans with nulls; errors of conditions.
+//! Rows where a condition is true, of integers, decimals, floats, strings and booleans with nulls; errors of conditions.
 use crate::oracle::{request, text_of};
 use cli_args::parse_condition;
 use cli_rows::{CliError, ColumnError};
@@ -10,6 +10,7 @@ use nest_flat::primitive::PrimitiveArray;
 use nest_flat::primitive::mutable::MutablePrimitiveArray;
 use nest_flat::utf8::Utf8Array;
 use nest_memory::datatypes::DataType;
+use nest_memory::datatypes::floats::{Precision, float_type};
 use nest_memory::error::Error;
 use std::alloc::Global;
 use std::test::*;
@@ -22,7 +23,58 @@ fn prices(alloc: Global) -> Result<PrimitiveArray<i128>, Error> {
     builder.freeze()
 }
 
-// A stream of six rows: `id`, `price`, `name`, `ok`, `day`, and the number of the row in `a b`.
+// Doubles by their bits: 0.1, NaN, null, -0.0, infinity and -2.5.
+fn doubles(alloc: Global) -> Result<PrimitiveArray<u64>, Error> {
+    let kind = float_type(alloc, Precision::Double)?;
+    let mut builder = MutablePrimitiveArray::<u64>::new(alloc).to(kind);
+    for bits in [
+        Some(0x3fb9_9999_9999_999a),
+        Some(0x7ff8_0000_0000_0000),
+        None,
+        Some(0x8000_0000_0000_0000),
+        Some(0x7ff0_0000_0000_0000),
+        Some(0xc004_0000_0000_0000),
+    ] {
+        builder.try_push(bits)?;
+    }
+    builder.freeze()
+}
+
+// Singles: 0.1, 2^24, null, NaN, 1.5 and -infinity.
+fn singles(alloc: Global) -> Result<PrimitiveArray<u32>, Error> {
+    let kind = float_type(alloc, Precision::Single)?;
+    let mut builder = MutablePrimitiveArray::<u32>::new(alloc).to(kind);
+    for bits in [
+        Some(0x3dcc_cccd),
+        Some(0x4b80_0000),
+        None,
+        Some(0x7fc0_0000),
+        Some(0x3fc0_0000),
+        Some(0xff80_0000),
+    ] {
+        builder.try_push(bits)?;
+    }
+    builder.freeze()
+}
+
+// Halves: 0.0999755859375, 1, null, NaN, 65504 and -1.
+fn halves(alloc: Global) -> Result<PrimitiveArray<u16>, Error> {
+    let kind = float_type(alloc, Precision::Half)?;
+    let mut builder = MutablePrimitiveArray::<u16>::new(alloc).to(kind);
+    for bits in [
+        Some(0x2e66),
+        Some(0x3c00),
+        None,
+        Some(0x7e00),
+        Some(0x7bff),
+        Some(0xbc00),
+    ] {
+        builder.try_push(bits)?;
+    }
+    builder.freeze()
+}
+
+// A stream of six rows: `id`, `price`, `name`, `ok`, `day`, the floats `x`, `y` and `h`, and the number of the row in `a b`.
 fn stream(alloc: Global) -> Result<Vec<u8>, Fail> {
     let ids = [Some(1), Some(2), Some(3), None, Some(-5), Some(i32::MAX)];
     let names = [Some("b"), Some("a"), None, Some("Z"), Some("ab"), Some("")];
@@ -40,8 +92,11 @@ fn stream(alloc: Global) -> Result<Vec<u8>, Fail> {
         numbers.try_push(Some(i))?;
     }
     columns.push(days.freeze()?.boxed())?;
+    columns.push(doubles(alloc)?.boxed())?;
+    columns.push(singles(alloc)?.boxed())?;
+    columns.push(halves(alloc)?.boxed())?;
     columns.push(numbers.freeze()?.boxed())?;
-    let names = ["id", "price", "name", "ok", "day", "a b"];
+    let names = ["id", "price", "name", "ok", "day", "x", "y", "h", "a b"];
     let (schema, batch) = batch_of_columns(alloc, &names, columns)?;
     Ok(write_stream(alloc, &schema, &[batch])?)
 }
@@ -74,6 +129,23 @@ fn rows_are_selected(rt: HostRuntime) -> Result<(), Fail> {
         ("ok < true", "25"),
         ("ok is null or ok", "0134"),
         ("not (ok is null or ok)", "25"),
+        ("x = 0.1", "0"),
+        ("x != 0.1", "1345"),
+        ("x > 0", "04"),
+        ("x >= 0", "034"),
+        ("x < 0", "5"),
+        ("not x < 0", "0134"),
+        ("x = 0.0", "3"),
+        ("x <= -2.5", "5"),
+        ("x is null", "2"),
+        ("y = 0.1", "0"),
+        ("y = 16777217", "1"),
+        ("y > 1", "14"),
+        ("y < 0", "5"),
+        ("h < 0.1", "05"),
+        ("h = 0.0999755859375", "0"),
+        ("h = 65504", "4"),
+        ("h != 1", "0345"),
         ("id = 2", "1"),
         ("id != 2", "0245"),
         ("id <> 2", "0245"),
@@ -138,7 +210,10 @@ fn columns_have_errors(rt: HostRuntime) -> Result<(), Fail> {
         ("day = 1", ColumnError::NotComparable(0)),
     ] {
         let found = selected(alloc, &bytes, condition);
-        assert!(rt; found.err() == Some(CliError::Condition(error)), "{condition}");
+        assert!(rt;
+            found.err() == Some(CliError::Condition(error)),
+            "{condition}"
+        );
     }
     Ok(())
 }

@@ -6,12 +6,15 @@ ghost use Rattle.cli_rows.specs.Kinds.{spec_accepts, spec_value_kind};
 
 use cli_args::Literal;
 use nest_memory::datatypes::DataType;
+use nest_memory::datatypes::floats::{Precision, precision_of};
 
 /// A kind of values.
 #[derive(Clone, Copy, Debug, PartialEq, Eq)]
 pub enum ValueKind {
     /// Numbers, by the number of their digits after the decimal point.
     Number(usize),
+    /// Floating-point numbers of a precision, as their bits.
+    Float(Precision),
     /// Strings.
     String,
     /// Booleans.
@@ -34,7 +37,10 @@ pub fn value_kind(data_type: &DataType) -> Option<ValueKind>
         | DataType::UInt64 => Some(ValueKind::Number(0)),
         DataType::Decimal(_, scale) => Some(ValueKind::Number(*scale)),
         DataType::Utf8 | DataType::LargeUtf8 => Some(ValueKind::String),
-        DataType::Extension(_, inner, _) => value_kind(inner),
+        DataType::Extension(_, inner, _) => match precision_of(data_type) {
+            Some(precision) => Some(ValueKind::Float(precision)),
+            None => value_kind(inner),
+        },
         _ => None,
     }
 }
@@ -44,7 +50,8 @@ pub fn accepts(kind: ValueKind, literal: &Literal) -> bool
     ensures { result ≡ spec_accepts kind (literal_tree literal.now) }
 {
     match (kind, literal) {
-        (ValueKind::Number(_), Literal::Number(_, _)) => true,
+        (ValueKind::Number(_), Literal::Number(_)) => true,
+        (ValueKind::Float(_), Literal::Number(_)) => true,
         (ValueKind::String, Literal::String(_)) => true,
         (ValueKind::Boolean, Literal::Boolean(_)) => true,
         _ => false,

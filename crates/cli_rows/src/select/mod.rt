@@ -5,6 +5,7 @@ mod columns;
 mod conditions;
 mod decimals;
 mod difference;
+mod floats;
 mod kinds;
 mod offsets;
 mod order;

@@ -1,6 +1,6 @@
 //! Truth as in SQL: true, false, or `None` where it is unknown.
 ghost use Rattle.std.specs.Prelude.{◌≡◌};
-ghost use Rattle.cli_rows.specs.Comparisons.{spec_holds};
+ghost use Rattle.cli_rows.specs.Comparisons.{spec_holds, spec_holds_of};
 ghost use Rattle.cli_rows.specs.Truth.{truth_and, truth_not, truth_or};
 
 use cli_args::Comparison;
@@ -39,7 +39,7 @@ pub fn or(left: Option<bool>, right: Option<bool>) -> Option<bool>
 }
 
 /// Returns whether a comparison holds of two values in this order.
-pub fn holds(comparison: Comparison, order: Ordering) -> bool
+fn holds(comparison: Comparison, order: Ordering) -> bool
     ensures { result ≡ spec_holds comparison order }
 {
     match comparison {
@@ -49,5 +49,15 @@ pub fn holds(comparison: Comparison, order: Ordering) -> bool
         Comparison::LessOrEqual => order.is_le(),
         Comparison::Greater => order.is_gt(),
         Comparison::GreaterOrEqual => order.is_ge(),
+    }
+}
+
+/// Returns whether a comparison holds of two values. `None` is the order of two that are not ordered, as with NaN.
+pub fn holds_of(comparison: Comparison, order: Option<Ordering>) -> bool
+    ensures { result ≡ spec_holds_of comparison order }
+{
+    match order {
+        Some(order) => holds(comparison, order),
+        None => matches!(comparison, Comparison::NotEqual),
     }
 }

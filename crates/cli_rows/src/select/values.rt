@@ -9,15 +9,16 @@ ghost use Rattle.nest_flat.specs.AnyNative.{native_numbers};
 ghost use Rattle.nest_flat.specs.AnyPrimitive.{primitive_layout};
 ghost use Rattle.nest_array.specs.Seen.{layout_of};
 ghost use Rattle.cli_args.specs.ConditionTrees.{literal_tree};
-ghost use Rattle.cli_rows.specs.Comparisons.{boolean_of, decimal_cmp, integer_of, spec_order, string_of};
+ghost use Rattle.cli_rows.specs.Comparisons.{boolean_of, decimal_cmp, integer_of, spec_order, spec_ordered, string_of};
 ghost use Rattle.cli_rows.specs.Conditions.{is_valid, spec_compared, truth_of};
 ghost use Rattle.cli_rows.specs.Kinds.{spec_value_kind};
 ghost use Rattle.cli_rows.specs.declared.select.kinds.ValueKind.TheVariants as kinds;
 
 use crate::select::decimals::order_of_decimals;
+use crate::select::floats::float_order;
 use crate::select::kinds::{ValueKind, value_kind};
-use crate::select::truth::holds;
-use cli_args::{Comparison, Literal};
+use crate::select::truth::holds_of;
+use cli_args::{Comparison, Literal, NumberLiteral};
 use nest_array::AnyArray;
 use nest_flat::any_native::AnyNative;
 use nest_flat::any_primitive::AnyPrimitive;
@@ -62,18 +63,22 @@ fn number_order(
     array: &AnyArray,
     i: usize,
     digits: usize,
-    literal: i128,
-    literal_digits: usize,
+    literal: &NumberLiteral,
 ) -> Option<Ordering>
     requires within { i < len (layout_of array.now) }
     requires kind { spec_value_kind (layout_type (layout_of array.now)) ≡ Some (kinds.Number digits) }
-    ensures { result ≡ option_map (λ x. decimal_cmp x digits literal literal_digits) (integer_of (slot (layout_of array.now) i)) }
+    ensures { result ≡ option_map (λ x. decimal_cmp x digits literal.now.value literal.now.digits) (integer_of (slot (layout_of array.now) i)) }
 {
     match array.as_any_primitive() {
         None => unreachable!(),
         Some(numbers) => match integer_at(numbers, i) {
             None => None,
-            Some(value) => Some(order_of_decimals(value, digits, literal, literal_digits)),
+            Some(value) => Some(order_of_decimals(
+                value,
+                digits,
+                literal.value,
+                literal.digits as usize,
+            )),
         },
     }
 }
@@ -127,17 +132,34 @@ fn boolean_order(array: &AnyArray, i: usize, literal: bool) -> Option<Ordering>
     }
 }
 
-/// Compares slot `i` with a literal. Returns `None` if it is null, or of another kind.
-fn order(array: &AnyArray, i: usize, literal: &Literal) -> Option<Ordering>
+/// Returns the order of values that are always ordered, if there is one.
+fn ordered(order: Option<Ordering>) -> Option<Option<Ordering>>
+    ensures { result ≡ spec_ordered order }
+{
+    match order {
+        None => None,
+        Some(order) => Some(Some(order)),
+    }
+}
+
+/// Compares slot `i` with a literal. Returns `None` if it is null, or of another kind, and `Some(None)` if the two are not ordered.
+fn order(array: &AnyArray, i: usize, literal: &Literal) -> Option<Option<Ordering>>
     requires { i < len (layout_of array.now) }
     ensures { result ≡ spec_order (spec_value_kind (layout_type (layout_of array.now))) (literal_tree literal.now) (slot (layout_of array.now) i) }
 {
     match (value_kind(array.data_type()), literal) {
-        (Some(ValueKind::Number(digits)), Literal::Number(number, literal_digits)) => {
-            number_order(array, i, digits, *number, *literal_digits as usize)
+        (Some(ValueKind::Number(digits)), Literal::Number(number)) => {
+            ordered(number_order(array, i, digits, number))
         }
-        (Some(ValueKind::String), Literal::String(string)) => string_order(array, i, string),
-        (Some(ValueKind::Boolean), Literal::Boolean(boolean)) => boolean_order(array, i, *boolean),
+        (Some(ValueKind::Float(precision)), Literal::Number(number)) => {
+            float_order(array, i, precision, number)
+        }
+        (Some(ValueKind::String), Literal::String(string)) => {
+            ordered(string_order(array, i, string))
+        }
+        (Some(ValueKind::Boolean), Literal::Boolean(boolean)) => {
+            ordered(boolean_order(array, i, *boolean))
+        }
         _ => None,
     }
 }
@@ -154,7 +176,7 @@ pub fn compared(
 {
     match order(array, i, literal) {
         None => None,
-        Some(order) => Some(holds(comparison, order)),
+        Some(order) => Some(holds_of(comparison, order)),
     }
 }
 
