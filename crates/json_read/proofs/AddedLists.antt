@@ -1,13 +1,13 @@
 -- Rows of items that were added over the pending items.
-use Rattle.std.proofs.Common.{◌≡◌, ℕ, zero, suc, ◌+◌, ◌*◌, ◌<◌, ◌≤◌, Bool, true, false, List, [], ◌∷◌, ◌++◌, length, drop, refl, sym, ap, ◌∙◌, subst, arith}
+use Rattle.std.proofs.Common.{◌≡◌, ℕ, zero, suc, ◌*◌, true, List, [], ◌∷◌, ◌++◌, length, drop, refl, sym, ap, ◌∙◌, arith}
 use Rattle.json_read.specs.SlotAdded.{SlotAdded, SlotsAdded}
 use Rattle.nest_build.specs.Children.{list_child, with_items}
 use Rattle.nest_any.specs.Refusals.{IsListBuilder}
-use Rattle.nest_memory.specs.TypeTree.{TypeTree, size_of}
+use Rattle.nest_memory.specs.TypeTree.{size_of}
 use Rattle.nest_model.specs.BuilderLevels.{own_slots}
-use Rattle.nest_model.specs.BuilderLevelLaws.{own-length, len-grown, items-longer, size-longer}
-use Rattle.nest_model.specs.BuilderRow.{Row, end_from, RisesFrom}
-use Rattle.nest_model.specs.BuilderTree.{BuilderTree, flat, list, fixed_size_list, dictionary, struct, builder_len, builder_type}
+use Rattle.nest_model.specs.BuilderLevelLaws.{own-length, items-longer, size-longer}
+use Rattle.nest_model.specs.BuilderRow.{end_from}
+use Rattle.nest_model.specs.BuilderTree.{BuilderTree, flat, list, fixed_size_list, dictionary, struct, builder_type}
 use Rattle.nest_model.specs.BuilderAddRow.{RowAdded, HasCompleteChildren}
 use Rattle.nest_model.specs.BuilderComplete.{IsComplete}
 use Rattle.nest_model.specs.Slot as slots

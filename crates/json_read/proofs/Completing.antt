@@ -1,6 +1,6 @@
 -- Nulls for the children that no member came to.
 use Rattle.std.specs.Prelude.{◌==◌}
-use Rattle.std.proofs.Common.{◌≡◌, ◌≢◌, ℕ, zero, suc, ◌+◌, ◌<◌, ◌≤◌, Bool, true, false, List, [], ◌∷◌, length, get_or, set, refl, sym, ap, ◌∙◌, subst, arith, inl, inr}
+use Rattle.std.proofs.Common.{◌≡◌, ℕ, zero, suc, ◌+◌, ◌<◌, ◌≤◌, false, List, [], ◌∷◌, length, get_or, set, refl, sym, ap, ◌∙◌, arith, inl, inr}
 use Rattle.std.proofs.lemmas.Bool.Decides.{eqb_tells}
 use Rattle.json_read.proofs.Feeding.{eqb-same}
 use Rattle.nest_any.specs.Each.{each}
@@ -10,7 +10,7 @@ use Rattle.nest_model.specs.BuilderAppend.{Accepted}
 use Rattle.nest_model.specs.BuilderAppendLaws.{type-accepted}
 use Rattle.nest_model.specs.BuilderItem as items
 use Rattle.nest_model.specs.BuilderAddRow.{AreEachComplete}
-use Rattle.nest_model.specs.BuilderTree.{BuilderTree, BuilderTrees, no_builders, more_builders, builder_len}
+use Rattle.nest_model.specs.BuilderTree.{BuilderTree, builder_len}
 use Rattle.nest_model.specs.BuilderComplete.{IsComplete}
 use Rattle.nest_model.specs.Slot as slots
 

@@ -26,9 +26,9 @@ use Rattle.std.specs.Str.{bytes_eq}
 use Rattle.json_read.specs.EmptyBuilders.{AreEmptyOf, HoldsEmpty, IsEmptyOf, is_float}
 use Rattle.nest_any.specs.Refusals.{AreFlat, IsOfLists, count_builders, empty_lists, first_rows, is_flat, struct_checks}
 use Rattle.json_read.specs.JsonSlots.{is_named}
-use Rattle.json_read.specs.UnsupportedTypes.{unsupported_field, unsupported_fields, has_duplicate_names, spec_is_half, spec_is_variable_size_binary, unsupported_type, first_unsupported, unsupported_if}
+use Rattle.json_read.specs.UnsupportedTypes.{unsupported_field, unsupported_fields, has_duplicate_names, spec_is_variable_size_binary, unsupported_type, first_unsupported, unsupported_if}
 use Rattle.json_read.specs.declared.error.UnsupportedTypeError.{UnsupportedTypeError}
-use Rattle.json_read.specs.declared.error.UnsupportedTypeError.TheVariants.{FloatingPoint, VariableSizeExtension, DictionaryValues, EmptyStruct, DuplicateFieldNames, ZeroSize}
+use Rattle.json_read.specs.declared.error.UnsupportedTypeError.TheVariants.{VariableSizeExtension, DictionaryValues, EmptyStruct, DuplicateFieldNames, ZeroSize}
 
 -- what a reason that is none says of its test, and of the others
 pub unless-then : (b : Bool) (e : UnsupportedTypeError) (rest : Option UnsupportedTypeError) → unsupported_if b e rest ≡ None → (b ≡ false) × (rest ≡ None)
@@ -42,8 +42,7 @@ first-then (Some e) b h = cc
 -- the storage of an extension type can be read
 storage-read : (x : Letters) (t : TypeTree) (m : Option Letters) → unsupported_type (types.extension x t m) ≡ None → (spec_is_variable_size_binary (physical_type t) ≡ false) × (unsupported_type t ≡ None)
 storage-read x t m h =
-    let binary = unsupported_if (spec_is_variable_size_binary (physical_type t)) VariableSizeExtension (unsupported_type t) in
-    unless-then (spec_is_variable_size_binary (physical_type t)) VariableSizeExtension (unsupported_type t) (unless-then (spec_is_half (types.extension x t m)) FloatingPoint binary h).1
+    unless-then (spec_is_variable_size_binary (physical_type t)) VariableSizeExtension (unsupported_type t) h
 
 -- ---- without children
 

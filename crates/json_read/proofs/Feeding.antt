@@ -13,7 +13,7 @@ use Rattle.json_read.specs.JsonSlots.{value_error, slot_named, field_slots, is_n
 use Rattle.json_read.specs.SlotAdded.{SlotAdded}
 use Rattle.json_read.specs.declared.value_error.ValueError.{ValueError}
 use Rattle.json_read.specs.declared.value_error.ValueError.TheVariants.{UnknownField, DuplicateField}
-use Rattle.nest_memory.specs.TypeTree.{Letters, FieldTree, FieldTrees, no_fields, more_fields, field_type, TypeTree}
+use Rattle.nest_memory.specs.TypeTree.{Letters, FieldTrees, no_fields, more_fields, field_type, TypeTree}
 use Rattle.nest_model.specs.BuilderLevels.{own_slots, own_slots_each, record_at, rows_of_records}
 use Rattle.nest_model.specs.BuilderLevelLaws.{own-length, len-grown}
 use Rattle.nest_model.specs.BuilderTree.{BuilderTree, BuilderTrees, struct, no_builders, more_builders, builder_len, builder_type, builder_types}

@@ -1,10 +1,15 @@
 pub mod ChildLaws
+pub mod ClosestIntegers
 mod Completing
 pub mod EmptyLaws
 mod Feeding
 mod FloatsBack
 pub mod Feeds
 mod Leaves
+pub mod HalfBack
+pub mod HalfDigits
+pub mod HalfNearest
+pub mod HalfRounding
 pub mod LineLaws
 pub mod MoreLines
 mod Named

@@ -1,5 +1,5 @@
 -- Names of fields by their places.
-use Rattle.std.specs.Prelude.{◌≢◌, bytes_eq, Option, Some, None}
+use Rattle.std.specs.Prelude.{◌≢◌, bytes_eq, Some}
 use Rattle.std.proofs.Common.{◌≡◌, ℕ, zero, suc, ◌+◌, ◌<◌, ◌≤◌, List, [], ◌∷◌, length, get_or, true, false, inl, inr, refl, sym, ap, ◌∙◌, arith}
 use Rattle.std.proofs.lemmas.Bool.{cases_lt}
 use Rattle.std.proofs.lemmas.Slice.Eq.{bytes_eq-Decides}

@@ -1,6 +1,6 @@
 -- What each call of the cycle that pushes values owes, of builders as trees.
-use Rattle.std.specs.Prelude.{◌==◌, ◌⊎◌, Option, Some, None, Result, Ok, Err, OnOk, IfErr, if◌then◌else◌}
-use Rattle.std.proofs.Common.{◌≡◌, ℕ, zero, suc, ◌+◌, ◌<◌, Bool, true, false, List, [], ◌∷◌, ◌++◌, length, map, get_or, refl, sym, ap, ◌∙◌, subst, arith, inl, inr}
+use Rattle.std.specs.Prelude.{◌==◌, ◌⊎◌, Option, Some, None, Result, Ok, Err, OnOk, IfErr}
+use Rattle.std.proofs.Common.{◌≡◌, ℕ, zero, suc, ◌<◌, true, false, List, [], ◌∷◌, ◌++◌, length, map, get_or, refl, sym, ap, ◌∙◌, subst, arith, inl, inr}
 use Rattle.std.proofs.lemmas.Bool.Decides.{eqb_tells}
 use Rattle.json.specs.Json as json
 use Rattle.json.specs.Json.{Json, Members, member, Items}
@@ -11,16 +11,16 @@ use Rattle.nest_any.specs.Refusals.{IsOfLists, count_builders, struct_bits, stru
 use Rattle.nest_any.specs.Trees.{tree_of, trees_of}
 use Rattle.nest_any.specs.declared.any.AnyMutableArray.{AnyMutableArray}
 use Rattle.json_read.specs.DistinctNames.{HasDistinctFieldNames}
-use Rattle.json_read.specs.StructMembers.{MembersAddedTo, MembersAdded, MemberAdded, NullsAdded, child_error, child_named, over_children}
+use Rattle.json_read.specs.StructMembers.{MembersAddedTo, MemberAdded, NullsAdded, child_error, child_named, over_children}
 use Rattle.json_write.specs.Formats.{format_of_type}
 use Rattle.json_write.specs.declared.format.ValueFormat.{ValueFormat}
 use Rattle.json_read.specs.FlatValues.{first_error, item_numbers, flat_error}
-use Rattle.json_read.specs.JsonSlots.{array_error, json_item_count, value_error, flat_value_error, field_slots, items_error, item_slots, values_physical_type, member_slots, members_error, object_error, list_length_error, slot_of, type_named}
+use Rattle.json_read.specs.JsonSlots.{array_error, json_item_count, value_error, flat_value_error, field_slots, items_error, item_slots, values_physical_type, members_error, object_error, list_length_error, slot_of, type_named}
 use Rattle.json_read.specs.SlotAdded.{SlotAdded, IsPushError, IsList}
 use Rattle.json_read.specs.declared.value_error.ValueError.{ValueError}
 use Rattle.json_read.specs.declared.value_error.ValueError.TheVariants.{DuplicateField, WrongLength}
 use Rattle.json_read.specs.declared.value_error.PushError.{PushError}
-use Rattle.json_read.proofs.Feeding.{fed-none, fed-whole, fed-types}
+use Rattle.json_read.proofs.Feeding.{fed-whole, fed-types}
 use Rattle.json_read.proofs.Stepping.{completed-over, completed-added, completed-whole, error-step, error-stop, fed-step}
 use Rattle.json_read.proofs.TypeParts.{list-error, list-slot, struct-lies, struct-members}
 use Rattle.nest_array.specs.SeenScalar.{shown_type}

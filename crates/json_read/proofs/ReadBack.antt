@@ -1,5 +1,5 @@
 -- What is printed of a slot without children is read as that slot.
-use Rattle.std.proofs.Common.{◌≡◌, ◌≢◌, ℕ, zero, suc, ◌+◌, ◌*◌, ◌/◌, ◌%◌, ◌^◌, ◌<◌, ◌≤◌, ◌-◌, lit≤, ℤ, pos, negsuc, neg_ℤ, List, [], ◌∷◌, ◌++◌, length, flat_map, Bool, true, false, cond, ◌&&◌, Option, Some, None, unwrap_or, refl, sym, ap, ap₂, ◌∙◌, inl, inr, arith, lt-ltb, le-ltb as ge-ltb}
+use Rattle.std.proofs.Common.{◌≡◌, ℕ, suc, ◌+◌, ◌*◌, ◌/◌, ◌%◌, ◌^◌, ◌<◌, ◌≤◌, ◌-◌, lit≤, ℤ, pos, negsuc, neg_ℤ, List, [], ◌∷◌, true, false, Some, None, unwrap_or, refl, ap, ap₂, ◌∙◌, inl, inr, arith, lt-ltb, le-ltb as ge-ltb}
 use Rattle.std.specs.Prelude.{◌==◌}
 use Rattle.std.proofs.Math.Pow.{pow_mono}
 use Rattle.std.specs.Char.{digit_char, digit_value}
@@ -11,15 +11,14 @@ use Rattle.std.proofs.lemmas.Fmt.{decimal_is_IsNumeral_wide}
 use Rattle.std.proofs.lemmas.Str.Parse.{digit_from_value}
 use borrow.Author.Tests.{ne_eqb}
 use Rattle.json.specs.Json.{number}
-use Rattle.json_read.specs.FlatValues.{Range, signed, unsigned, is_in, ranges_of, integer_error, native_error, number_error, number_in, is_hex, are_hex_pairs, bytes_of_hex}
+use Rattle.json_read.specs.FlatValues.{Range, signed, unsigned, is_in, ranges_of, integer_error, native_error, number_error, number_in, is_hex}
 use Rattle.json_read.specs.FlatRoundTrip.{AreInRange, BytesRoundTrip}
 use Rattle.json_read.specs.NativeNumbers.{numbers_in}
 use Rattle.json_read.specs.RoundTrip.{AreBytes}
-use Rattle.json_read.specs.Integers.{are_decimal_digits, integer_of}
+use Rattle.json_read.specs.Integers.{integer_of}
 use Rattle.nest_memory.specs.declared.datatypes.physical_type.PrimitiveType.{PrimitiveType}
 use Rattle.nest_memory.specs.declared.datatypes.physical_type.PrimitiveType.TheVariants as primitive
 use Rattle.json_read.proofs.Wholes.{are-digits, signed-in, unsigned-in}
-use Rattle.json_write.specs.JsonText.{hex_byte}
 use Rattle.json_write.specs.JsonTree.{tree_of_number}
 
 -- ---- numbers

@@ -9,8 +9,8 @@ use Rattle.json_read.specs.DistinctNames.{HasDistinctFieldNames, FieldsHaveDisti
 use Rattle.json_read.specs.FlatValues.{number_in, item_numbers, bytes_of_hex}
 use Rattle.json_read.specs.NativeNumbers.{numbers_in, value_numbers}
 use Rattle.json_read.specs.JsonSlots.{slot_of, item_slots, member_slots, field_slots, type_named, array_slot, string_slot}
-use Rattle.json_read.specs.RoundTrip.{AreBytes, CanRoundTrip, CanAllRoundTrip, IsReadable}
-use Rattle.json_read.proofs.FloatsBack.{float-back}
+use Rattle.json_read.specs.RoundTrip.{AreBytes, CanRoundTrip, CanAllRoundTrip}
+use Rattle.json_read.proofs.FloatsBack.{HalvesReadBack, float-back}
 use Rattle.json_read.proofs.ReadBack.{bytes-back, decimal-back}
 use Rattle.json_read.proofs.TextBack.{text-back}
 use Rattle.json_read.proofs.ValuesBack.{text-values}
@@ -25,7 +25,7 @@ use Rattle.json_write.specs.declared.format.ValueFormat.{ValueFormat}
 use Rattle.json_write.specs.declared.format.ValueFormat.TheVariants.{Float}
 use Rattle.float_text.specs.Text.{float_text, is_finite}
 use Rattle.json_write.specs.JsonText.{items_type, members_of, field_name, hex_byte}
-use Rattle.json_write.specs.TypedSlots.{EachItemNumber, EachMemberNumber, EachNumber, NumbersFitIn128Bits, IsSlotOf, AreItems, AreMembers, LacksField, HaveDistinctNames, slot_kind, numbers, lists, structs}
+use Rattle.json_write.specs.TypedSlots.{IsNotNan, EachItemNumber, EachMemberNumber, EachNumber, NumbersFitIn128Bits, IsSlotOf, AreItems, AreMembers, LacksField, HaveDistinctNames, slot_kind, numbers, lists, structs}
 use Rattle.json_write.specs.JsonTree.{tree_of_number, tree_of_numbers, tree_of_text, tree_of_value, tree_of_slot, tree_items, tree_members}
 
 -- ---- types
@@ -95,20 +95,20 @@ numbers-back z y [] h = rw (decimal z h.0, decimal y h.1.0) refl
 numbers-back z y (w ∷ zs) h = rw (decimal z h.0, numbers-back y w zs h.1) refl
 
 -- a value that is written as numbers, and one that is written as text
-plain-back : (v : ValueFormat) (zs : List ℤ) → NumbersFitIn128Bits zs → IsReadable v zs → value_numbers v (tree_of_numbers v zs) ≡ zs
-plain-back (Float p) [] b r = refl
-plain-back (Float p) (z ∷ []) b r = (float-back p z r).1
-plain-back (Float p) (z ∷ y ∷ zs) b r = numbers-back z y zs b
-plain-back v [] b r = refl
-plain-back v (z ∷ []) b r = ap (λ y. y ∷ []) (decimal z b.0)
-plain-back v (z ∷ y ∷ zs) b r = numbers-back z y zs b
+plain-back : HalvesReadBack → (v : ValueFormat) (zs : List ℤ) → NumbersFitIn128Bits zs → IsNotNan v zs → value_numbers v (tree_of_numbers v zs) ≡ zs
+plain-back back (Float p) [] b r = refl
+plain-back back (Float p) (z ∷ []) b r = (float-back back p z r).1
+plain-back back (Float p) (z ∷ y ∷ zs) b r = numbers-back z y zs b
+plain-back back v [] b r = refl
+plain-back back v (z ∷ []) b r = ap (λ y. y ∷ []) (decimal z b.0)
+plain-back back v (z ∷ y ∷ zs) b r = numbers-back z y zs b
 
-values-back : (v : ValueFormat) (zs : List ℤ) → NumbersFitIn128Bits zs → IsReadable v zs → value_numbers v (tree_of_value v zs) ≡ zs
-values-back v zs b r = go (text_of_numbers v zs) refl
+values-back : HalvesReadBack → (v : ValueFormat) (zs : List ℤ) → NumbersFitIn128Bits zs → IsNotNan v zs → value_numbers v (tree_of_value v zs) ≡ zs
+values-back back v zs b r = go (text_of_numbers v zs) refl
   where
     go : (o : Option (List ℕ)) → text_of_numbers v zs ≡ o → value_numbers v (tree_of_value v zs) ≡ zs
     go (Some s) e = ap (λ o. value_numbers v (tree_of_text o (tree_of_numbers v zs))) e ∙ text-values v zs s s e ∙ ap (λ o. unwrap_or o []) (text-back v zs s b e)
-    go None e = ap (λ o. value_numbers v (tree_of_text o (tree_of_numbers v zs))) e ∙ plain-back v zs b r
+    go None e = ap (λ o. value_numbers v (tree_of_text o (tree_of_numbers v zs))) e ∙ plain-back back v zs b r
 
 -- the JSON of native values
 abbrev IsNative : Json → Type 0
@@ -139,33 +139,33 @@ native-slot t (json.string s) h n = ap (λ k. string_slot k (format_of_type t) s
 native-slot t (json.array js) h n = ap (λ k. array_slot k (item_numbers js) (item_slots (items_type t) js)) h
 native-slot t j h n = absurd n
 
-value-back : (t : TypeTree) (zs : List ℤ) → slot_kind t ≡ numbers → NumbersFitIn128Bits zs → IsReadable (format_of_type t) zs → slot_of t (tree_of_slot t (slots.number zs)) ≡ slots.number zs
-value-back t zs h b r =
+value-back : HalvesReadBack → (t : TypeTree) (zs : List ℤ) → slot_kind t ≡ numbers → NumbersFitIn128Bits zs → IsNotNan (format_of_type t) zs → slot_of t (tree_of_slot t (slots.number zs)) ≡ slots.number zs
+value-back back t zs h b r =
     let v = format_of_type t in
-    native-slot t (tree_of_value v zs) h (text-native (text_of_numbers v zs) (tree_of_numbers v zs) (plain-native v zs)) ∙ ap slots.number (values-back v zs b r)
+    native-slot t (tree_of_value v zs) h (text-native (text_of_numbers v zs) (tree_of_numbers v zs) (plain-native v zs)) ∙ ap slots.number (values-back back v zs b r)
 
 mutual
   unfolding AllTyped named_slots
 
-  pub slot-back : (t : TypeTree) (s : Slot) → HasDistinctFieldNames t → IsSlotOf t s → CanRoundTrip s → EachNumber IsReadable t s → slot_of t (tree_of_slot t s) ≡ s
-  slot-back t slots.null a h b r = refl
-  slot-back t (slots.boolean x) a h b r = refl
-  slot-back t (slots.number zs) a h b r = value-back t zs h b r
-  slot-back t (slots.utf8 bs) a h b r = rw h refl
-  slot-back t (slots.bytes bs) a h b r = rw (h, hex bs b) refl
-  slot-back t (slots.list ss) a h b r = rw (h.0, items-back (items_type t) ss (items-apart t a h.0) h.1 b r) refl
-  slot-back t (slots.record_of ss) a h b r =
+  pub slot-back : HalvesReadBack → (t : TypeTree) (s : Slot) → HasDistinctFieldNames t → IsSlotOf t s → CanRoundTrip s → EachNumber IsNotNan t s → slot_of t (tree_of_slot t s) ≡ s
+  slot-back back t slots.null a h b r = refl
+  slot-back back t (slots.boolean x) a h b r = refl
+  slot-back back t (slots.number zs) a h b r = value-back back t zs h b r
+  slot-back back t (slots.utf8 bs) a h b r = rw h refl
+  slot-back back t (slots.bytes bs) a h b r = rw (h, hex bs b) refl
+  slot-back back t (slots.list ss) a h b r = rw (h.0, items-back back (items_type t) ss (items-apart t a h.0) h.1 b r) refl
+  slot-back back t (slots.record_of ss) a h b r =
       let p = members-apart t a h.0 in
-      rw (members-back (members_of t) (members_of t) ss (all-typed (members_of t) p.0) p.1 h.1 b r, slots-named (members_of t) ss p.0 h.1) refl
-  slot-back t (slots.pick f u s) a h b r = absurd b
+      rw (members-back back (members_of t) (members_of t) ss (all-typed (members_of t) p.0) p.1 h.1 b r, slots-named (members_of t) ss p.0 h.1) refl
+  slot-back back t (slots.pick f u s) a h b r = absurd b
 
-  items-back : (t : TypeTree) (ss : Slots) → HasDistinctFieldNames t → AreItems t ss → CanAllRoundTrip ss → EachItemNumber IsReadable t ss → item_slots t (tree_items t ss) ≡ ss
-  items-back t no_slots a h b r = refl
-  items-back t (more_slots s ss) a h b r = rw (slot-back t s a h.0 b.0 r.0, items-back t ss a h.1 b.1 r.1) refl
+  items-back : HalvesReadBack → (t : TypeTree) (ss : Slots) → HasDistinctFieldNames t → AreItems t ss → CanAllRoundTrip ss → EachItemNumber IsNotNan t ss → item_slots t (tree_items t ss) ≡ ss
+  items-back back t no_slots a h b r = refl
+  items-back back t (more_slots s ss) a h b r = rw (slot-back back t s a h.0 b.0 r.0, items-back back t ss a h.1 b.1 r.1) refl
 
-  members-back : (all fs : FieldTrees) (ss : Slots) → AllTyped all fs → FieldsHaveDistinctFieldNames fs → AreMembers fs ss → CanAllRoundTrip ss → EachMemberNumber IsReadable fs ss → member_slots all (tree_members fs ss) ≡ named_slots fs ss
-  members-back all no_fields no_slots k a h b r = refl
-  members-back all no_fields (more_slots s ss) k a h b r = absurd h
-  members-back all (more_fields f fs) no_slots k a h b r = absurd h
-  members-back all (more_fields (field n t x es) fs) (more_slots s ss) k a h b r =
-      rw (k.0, slot-back t s a.0 h.0 b.0 r.0, members-back all fs ss k.1 a.1 h.1 b.1 r.1) refl
+  members-back : HalvesReadBack → (all fs : FieldTrees) (ss : Slots) → AllTyped all fs → FieldsHaveDistinctFieldNames fs → AreMembers fs ss → CanAllRoundTrip ss → EachMemberNumber IsNotNan fs ss → member_slots all (tree_members fs ss) ≡ named_slots fs ss
+  members-back back all no_fields no_slots k a h b r = refl
+  members-back back all no_fields (more_slots s ss) k a h b r = absurd h
+  members-back back all (more_fields f fs) no_slots k a h b r = absurd h
+  members-back back all (more_fields (field n t x es) fs) (more_slots s ss) k a h b r =
+      rw (k.0, slot-back back t s a.0 h.0 b.0 r.0, members-back back all fs ss k.1 a.1 h.1 b.1 r.1) refl

@@ -1,9 +1,9 @@
 -- A record's members, one step after another, and the reasons on the way.
-use Rattle.std.specs.Prelude.{◌==◌, Option, Some, None, if◌then◌else◌}
-use Rattle.std.proofs.Common.{◌≡◌, ℕ, ◌+◌, ◌<◌, Bool, true, false, List, [], ◌∷◌, ◌++◌, length, map, refl, sym, ap, ◌∙◌, subst, arith}
+use Rattle.std.specs.Prelude.{Option, Some, None, if◌then◌else◌}
+use Rattle.std.proofs.Common.{◌≡◌, ℕ, Bool, true, List, [], ◌∷◌, ◌++◌, length, map, refl, sym, ap, ◌∙◌, subst}
 use Rattle.std.proofs.lemmas.List.{map_push}
 use Rattle.json.specs.Json.{Json, Members, member}
-use Rattle.nest_any.specs.Lent.{with_children, with_field, written_over}
+use Rattle.nest_any.specs.Lent.{written_over}
 use Rattle.nest_any.specs.Refusals.{struct_children}
 use Rattle.json_read.specs.DistinctNames.{HasDistinctFieldNames}
 use Rattle.json_read.specs.StructMembers.{MembersAddedTo, MemberAdded, NullsAdded, IsLimitError, child_error, child_named}

@@ -1,7 +1,7 @@
 -- What the types of lists and of structs are made of.
-use Rattle.std.specs.Prelude.{Option, Some, None, ◌⊎◌}
-use Rattle.std.proofs.Common.{◌≡◌, ℕ, zero, suc, true, false, List, [], ◌∷◌, ℤ, refl, sym, ap, ◌∙◌, subst, inl, inr}
-use Rattle.json.specs.Json.{Json, Items, Members}
+use Rattle.std.specs.Prelude.{Option, Some, None}
+use Rattle.std.proofs.Common.{◌≡◌, ℕ, zero, suc, true, false, List, ℤ, refl, sym, ap, ◌∙◌, subst, inl, inr}
+use Rattle.json.specs.Json.{Items}
 use Rattle.nest_any.specs.Lent.{builder_at}
 use Rattle.nest_any.specs.Refusals.{IsListBuilder, IsOfLists}
 use Rattle.nest_array.specs.SeenScalar.{shown_type}

@@ -6,10 +6,9 @@ use Rattle.json.specs.Json.{string}
 use Rattle.json_read.specs.FlatRoundTrip.{AreInRange, AreNumbersOf, NumbersRoundTrip}
 use Rattle.json_read.specs.FlatValues.{Range, signed, unsigned, is_in, are_in, first_error, error_unless, ranges_of, text_error, value_error_of}
 use Rattle.json_read.specs.NativeNumbers.{string_values, value_numbers}
-use Rattle.json_read.specs.RoundTrip.{IsReadable}
 use Rattle.json_read.specs.TextNumbers.{is_within_precision, numbers_of_text}
 use Rattle.json_read.specs.declared.value_error.ValueError.TheVariants.{InvalidText, PrecisionExceeded}
-use Rattle.json_read.proofs.FloatsBack.{float-back}
+use Rattle.json_read.proofs.FloatsBack.{HalvesReadBack, float-back}
 use Rattle.json_read.proofs.ReadBack.{numbers-back, signed-mag, unsigned-mag}
 use Rattle.json_read.proofs.TextBack.{text-back}
 use Rattle.nest_memory.specs.TypeTree.{TypeTree}
@@ -20,7 +19,7 @@ use Rattle.json_write.specs.Decimals.{decimal_text}
 use Rattle.json_write.specs.Integers256.{of_halves}
 use Rattle.json_write.specs.Formats.{format_of_type, has_format, text_of_numbers}
 use Rattle.json_write.specs.JsonTree.{tree_of_numbers, tree_of_text}
-use Rattle.json_write.specs.TypedSlots.{NumbersFitIn128Bits}
+use Rattle.json_write.specs.TypedSlots.{IsNotNan, NumbersFitIn128Bits}
 use Rattle.json_write.specs.declared.format.ValueFormat.{ValueFormat}
 use Rattle.json_write.specs.declared.format.ValueFormat.TheVariants.{Number, Decimal, Decimal256, Float}
 
@@ -82,22 +81,22 @@ halves-some : (a b : ℕ) (z y : ℤ) → is_in (unsigned 128) y ≡ true → te
 halves-some a b z y h e = false≢true (sym (ap is_some (sym (ap (λ c. if c then Some (decimal_text b (of_halves z y)) else None) h) ∙ e)))
 
 -- a value without text is read as numbers, and a float from its JSON
-plain-back : (p : PrimitiveType) (v : ValueFormat) (z : ℤ) (zs : List ℤ) → has_format p v ≡ true → AreInRange (ranges_of p) (z ∷ zs) → IsReadable v (z ∷ zs) → text_of_numbers v (z ∷ zs) ≡ None
+plain-back : HalvesReadBack → (p : PrimitiveType) (v : ValueFormat) (z : ℤ) (zs : List ℤ) → has_format p v ≡ true → AreInRange (ranges_of p) (z ∷ zs) → IsNotNan v (z ∷ zs) → text_of_numbers v (z ∷ zs) ≡ None
     → (value_error_of p v (tree_of_numbers v (z ∷ zs)) ≡ None) × (value_numbers v (tree_of_numbers v (z ∷ zs)) ≡ z ∷ zs)
-plain-back primitive.Int128 (Decimal a b) z [] h i r e = absurd (false≢true (sym (ap is_some e)))
-plain-back primitive.Int128 (Decimal a b) z (y ∷ ys) h i r e = absurd i.1
-plain-back p (Decimal a b) z zs h i r e = absurd (false≢true h)
-plain-back primitive.Int256 (Decimal256 a b) z [] h i r e = absurd i.1
-plain-back primitive.Int256 (Decimal256 a b) z (y ∷ []) h i r e = absurd (halves-some a b z y i.1.0 e)
-plain-back primitive.Int256 (Decimal256 a b) z (y ∷ x ∷ xs) h i r e = absurd i.1.1
-plain-back p (Decimal256 a b) z zs h i r e = absurd (false≢true h)
-plain-back p (Float q) z [] h i r e = float-back q z r
-plain-back p (Float q) z (y ∷ ys) h i r e = absurd (one-float p q z y ys h i)
-plain-back p v z [] h i r e = numbers-back p z [] i
-plain-back p v z (y ∷ ys) h i r e = numbers-back p z (y ∷ ys) i
+plain-back back primitive.Int128 (Decimal a b) z [] h i r e = absurd (false≢true (sym (ap is_some e)))
+plain-back back primitive.Int128 (Decimal a b) z (y ∷ ys) h i r e = absurd i.1
+plain-back back p (Decimal a b) z zs h i r e = absurd (false≢true h)
+plain-back back primitive.Int256 (Decimal256 a b) z [] h i r e = absurd i.1
+plain-back back primitive.Int256 (Decimal256 a b) z (y ∷ []) h i r e = absurd (halves-some a b z y i.1.0 e)
+plain-back back primitive.Int256 (Decimal256 a b) z (y ∷ x ∷ xs) h i r e = absurd i.1.1
+plain-back back p (Decimal256 a b) z zs h i r e = absurd (false≢true h)
+plain-back back p (Float q) z [] h i r e = float-back back q z r
+plain-back back p (Float q) z (y ∷ ys) h i r e = absurd (one-float p q z y ys h i)
+plain-back back p v z [] h i r e = numbers-back p z [] i
+plain-back back p v z (y ∷ ys) h i r e = numbers-back p z (y ∷ ys) i
 
-pub values-back : (p : PrimitiveType) (t : TypeTree) (z : ℤ) (zs : List ℤ) → AreNumbersOf p t (z ∷ zs) → NumbersRoundTrip p t (z ∷ zs)
-values-back p t z zs h = go (text_of_numbers (format_of_type t) (z ∷ zs)) refl
+pub values-back : HalvesReadBack → (p : PrimitiveType) (t : TypeTree) (z : ℤ) (zs : List ℤ) → AreNumbersOf p t (z ∷ zs) → NumbersRoundTrip p t (z ∷ zs)
+values-back back p t z zs h = go (text_of_numbers (format_of_type t) (z ∷ zs)) refl
   where
     go : (o : Option (List ℕ)) → text_of_numbers (format_of_type t) (z ∷ zs) ≡ o → NumbersRoundTrip p t (z ∷ zs)
     go (Some s) e =
@@ -113,7 +112,7 @@ values-back p t z zs h = go (text_of_numbers (format_of_type t) (z ∷ zs)) refl
     go None e =
         let v = format_of_type t in
         let plain = tree_of_numbers v (z ∷ zs) in
-        let back = plain-back p v z zs h.1 h.0 h.3 e in (
-          ap (λ o. value_error_of p v (tree_of_text o plain)) e ∙ back.0,
-          ap (λ o. value_numbers v (tree_of_text o plain)) e ∙ back.1,
+        let both = plain-back back p v z zs h.1 h.0 h.3 e in (
+          ap (λ o. value_error_of p v (tree_of_text o plain)) e ∙ both.0,
+          ap (λ o. value_numbers v (tree_of_text o plain)) e ∙ both.1,
         )

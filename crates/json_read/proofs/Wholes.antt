@@ -1,17 +1,17 @@
 -- What the kit reads of digits is what a whole number is.
-use Rattle.std.proofs.Common.{◌≡◌, ◌≢◌, ℕ, zero, suc, ◌+◌, ◌-◌, ◌*◌, ◌^◌, ◌<◌, ◌≤◌, ℤ, pos, negsuc, neg_ℤ, List, [], ◌∷◌, length, drop, get_or, Bool, true, false, cond, not, ◌&&◌, ltb, Option, Some, None, is_some, unwrap_or, Result, Ok, Err, IsTrue, refl, sym, ap, subst, ◌∙◌, inl, inr, ◌⊎◌, arith, rules, lt-ltb, le-ltb, lit<}
+use Rattle.std.proofs.Common.{◌≡◌, ◌≢◌, ℕ, zero, suc, ◌-◌, ◌^◌, ◌<◌, ◌≤◌, ℤ, pos, negsuc, neg_ℤ, List, [], ◌∷◌, drop, get_or, Bool, true, false, cond, not, ◌&&◌, ltb, Option, Some, None, is_some, unwrap_or, refl, sym, ap, subst, ◌∙◌, arith, rules, lt-ltb, le-ltb, lit<}
 use Rattle.std.specs.Prelude.{int_lt, ◌==◌}
-use Rattle.std.specs.Char.{digit_value, is_ascii_digit}
+use Rattle.std.specs.Char.{is_ascii_digit}
 use Rattle.std.specs.Int.Signed.{mag}
 use Rattle.std.specs.List.{list_all}
-use Rattle.std.specs.Str.Parse.{AllDigits, IsNumeral, ParsesSigned, ParsesUnsigned, digits_value, signed_digits_value, without_leading_plus, without_leading_sign}
+use Rattle.std.specs.Str.Parse.{IsNumeral, digits_value, signed_digits_value, without_leading_plus, without_leading_sign}
 use Rattle.std.proofs.Math.Pow.{pow_mono}
 use Rattle.std.proofs.lemmas.Bool.Decides.{nat_tests}
 use Rattle.std.proofs.lemmas.Int.{to_z-of_z}
 use Rattle.std.proofs.lemmas.Nat.{pow_pos}
 use Rattle.std.proofs.lemmas.Str.Parse.{digit_from_value, numerals_by_value, IsDigitsTest, IsNumeralModel}
 use borrow.Author.Tests.{ltb-true, ne_eqb}
-use mir.Syntax.{Width, w64, w128}
+use mir.Syntax.{Width, w64}
 use mir.Val.{SFits, hbits, to_z, of_z}
 use Rattle.json.specs.Json as json
 use Rattle.json.specs.Json.{Json, number}
@@ -19,7 +19,7 @@ use Rattle.json_read.specs.FlatValues.{Range, signed, unsigned, is_in, error_unl
 use Rattle.json_read.specs.NativeNumbers.{spec_range_error}
 use Rattle.json_read.specs.Integers.{are_decimal_digits, integer_of}
 use Rattle.json_read.specs.declared.value_error.ValueError.{ValueError}
-use Rattle.json_read.specs.declared.value_error.ValueError.TheVariants.{WrongType, NotAnInteger, OutOfRange}
+use Rattle.json_read.specs.declared.value_error.ValueError.TheVariants.{NotAnInteger, OutOfRange}
 
 tells : IsDigitsTest (λ ds. list_all is_ascii_digit ds ≡ true)
 tells = search rules

@@ -1,7 +1,7 @@
 -- JSON values as slots without children, and their errors. Literals are booleans. A number is a native value of one number, an array of
 -- integers one of several, and a string one that is written as text. Other strings are UTF-8, or binary data as pairs of hexadecimal
 -- digits.
-use Rattle.std.specs.Prelude.{ℕ, suc, ◌*◌, ◌+◌, ◌-◌, ◌^◌, ℤ, pos, neg_ℤ, List, [], ◌∷◌, Bool, true, false, nat_lt, int_lt, ◌==◌, ◌&&◌, not, length, Option, Some, None, is_some, unwrap_or, if◌then◌else◌}
+use Rattle.std.specs.Prelude.{ℕ, ◌*◌, ◌+◌, ◌-◌, ◌^◌, ℤ, pos, neg_ℤ, List, [], ◌∷◌, Bool, true, false, nat_lt, int_lt, ◌==◌, ◌&&◌, not, length, Option, Some, None, is_some, unwrap_or, if◌then◌else◌}
 use Rattle.std.specs.Char.{digit_value}
 use Rattle.json.specs.Json as json
 use Rattle.json.specs.Json.{Json, Items, no_items, item}
@@ -11,7 +11,6 @@ use Rattle.json_read.specs.TextNumbers.{numbers_of_text, is_within_precision}
 use Rattle.json_read.specs.declared.value_error.ValueError.{ValueError}
 use Rattle.json_read.specs.declared.value_error.ValueError.TheVariants.{WrongType, NotAnInteger, OutOfRange, InvalidText, PrecisionExceeded, InvalidHex, WrongLength}
 use Rattle.nest_memory.specs.declared.datatypes.floats.Precision.{Precision}
-use Rattle.nest_memory.specs.declared.datatypes.floats.Precision.TheVariants.{Half}
 use Rattle.nest_memory.specs.declared.datatypes.physical_type.PhysicalType.{PhysicalType}
 use Rattle.nest_memory.specs.declared.datatypes.physical_type.PhysicalType.TheVariants as physical
 use Rattle.nest_memory.specs.declared.datatypes.physical_type.PrimitiveType.{PrimitiveType}
@@ -105,7 +104,6 @@ text_error v rs (Some zs) = first_error (error_unless (are_in rs zs) InvalidText
 
 -- a number past the range, or a string that is no name of a number
 abbrev pub float_error : Precision → Json → Option ValueError
-float_error Half j = Some WrongType
 float_error p (json.number s) = error_unless (is_some (float_bits_of p (json.number s))) OutOfRange
 float_error p (json.string s) = error_unless (is_some (float_bits_of p (json.string s))) InvalidText
 float_error p j = Some WrongType

@@ -1,5 +1,5 @@
 -- Floating-point numbers from JSON, by their bits: a JSON number, rounded to the nearest, at a tie to even, or the string "NaN", "Infinity" or
--- "-Infinity". A half cannot be read.
+-- "-Infinity".
 use Rattle.std.specs.Prelude.{ℕ, ℤ, pos, ◌||◌, Bool, List, [], ◌∷◌, bytes_eq, codes, Option, Some, None, if◌then◌else◌}
 use Rattle.std.specs.Float.Ieee.{Format, to_bits}
 use Rattle.std.specs.Float.Parse.{parse_float}
@@ -7,6 +7,7 @@ use Rattle.std.specs.Option.{option_map}
 use Rattle.float_text.specs.Text.{is_finite}
 use Rattle.json.specs.Json as json
 use Rattle.json.specs.Json.{Json}
+use Rattle.json_read.specs.HalfNumbers.{half_name_bits, half_number_bits}
 use Rattle.json_write.specs.Floats.{float_format}
 use Rattle.nest_memory.specs.declared.datatypes.floats.Precision.{Precision}
 use Rattle.nest_memory.specs.declared.datatypes.floats.Precision.TheVariants.{Half}
@@ -30,10 +31,17 @@ spec_is_float_name s = bytes_eq s (codes "NaN") || (bytes_eq s (codes "Infinity"
 abbrev pub name_bits : Format → List ℕ → Option ℕ
 name_bits f s = if spec_is_float_name s then text_bits f s else None
 
+abbrev pub number_bits_of : Precision → List ℕ → Option ℕ
+number_bits_of Half s = half_number_bits s
+number_bits_of p s = number_bits (float_format p) s
+
+abbrev pub name_bits_of : Precision → List ℕ → Option ℕ
+name_bits_of Half s = half_name_bits s
+name_bits_of p s = name_bits (float_format p) s
+
 abbrev pub float_bits_of : Precision → Json → Option ℕ
-float_bits_of Half j = None
-float_bits_of p (json.number s) = number_bits (float_format p) s
-float_bits_of p (json.string s) = name_bits (float_format p) s
+float_bits_of p (json.number s) = number_bits_of p s
+float_bits_of p (json.string s) = name_bits_of p s
 float_bits_of p j = None
 
 -- the bits as the number of a native value

@@ -6,6 +6,9 @@ pub mod StructMembers
 pub mod FlatValues
 pub mod FloatValues
 pub mod FloatExamples
+pub mod HalfNumbers
+pub mod HalfExamples
+pub mod ScaledNumbers
 pub mod FlatRoundTrip
 pub mod JsonLines
 pub mod JsonSlots

@@ -1,5 +1,5 @@
 -- The child builders of a struct builder while the members of an object are added.
-use Rattle.std.specs.Prelude.{◌≡◌, ◌≢◌, ◌==◌, ◌||◌, ◌<◌, ℕ, zero, suc, Bool, true, false, bytes_eq, if◌then◌else◌, List, [], ◌∷◌, Option, Some, None}
+use Rattle.std.specs.Prelude.{◌≡◌, ◌≢◌, ◌==◌, ◌||◌, ℕ, zero, suc, Bool, true, false, bytes_eq, if◌then◌else◌, List, [], ◌∷◌, Option, Some, None}
 use Rattle.json.specs.Json.{Json, Members}
 use Rattle.nest_any.specs.Lent.{builder_at, with_field}
 use Rattle.nest_any.specs.Refusals.{struct_children}

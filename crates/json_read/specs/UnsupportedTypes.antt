@@ -6,12 +6,9 @@ use Rattle.json_read.specs.declared.error.NewBuilderError.TheVariants as builder
 use Rattle.json_read.specs.declared.error.UnsupportedTypeError.{UnsupportedTypeError}
 use Rattle.json_read.specs.declared.error.UnsupportedTypeError.TheVariants.{FloatingPoint, Map, Union, DuplicateFieldNames, EmptyStruct, ZeroSize, DictionaryValues, VariableSizeExtension}
 use Rattle.nest_any.specs.Refusals.{is_flat}
-use Rattle.nest_memory.specs.Floats.{spec_precision_of}
 use Rattle.nest_memory.specs.Physical.{physical_type}
 use Rattle.nest_memory.specs.TypeTree as types
 use Rattle.nest_memory.specs.TypeTree.{Letters, TypeTree, FieldTree, field, FieldTrees, no_fields, more_fields, count_fields}
-use Rattle.nest_memory.specs.declared.datatypes.floats.Precision.{Precision}
-use Rattle.nest_memory.specs.declared.datatypes.floats.Precision.TheVariants.{Half}
 use Rattle.nest_memory.specs.declared.datatypes.physical_type.PhysicalType.{PhysicalType}
 use Rattle.nest_memory.specs.declared.datatypes.physical_type.PhysicalType.TheVariants as physical
 use Rattle.json_write.specs.JsonText.{field_name}
@@ -23,14 +20,6 @@ spec_is_variable_size_binary physical.LargeBinary = true
 spec_is_variable_size_binary physical.Utf8 = true
 spec_is_variable_size_binary physical.LargeUtf8 = true
 spec_is_variable_size_binary _ = false
-
-abbrev pub is_half_precision : Option Precision → Bool
-is_half_precision (Some Half) = true
-is_half_precision _ = false
-
--- floating-point numbers of 16 bits, which are written but cannot be read
-abbrev pub spec_is_half : TypeTree → Bool
-spec_is_half t = is_half_precision (spec_precision_of t)
 
 -- two fields have the same name
 abbrev pub has_duplicate_names : FieldTrees → Bool
@@ -58,8 +47,7 @@ abbrev mutual
   unsupported_type (types.union fs ids mode) = Some Union
   unsupported_type (types.map f b) = Some Map
   unsupported_type (types.dictionary k t b) = unsupported_if (not (is_flat (physical_type t))) DictionaryValues (unsupported_type t)
-  unsupported_type (types.extension n t m) =
-      unsupported_if (spec_is_half (types.extension n t m)) FloatingPoint (unsupported_if (spec_is_variable_size_binary (physical_type t)) VariableSizeExtension (unsupported_type t))
+  unsupported_type (types.extension n t m) = unsupported_if (spec_is_variable_size_binary (physical_type t)) VariableSizeExtension (unsupported_type t)
   unsupported_type t = None
 
   pub unsupported_field : FieldTree → Option UnsupportedTypeError

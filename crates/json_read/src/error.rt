@@ -9,7 +9,7 @@ use thiserror::Error;
 /// A data type whose values cannot be read from JSON.
 #[derive(Clone, Copy, Debug, PartialEq, Eq, Error)]
 pub enum UnsupportedTypeError {
-    /// A half-precision floating-point type, or the type of a float array, of which none can be built.
+    /// The data type of a float array, of which none can be built. The types that `float_type` returns can be read.
     #[error("floating-point type")]
     FloatingPoint,
     /// A map.

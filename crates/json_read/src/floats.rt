@@ -9,6 +9,7 @@ ghost use Rattle.json_write.specs.Formats.{has_format};
 ghost use Rattle.json_write.specs.declared.format.ValueFormat.TheVariants.{Float};
 ghost use Rattle.nest_memory.specs.declared.datatypes.physical_type.PrimitiveType.{PrimitiveType};
 
+use crate::half_numbers::{half_of_name, half_of_number};
 use crate::value_error::ValueError;
 use float_text::is_finite;
 use json::Value;
@@ -21,7 +22,7 @@ use std::num::{f32_to_bits_with_nan, f64_to_bits_with_nan};
 /// # Errors
 /// - `OutOfRange`: the JSON number is past the range.
 /// - `InvalidText`: a string other than `NaN`, `Infinity` and `-Infinity`.
-/// - `WrongType`: any other JSON value, and any value if the precision is `Half`, which cannot be read.
+/// - `WrongType`: any other JSON value.
 pub(crate) fn float_of(precision: Precision, value: &Value<'_>) -> Result<AnyNative, ValueError>
     ensures { (k : PrimitiveType) → has_format k (Float precision) ≡ true → ReadsNativeValue k (Float precision) (value_view value.now) result }
 {
@@ -37,7 +38,10 @@ fn float_of_number(precision: Precision, text: &str) -> Result<AnyNative, ValueE
     ensures { (k : PrimitiveType) → has_format k (Float precision) ≡ true → ReadsNativeValue k (Float precision) (number text.now) result }
 {
     match precision {
-        Precision::Half => Err(ValueError::WrongType),
+        Precision::Half => match half_of_number(text.as_bytes()) {
+            Some(bits) => Ok(AnyNative::UInt16(bits)),
+            None => Err(ValueError::OutOfRange),
+        },
         Precision::Single => match finite_single(text) {
             Some(bits) => Ok(AnyNative::UInt32(bits)),
             None => Err(ValueError::OutOfRange),
@@ -54,7 +58,10 @@ pub(crate) fn float_of_name(precision: Precision, text: &str) -> Result<AnyNativ
     ensures { (k : PrimitiveType) → has_format k (Float precision) ≡ true → ReadsNativeValue k (Float precision) (string text.now) result }
 {
     match precision {
-        Precision::Half => Err(ValueError::WrongType),
+        Precision::Half => match half_of_name(text) {
+            Some(bits) => Ok(AnyNative::UInt16(bits)),
+            None => Err(ValueError::InvalidText),
+        },
         Precision::Single => match named_single(text) {
             Some(bits) => Ok(AnyNative::UInt32(bits)),
             None => Err(ValueError::InvalidText),

@@ -1,12 +1,13 @@
 //! Properties of reading JSON, as functions with empty bodies: what `json_write` writes is read as the same slots.
-ghost use Rattle.std.specs.Prelude.{◌≡◌, ℕ, ℤ, List, [], ◌∷◌, None, Some, codes, negsuc, pos, true};
+ghost use Rattle.std.specs.Prelude.{◌≡◌, ◌≢◌, ◌*◌, ◌%◌, ◌<◌, ◌≤◌, ◌↔◌, ℕ, ℤ, List, [], ◌∷◌, None, Some, codes, negsuc, pos, true};
 ghost use Rattle.json.specs.Json.{array, item, member, no_items, no_members, null, number, object, string};
 ghost use Rattle.json_read.specs.FlatValues.{bytes_of_hex, hex_error, native_error, number_in, ranges_of};
 ghost use Rattle.json_read.specs.FlatRoundTrip.{AreNumbersOf, BytesRoundTrip, NumbersRoundTrip};
 ghost use Rattle.json_read.specs.DistinctNames.{HasDistinctFieldNames};
 ghost use Rattle.json_read.specs.Examples.{struct_type, tags_and_id, id_and_tags};
+ghost use Rattle.json_read.specs.HalfNumbers.{distance, nearest_half};
 ghost use Rattle.json_read.specs.JsonSlots.{value_error, slot_of};
-ghost use Rattle.json_read.specs.RoundTrip.{AreBytes, CanRoundTrip, HasReadableFloats};
+ghost use Rattle.json_read.specs.RoundTrip.{AreBytes, CanRoundTrip};
 ghost use Rattle.json_read.specs.declared.value_error.ValueError.TheVariants.{InvalidHex, NotAnInteger, WrongType, OutOfRange, DuplicateField, UnknownField, WrongLength};
 ghost use Rattle.nest_memory.specs.TypeTree as types;
 ghost use Rattle.nest_memory.specs.TypeTree.{TypeTree, field};
@@ -14,24 +15,28 @@ ghost use Rattle.nest_memory.specs.declared.datatypes.physical_type.PrimitiveTyp
 ghost use Rattle.nest_memory.specs.declared.datatypes.physical_type.PrimitiveType.TheVariants.{Int8, UInt8};
 ghost use Rattle.nest_model.specs.Slot as slots;
 ghost use Rattle.nest_model.specs.Slot.{Slot, more_slots, no_slots};
-ghost use Rattle.json_write.specs.TypedSlots.{IsSlotOf};
+ghost use Rattle.json_write.specs.TypedSlots.{IsSlotOf, LacksNan};
 ghost use Rattle.json_write.specs.JsonTree.{tree_of_slot};
 
 /// The numbers of a native value are read back from their JSON text: a number, an array of numbers or a string, as the data type has it.
-/// A floating-point number must be neither NaN nor a half.
+/// A floating-point number must not be NaN, which has one text for all payloads.
 pub fn numbers_round_trip()
     ensures { (p : PrimitiveType) (t : TypeTree) (z : ℤ) (zs : List ℤ) → AreNumbersOf p t (z ∷ zs) → NumbersRoundTrip p t (z ∷ zs) }
-{}
+{
+    float_text::laws::half_text_reads_back();
+}
 
 /// Bytes are read back from their hexadecimal digits.
 pub fn bytes_round_trip()
     ensures { (bs : List ℕ) → AreBytes bs → BytesRoundTrip bs }
 {}
 
-/// The JSON value that is written for a slot is read as that slot. A floating-point number must be neither NaN nor a half.
+/// The JSON value that is written for a slot is read as that slot. A floating-point number must not be NaN.
 pub fn slots_round_trip()
-    ensures { (t : TypeTree) (s : Slot) → HasDistinctFieldNames t → IsSlotOf t s → CanRoundTrip s → HasReadableFloats t s → slot_of t (tree_of_slot t s) ≡ s }
-{}
+    ensures { (t : TypeTree) (s : Slot) → HasDistinctFieldNames t → IsSlotOf t s → CanRoundTrip s → LacksNan t s → slot_of t (tree_of_slot t s) ≡ s }
+{
+    float_text::laws::half_text_reads_back();
+}
 
 /// `{"tags":["a"],"id":1}` as a struct of `id` and `tags`, and `{}`, which has neither.
 pub fn members_in_any_order()
@@ -69,4 +74,15 @@ pub fn hexadecimal_bytes()
     ensures none { hex_error [] ≡ None }
     ensures odd { hex_error (codes "0") ≡ Some InvalidHex }
     ensures letter { hex_error (codes "0g") ≡ Some InvalidHex }
+{}
+
+/// No half, and not 2^16 after the largest one, is nearer to a number than the half that the number is read as. Where two are as near, its bits are even.
+pub fn halves_are_nearest()
+    ensures nearest { (num den half : ℕ) → 0 < den → distance num den (nearest_half num den) ≤ distance num den half }
+    ensures even_at_ties { (num den half : ℕ) → 0 < den → half ≢ nearest_half num den → distance num den (nearest_half num den) ≡ distance num den half → nearest_half num den % 2 ≡ 0 }
+{}
+
+/// A number is out of the range of halves from 65520 on, which is half way from the largest half to 2^16.
+pub fn range_of_halves()
+    ensures { (num den : ℕ) → 0 < den → (nearest_half num den < 31_744) ↔ (num < 65_520 * den) }
 {}

@@ -8,6 +8,7 @@ mod error;
 mod fields;
 mod flat;
 mod floats;
+mod half_numbers;
 mod hexadecimal;
 pub mod laws;
 mod line_split;

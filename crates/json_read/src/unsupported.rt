@@ -1,6 +1,6 @@
 //! Data types whose values cannot be read from JSON, checked before a builder is made.
 ghost use Rattle.std.specs.Prelude.{◌≡◌, IfErr, IfOk, IsOkUnless, None, OnOk};
-ghost use Rattle.json_read.specs.UnsupportedTypes.{IsNewBuilderError, unsupported_field, unsupported_fields, has_duplicate_names, spec_is_half, spec_is_variable_size_binary, unsupported_type};
+ghost use Rattle.json_read.specs.UnsupportedTypes.{IsNewBuilderError, unsupported_field, unsupported_fields, has_duplicate_names, spec_is_variable_size_binary, unsupported_type};
 ghost use Rattle.nest_any.specs.Words.{is_flat};
 ghost use Rattle.json_write.specs.JsonText.{field_name};
 ghost use Rattle.json_read.specs.declared.error.NewBuilderError.TheVariants.{Memory};
@@ -11,7 +11,6 @@ ghost use Rattle.nest_memory.specs.TypeTree as types;
 use crate::error::{NewBuilderError, UnsupportedTypeError};
 use nest_memory::datatypes::DataType;
 use nest_memory::datatypes::field::Field;
-use nest_memory::datatypes::floats::{Precision, precision_of};
 use nest_memory::datatypes::physical_type::PhysicalType;
 use std::alloc::Global;
 use std::collections::BTreeSet;
@@ -48,9 +47,6 @@ pub(crate) fn check_type(alloc: Global, data_type: &DataType) -> Result<(), NewB
             check_type(alloc, values)
         }
         DataType::Extension(_name, inner, _metadata) => {
-            if is_half(data_type) {
-                return Err(NewBuilderError::Type(UnsupportedTypeError::FloatingPoint));
-            }
             if is_variable_size_binary(inner.to_physical_type()) {
                 return Err(NewBuilderError::Type(UnsupportedTypeError::VariableSizeExtension));
             }
@@ -124,13 +120,6 @@ fn name_of(field: &Field) -> &str
     ensures { result.now ≡ field_name (field_of field.now) }
 {
     field.name.as_str()
-}
-
-// Returns whether the values of the type are half-precision floating-point numbers.
-fn is_half(data_type: &DataType) -> bool
-    ensures { result ≡ spec_is_half (type_of data_type.now) }
-{
-    matches!(precision_of(data_type), Some(Precision::Half))
 }
 
 // Returns whether the type is variable-size binary or UTF-8.

@@ -2,8 +2,8 @@
 ghost use Rattle.std.specs.Prelude.{◌*◌, ◌<◌};
 ghost use Rattle.std.specs.Float.Ieee.{top};
 
-use float_text::{FloatFormat, is_finite, write_float};
-use json_read::{JsonReadError, LineError, UnsupportedTypeError, ValueError, read_json_lines};
+use float_text::{FloatFormat, is_finite, single_of_half, write_float};
+use json_read::{JsonReadError, LineError, ValueError, read_json_lines};
 use json_write::Json;
 use nest_array::AnyArray;
 use nest_flat::any_native::AnyNative;
@@ -36,6 +36,7 @@ fn bits_of(array: &AnyArray) -> Option<u64> {
         return None;
     }
     match array.value(0) {
+        AnyNative::UInt16(bits) => Some(u64::from(bits)),
         AnyNative::UInt32(bits) => Some(u64::from(bits)),
         AnyNative::UInt64(bits) => Some(bits),
         _ => None,
@@ -117,13 +118,137 @@ fn invalid_numbers_are_rejected(rt: HostRuntime) -> Result<(), Fail> {
     Ok(())
 }
 
-/// Halves cannot be read.
+/// Numbers as the nearest half, or as none past the range. The bits were computed with exact fractions in Python. Seven of these numbers are
+/// another half, or past the range, if they are rounded to a double first.
 #[test]
-fn halves_are_rejected(rt: HostRuntime) -> Result<(), Fail> {
-    match read(rt.alloc(), Precision::Half, "1.5")? {
-        Ok(_) => assert!(&rt; false),
-        Err(error) => {
-            assert!(&rt; error == JsonReadError::Type(UnsupportedTypeError::FloatingPoint));
+fn halves_are_rounded_once(rt: HostRuntime) -> Result<(), Fail> {
+    for (text, bits) in [
+        ("1", Some(0x3c00)),
+        ("-1", Some(0xbc00)),
+        ("1.5", Some(0x3e00)),
+        ("0.1", Some(0x2e66)),
+        ("0.333", Some(0x3554)),
+        ("1e0", Some(0x3c00)),
+        ("100E-2", Some(0x3c00)),
+        ("0.0", Some(0x0000)),
+        ("-0.0", Some(0x8000)),
+        ("-0", Some(0x8000)),
+        ("0e999999999999999999999", Some(0x0000)),
+        ("65504", Some(0x7bff)),
+        ("-65504", Some(0xfbff)),
+        ("65519.99", Some(0x7bff)),
+        ("65519.999999999999999999999999999999", Some(0x7bff)),
+        ("65520", None),
+        ("-65520", None),
+        ("65520.0", None),
+        ("65536", None),
+        ("1e5", None),
+        ("1e400", None),
+        ("-1e99999999999999999999999", None),
+        ("5.9604644775390625e-8", Some(0x0001)),
+        ("2.98023223876953125e-8", Some(0x0000)),
+        ("2.98023223876953125000000000000000001e-8", Some(0x0001)),
+        ("2.9802322387695312499999999999999999e-8", Some(0x0000)),
+        ("8.94069671630859375e-8", Some(0x0002)),
+        ("8.940696716308593750000000000000000000001e-8", Some(0x0002)),
+        ("0.00000002980232238769531250000000000001", Some(0x0001)),
+        ("1e-8", Some(0x0000)),
+        ("1e-400", Some(0x0000)),
+        ("1e-99999999999999999999999", Some(0x0000)),
+        ("-1e-99999999999999999999999", Some(0x8000)),
+        ("2049", Some(0x6800)),
+        ("2049.0000000000000001", Some(0x6801)),
+        ("2048.9999999999999999", Some(0x6800)),
+        ("2050", Some(0x6801)),
+        ("2051", Some(0x6802)),
+        ("2051.0000000000000001", Some(0x6802)),
+        ("2050.9999999999999999", Some(0x6801)),
+        ("4097", Some(0x6c00)),
+        ("4098", Some(0x6c00)),
+        ("4099", Some(0x6c01)),
+        ("4102", Some(0x6c02)),
+        ("4102.000000000000000000000000000000000000000000000000001", Some(0x6c02)),
+        ("0.00006103515625", Some(0x0400)),
+        ("0.000061035156249", Some(0x0400)),
+        ("0.00006097555160522461", Some(0x03ff)),
+        ("0.00006100535392761230468749", Some(0x03ff)),
+        ("0.00006100535392761230468750", Some(0x0400)),
+        ("0.00006100535392761230468751", Some(0x0400)),
+        ("1000.25", Some(0x63d0)),
+        ("1000.75", Some(0x63d2)),
+        ("0.5000000000000000000000000000000000000000001", Some(0x3800)),
+        ("0.50024414062500000000000000000000001", Some(0x3801)),
+        ("0.500244140625", Some(0x3800)),
+        ("0.50073242187500", Some(0x3802)),
+        ("0.50073242187499999999999999999999999", Some(0x3801)),
+        ("33333.3333333333333333", Some(0x7812)),
+        ("12345678901234567890e-16", Some(0x64d3)),
+    ] {
+        let found = read_bits(rt.alloc(), Precision::Half, text)?;
+        assert!(&rt; found == bits, "{text}: {found:?}");
+    }
+    Ok(())
+}
+
+/// Names, numbers past the range, and other values, for halves.
+#[test]
+fn names_of_halves_are_read(rt: HostRuntime) -> Result<(), Fail> {
+    for (text, bits) in [
+        ("\"NaN\"", 0x7e00u64),
+        ("\"Infinity\"", 0x7c00),
+        ("\"-Infinity\"", 0xfc00),
+    ] {
+        let found = read_bits(rt.alloc(), Precision::Half, text)?;
+        assert!(&rt; found == Some(bits), "{text}: {found:?}");
+    }
+    for (text, want) in [
+        ("65520", ValueError::OutOfRange),
+        ("-1e400", ValueError::OutOfRange),
+        ("\"inf\"", ValueError::InvalidText),
+        ("\"1.5\"", ValueError::InvalidText),
+        ("true", ValueError::WrongType),
+        ("[1.5]", ValueError::WrongType),
+    ] {
+        match read(rt.alloc(), Precision::Half, text)? {
+            Ok(_) => assert!(&rt; false, "{text}"),
+            Err(error) => assert!(&rt;
+                error
+                    == JsonReadError::Line {
+                        line: 0,
+                        reason: LineError::Value(want)
+                    },
+                "{text}: {error}"
+            ),
+        }
+    }
+    Ok(())
+}
+
+/// Each half but the NaNs is read from its text.
+#[test]
+fn all_halves_round_trip(rt: HostRuntime) -> Result<(), Fail> {
+    let alloc = rt.alloc();
+    let mut text = String::new(alloc);
+    for bits in 0..=u16::MAX {
+        if bits % 0x8000 <= 0x7c00 {
+            let line = format!(in alloc; "{}\n", Number::Half(bits))?;
+            text.push_str(line.as_str())?;
+        }
+    }
+    let array = match read(alloc, Precision::Half, text.as_str())? {
+        Ok(AnyArray::Primitive(array)) => array,
+        _ => {
+            assert!(&rt; false);
+            return Ok(());
+        }
+    };
+    assert!(&rt; array.len() == 2 * 0x7c01);
+    let mut index = 0;
+    for bits in 0..=u16::MAX {
+        if bits % 0x8000 <= 0x7c00 {
+            let found = array.value(index);
+            assert!(&rt; found == AnyNative::UInt16(bits), "{bits}: {found:?}");
+            index += 1;
         }
     }
     Ok(())
@@ -134,14 +259,16 @@ fn halves_are_rejected(rt: HostRuntime) -> Result<(), Fail> {
 fn rows_round_trip(rt: HostRuntime) -> Result<(), Fail> {
     let alloc = rt.alloc();
     let text = "1.5\n\"NaN\"\nnull\n\"-Infinity\"\n-0.0\n0.1\n";
-    for precision in [Precision::Single, Precision::Double] {
+    for (precision, last) in [
+        (Precision::Half, "0.099975586"),
+        (Precision::Single, "0.1"),
+        (Precision::Double, "0.1"),
+    ] {
         match read(alloc, precision, text)? {
             Ok(array) => {
                 let found = format!(in alloc; "{}", Json::of(&array))?;
-                assert!(&rt;
-                    found.as_str() == "[1.5,\"NaN\",null,\"-Infinity\",-0.0,0.1]",
-                    "{found}"
-                );
+                let want = format!(in alloc; "[1.5,\"NaN\",null,\"-Infinity\",-0.0,{last}]")?;
+                assert!(&rt; found == want, "{found}");
             }
             Err(error) => assert!(&rt; false, "{error}"),
         }
@@ -152,6 +279,7 @@ fn rows_round_trip(rt: HostRuntime) -> Result<(), Fail> {
 /// A number as JSON.
 #[derive(Clone, Copy)]
 enum Number {
+    Half(u16),
     Single(u32),
     Double(u64),
 }
@@ -170,6 +298,7 @@ fn write_bits<F: FloatFormat, W: fmt::Write>(f: &mut Formatter<W>, bits: u64) ->
 impl Display for Number {
     fn fmt<W: fmt::Write>(&self, f: &mut Formatter<W>) -> fmt::Result {
         match *self {
+            Number::Half(bits) => write_bits::<f32, W>(f, u64::from(single_of_half(bits))),
             Number::Single(bits) => write_bits::<f32, W>(f, u64::from(bits)),
             Number::Double(bits) => write_bits::<f64, W>(f, bits),
         }

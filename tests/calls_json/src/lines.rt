@@ -449,16 +449,6 @@ fn types_are_rejected(rt: HostRuntime) -> Result<(), Fail> {
         &rt,
         &[
             (
-                "halffloat",
-                "",
-                "cannot be read from JSON: floating-point type",
-            ),
-            (
-                "list<item: halffloat>",
-                "",
-                "cannot be read from JSON: floating-point type",
-            ),
-            (
                 "map<string, int8>",
                 "",
                 "cannot be read from JSON: map type",
