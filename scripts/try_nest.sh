@@ -26,7 +26,7 @@ printf 'a,b\n1,2\n' >"$room/csv"
 # The messages of the crates of the IPC formats.
 text='not an Arrow IPC file or stream: it looks like CSV or text'
 negative='metadata length of a message is negative'
-truncated='compressed buffer is truncated'
+truncated='column "a": compressed buffer is truncated'
 magic='file does not begin and end with ARROW1'
 
 # expect STATUS OUTPUT MESSAGE ARGUMENT ..

@@ -21,6 +21,7 @@ mod LastRows
 mod StreamTails
 mod FileTails
 mod Counted
+mod FirstErrors
 mod InputSchemas
 mod TailLaws
 mod CountLaws

@@ -17,6 +17,7 @@ pub mod TakeSteps
 pub mod CompareSteps
 pub mod Counts
 pub mod CountSteps
+pub mod FirstErrors
 pub mod InputSchemas
 pub mod Tails
 pub mod TailSteps

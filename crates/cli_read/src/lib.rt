@@ -6,6 +6,7 @@
 mod by_index;
 mod comparison;
 mod counting;
+mod failures;
 mod input;
 pub mod laws;
 mod printer;
@@ -17,6 +18,7 @@ mod tail;
 pub use by_index::{take, take_encoded, take_lines};
 pub use comparison::{CompareError, compare};
 pub use counting::{count_lines, count_rows};
+pub use failures::first_error;
 pub use input::{Input, is_file, read_first_bytes};
 pub use printer::print;
 pub use reader::{BatchReader, open};

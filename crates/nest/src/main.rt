@@ -3,6 +3,7 @@
 
 mod concatenate;
 mod copy;
+mod failing_column;
 mod input;
 mod json_import;
 mod messages;

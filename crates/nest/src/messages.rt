@@ -1,4 +1,5 @@
 //! Messages on standard error, and exit codes.
+use crate::failing_column::failing_column;
 use crate::input::OpenError;
 use crate::output::StandardOutput;
 use crate::support::unsupported_column;
@@ -56,8 +57,8 @@ pub fn report<E: Display>(rt: &HostRuntime, file: &str, error: &E) -> ExitCode {
     failed()
 }
 
-/// Reports an error in a record batch, or before the record batches. A projected name that no column has is printed with similar names, and
-/// the path of a column that is not supported.
+/// Reports an error in a record batch, or before the record batches. A projected name that no column has is printed with similar names, the
+/// path of a column that is not supported, and the name of the column that has the error.
 fn report_batch(
     rt: &HostRuntime,
     columns: Projection<'_>,
@@ -67,7 +68,11 @@ fn report_batch(
     if let Some(name) = unknown_name(columns, error.error) {
         return report_unknown_name(rt, file, name);
     }
-    match unsupported_column(rt, columns, file, error.error) {
+    let text = match unsupported_column(rt, columns, file, error.error) {
+        Some(text) => Some(text),
+        None => failing_column(rt, columns, file, error),
+    };
+    match text {
         Some(text) => report(rt, file, &text),
         None => report(rt, file, error),
     }

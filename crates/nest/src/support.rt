@@ -79,7 +79,7 @@ pub fn print_support<W: Write>(
 }
 
 /// Returns whether a column is read.
-fn is_projected(columns: Projection<'_>, name: &str) -> bool {
+pub fn is_projected(columns: Projection<'_>, name: &str) -> bool {
     match columns {
         Projection::Names(names) => names.iter().any(|it| *it == name),
         _ => true,

@@ -6,6 +6,7 @@
 //! | `tables` | Schemas and rows as text, errors, and projected columns |
 //! | `printing` | Printing one record batch at a time; errors, and batches that are not read |
 //! | `counting` | Numbers of rows; bodies that are not read; hostile bytes |
+//! | `failures` | The first error of an input, and of its columns one by one |
 //! | `schemas` | Schemas as text; dictionaries and bodies that are not read |
 //! | `tailing` | The last rows as lines; record batches that are not read; hostile bytes |
 //! | `comparing` | The first difference of two inputs; which input has an error, and when |
@@ -32,6 +33,8 @@ mod copying;
 mod counting;
 #[cfg(test)]
 mod devices;
+#[cfg(test)]
+mod failures;
 #[cfg(test)]
 mod names;
 #[cfg(test)]
