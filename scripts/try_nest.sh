@@ -208,6 +208,21 @@ expect 1 'row 2\n' '' equal "$room/parts" "$room/unlike" --columns a
 expect 2 '' "nest: $room/bare: there is no column \"b\"" equal "$room/parts" "$room/bare" --columns b
 expect 2 '' "nest: $room/bare: there is no column \"b\"" equal "$room/bare" "$room/parts" --columns b
 expect 2 '' "nest: $room/bare: there is no column \"b\"" concat "$room/parts" "$room/bare" -o "$room/c" --columns b
+# Quoted names, and the names on the lines of a file.
+printf 'b\n' >"$room/names"
+printf 'b\r\na' >"$room/both_names"
+printf '\377\n' >"$room/latin"
+: >"$room/no_names"
+for file in "$room/stream" "$room/file" -; do
+    expect 0 '{"b":"a"}\n{"b":"b"}\n{"b":null}\n' '' rows "$file" --columns '"b"'
+    expect 0 'a: int32\nb: string\n' '' schema "$file" --columns 'b,"a"'
+    expect 0 'b: string\n' '' schema "$file" --columns-file "$room/names"
+    expect 0 '{"a":1,"b":"a"}\n' '' head "$file" 1 --columns-file "$room/both_names"
+    expect 2 '' "nest: $file: there is no column \"a,b\"" count "$file" --columns '"a,b",c'
+    expect 2 '' "nest: $room/latin: the column names are not UTF-8" rows "$file" --columns-file "$room/latin"
+    expect 2 '' "nest: $room/absent: no such file" rows "$file" --columns-file "$room/absent"
+    expect 2 '' "nest: $room: is a directory" convert "$file" "$room/none" --columns-file "$room"
+done
 # Concatenations as a file, as a stream and on standard output; different schemas; an output that is an input.
 expect 0 '' '' concat "$room/file" "$room/parts" -o "$room/both"
 expect 0 "$all$all" '' rows "$room/both"
@@ -383,6 +398,11 @@ refuses '<OTHER>' equal "$room/file"
 refuses '<EXPRESSION>' where "$room/file"
 refuses "invalid value for '<EXPRESSION>': position 3: a literal is expected" where "$room/file" 'a ='
 refuses "invalid value for '<EXPRESSION>': position 2: the end of the condition is expected" where "$room/file" 'a b' -o "$room/none"
+refuses 'Usage: nest where [OPTIONS] <FILE> <EXPRESSION>' where "$room/file" 'a ='
+refuses "invalid value for '--columns <NAMES>': position 0: the quoted column name is not closed" rows "$room/file" --columns '"a'
+refuses "invalid value for '--columns <NAMES>': position 3: a comma is expected" count "$room/file" --columns '"a" ,b'
+refuses 'Usage: nest count [OPTIONS] <FILE>' count "$room/file" --columns '"a" ,b'
+refuses "the argument '--columns <NAMES>' cannot be used with '--columns-file <LIST>'" rows "$room/file" --columns a --columns-file "$room/names"
 refuses '<INDEX>' take "$room/file"
 refuses '<OUT>' from-json 'struct<a: int32>' "$room/lines"
 refuses "unexpected argument 'b'" where "$room/truths" a b -o "$room/none"
@@ -449,6 +469,7 @@ printf '{"a":1}\n\n' >"$room/past"
 expect 2 '' "nest: $room/past: line 2: invalid JSON" from-json "$rows" "$room/past" "$room/as"
 printf '{"d":1}' >"$room/past"
 expect 2 '' "nest: $room/past: line 1: unknown field" from-json "$rows" "$room/past" "$room/as"
+expect 0 "$laid" '' rows "$room/made"
 expect 2 '' "nest: struct<a: map<string, int8>>: cannot be read from JSON: map type" from-json 'struct<a: map<string, int8>>' "$room/lines" "$room/as"
 # Floats: the shortest decimals, and the names of the others; one past the largest. The second half is above a tie that its nearest double is.
 printf '{"h":1.5}\n{"h":2049.0000000000000001}\n{"h":"Infinity"}\n' >"$room/halves.json"

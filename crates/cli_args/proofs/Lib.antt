@@ -2,7 +2,9 @@ mod AddedNames
 mod DigitValues
 mod Integers
 mod Levels
+mod NameLists
 mod OnTexts
 mod Prefixes
 mod Quotes
 mod Runs
+mod UsageKinds

@@ -39,6 +39,10 @@ optional_count_rule = record (new_rule (codes "COUNT")) { parser = integer_parse
 abbrev pub columns_rule : Rule
 columns_rule = record (new_rule (codes "NAMES")) { long = Some (codes "columns") }
 
+-- `--columns-file LIST`
+abbrev pub columns_file_rule : Rule
+columns_file_rule = record (new_rule (codes "LIST")) { long = Some (codes "columns-file") }
+
 -- `-o OUT`
 abbrev pub out_rule : Rule
 out_rule = record (new_rule (codes "OUT")) { short = Some 111; long = Some (codes "output") }
@@ -55,7 +59,7 @@ count_rule = record (new_rule (codes "COUNT")) { long = Some (codes "count"); pa
 
 -- a command that reads Arrow files
 abbrev pub command_app : Text → App
-command_app name = with_rule (new_app name) columns_rule
+command_app name = with_rule (with_rule (new_app name) columns_rule) columns_file_rule
 
 -- a command that reads one
 abbrev pub file_app : Text → App
@@ -126,3 +130,7 @@ IsArg r a = (rule_of a ≡ r) × (a.global ≡ false)
 
 abbrev pub IsCommand : App → Command → Type 0
 IsCommand x c = (app_of c ≡ x) × ((fields_of c).has_globals ≡ false)
+
+-- the second command is what f makes of the first, and has no new global argument
+abbrev pub ExtendsCommand : (App → App) → Command → Command → Type 0
+ExtendsCommand f c d = (app_of d ≡ f (app_of c)) × ((fields_of d).has_globals ≡ (fields_of c).has_globals)

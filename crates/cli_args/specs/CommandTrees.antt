@@ -1,8 +1,10 @@
--- The models of `Command` and `Arguments`.
-use Rattle.std.specs.Prelude.{map, option_map}
-use Rattle.cli_args.specs.Commands.{ArgumentsTree, CommandTree, schema, select, tail, count, equal, concat, convert, from_json}
+-- The models of `ColumnNames`, `Command` and `Arguments`.
+use Rattle.std.specs.Prelude.{map, option_map, string_bytes}
+use Rattle.cli_args.specs.Commands.{ArgumentsTree, ColumnNamesTree, CommandTree, listed, in_file, schema, select, tail, count, equal, concat, convert, from_json}
 use Rattle.cli_args.specs.RequestTrees.{selection_tree}
 use Rattle.cli_args.specs.declared.arguments.Arguments.{Arguments}
+use Rattle.cli_args.specs.declared.arguments.ColumnNames.{ColumnNames}
+use Rattle.cli_args.specs.declared.arguments.ColumnNames.TheVariants as column_lists
 use Rattle.cli_args.specs.declared.command.Command.{Command}
 use Rattle.cli_args.specs.declared.command.Command.TheVariants as commands
 
@@ -16,5 +18,9 @@ command_tree (commands.Concat files out) = concat (map (λ f. f.now) files.items
 command_tree (commands.Convert file out) = convert file.now out.now
 command_tree (commands.FromJson i) = from_json i.row_type.now i.input.now i.output.now
 
+abbrev pub column_names_tree : ColumnNames → ColumnNamesTree
+column_names_tree (column_lists.Listed names) = listed (map string_bytes names.items)
+column_names_tree (column_lists.InFile file) = in_file file.now
+
 abbrev pub arguments_tree : Arguments → ArgumentsTree
-arguments_tree a = record { columns = option_map (λ c. c.now) a.columns; command = command_tree a.command }
+arguments_tree a = record { columns = option_map column_names_tree a.columns; command = command_tree a.command }

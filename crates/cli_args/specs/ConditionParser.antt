@@ -11,12 +11,12 @@ use Rattle.cli_args.specs.ConditionResults.{◌>>=◌, error_at}
 use Rattle.cli_args.specs.ConditionTokens.{TokenTree, TokenAndRest, and_word, or_word, not_word, is_word, null_word, name, literal, operator, opening, closing, end_of_text, read_token, without_space}
 use Rattle.cli_args.specs.Conditions.{LiteralTree, ConditionTree, is_true, is_null, compare, negation, both, either}
 use Rattle.cli_args.specs.declared.condition.Comparison.{Comparison}
-use Rattle.cli_args.specs.declared.condition_error.SyntaxError.{SyntaxError}
+use Rattle.cli_args.specs.declared.condition_error.ConditionSyntaxError.{ConditionSyntaxError}
 use Rattle.cli_args.specs.declared.condition_error.SyntaxErrorKind.TheVariants.{ColumnExpected, EndExpected, LiteralExpected, NullExpected, ParenthesisExpected, TooDeep}
 
 -- a reader's results
 abbrev pub Read : Type 0 → Type 0
-Read A = Result (A × List ℕ) SyntaxError
+Read A = Result (A × List ℕ) ConditionSyntaxError
 
 -- ---- a column's test
 
@@ -33,12 +33,12 @@ read_comparison len column position comparison bs = do
   l ← read_literal len bs
   Ok (compare column position comparison l.0, l.1)
 
-abbrev pub null_of : ℕ → List ℕ → TokenAndRest → Result (List ℕ) SyntaxError
+abbrev pub null_of : ℕ → List ℕ → TokenAndRest → Result (List ℕ) ConditionSyntaxError
 null_of len bs (null_word, rest) = Ok rest
 null_of len bs (t, rest) = Err (error_at len bs NullExpected)
 
 -- the bytes after `null`
-unfoldable pub read_null : ℕ → List ℕ → Result (List ℕ) SyntaxError
+unfoldable pub read_null : ℕ → List ℕ → Result (List ℕ) ConditionSyntaxError
 read_null len bs = read_token len bs >>= null_of len bs
 
 abbrev pub is_not : TokenTree → Bool
@@ -77,12 +77,12 @@ read_test len column position bs = read_token len bs >>= test_of len column posi
 abbrev pub ConditionReader : Type 0
 ConditionReader = List ℕ → Read ConditionTree
 
-abbrev pub closing_of : ℕ → List ℕ → TokenAndRest → Result (List ℕ) SyntaxError
+abbrev pub closing_of : ℕ → List ℕ → TokenAndRest → Result (List ℕ) ConditionSyntaxError
 closing_of len bs (closing, rest) = Ok rest
 closing_of len bs (t, rest) = Err (error_at len bs ParenthesisExpected)
 
 -- the bytes after a closing parenthesis
-unfoldable pub read_closing : ℕ → List ℕ → Result (List ℕ) SyntaxError
+unfoldable pub read_closing : ℕ → List ℕ → Result (List ℕ) ConditionSyntaxError
 read_closing len bs = read_token len bs >>= closing_of len bs
 
 unfoldable pub read_parenthesized : ℕ → ConditionReader → List ℕ → Read ConditionTree
@@ -151,16 +151,16 @@ abbrev pub is_end : TokenTree → Bool
 is_end end_of_text = true
 is_end t = false
 
-abbrev pub end_of : ℕ → ConditionTree × List ℕ → TokenAndRest → Result ConditionTree SyntaxError
+abbrev pub end_of : ℕ → ConditionTree × List ℕ → TokenAndRest → Result ConditionTree ConditionSyntaxError
 end_of len c next = if is_end next.0 then Ok c.0 else Err (error_at len c.1 EndExpected)
 
 -- a condition of at most so many levels that nothing follows
-unfoldable pub read_complete : ℕ → ℕ → List ℕ → Result ConditionTree SyntaxError
+unfoldable pub read_complete : ℕ → ℕ → List ℕ → Result ConditionTree ConditionSyntaxError
 read_complete len levels bs = do
   c ← read_or len levels bs
   next ← read_token len c.1
   end_of len c next
 
 -- the condition that a text is, or the first error; it has at most 1000 levels
-abbrev pub parsed_condition : List ℕ → Result ConditionTree SyntaxError
+abbrev pub parsed_condition : List ℕ → Result ConditionTree ConditionSyntaxError
 parsed_condition bs = read_complete (length bs) 1000 (without_space bs)

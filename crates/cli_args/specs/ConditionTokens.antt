@@ -8,7 +8,7 @@ use Rattle.cli_args.specs.Conditions.{LiteralTree, text, boolean}
 use Rattle.cli_args.specs.NumberLiterals.{decimal_number}
 use Rattle.cli_args.specs.declared.condition.Comparison.{Comparison}
 use Rattle.cli_args.specs.declared.condition.Comparison.TheVariants.{Equal, NotEqual, Less, LessOrEqual, Greater, GreaterOrEqual}
-use Rattle.cli_args.specs.declared.condition_error.SyntaxError.{SyntaxError}
+use Rattle.cli_args.specs.declared.condition_error.ConditionSyntaxError.{ConditionSyntaxError}
 use Rattle.cli_args.specs.declared.condition_error.SyntaxErrorKind.TheVariants.{UnexpectedCharacter, UnclosedString, UnclosedName, TooManyDigits}
 
 pub data TokenTree : Type 0 where
@@ -32,7 +32,7 @@ abbrev pub without_space : List ℕ → List ℕ
 without_space bs = drop (prefix_len is_ascii_whitespace bs) bs
 
 -- a token, and what follows its white space
-abbrev pub token_before : TokenTree → List ℕ → Result TokenAndRest SyntaxError
+abbrev pub token_before : TokenTree → List ℕ → Result TokenAndRest ConditionSyntaxError
 token_before t rest = Ok (t, without_space rest)
 
 -- ---- punctuation
@@ -93,7 +93,7 @@ undoubled q (b ∷ c ∷ bs) = if b == q && c == q then q ∷ undoubled q bs els
 abbrev pub quoted_text : ℕ → List ℕ → Option (List ℕ × List ℕ)
 quoted_text q bs = option_map (λ n. (undoubled q (take n bs), drop (n + 1) bs)) (quoted_length q bs)
 
-abbrev pub quoted_token : (List ℕ → TokenTree) → SyntaxError → Option (List ℕ × List ℕ) → Result TokenAndRest SyntaxError
+abbrev pub quoted_token : (List ℕ → TokenTree) → ConditionSyntaxError → Option (List ℕ × List ℕ) → Result TokenAndRest ConditionSyntaxError
 quoted_token make unclosed (Some quoted) = token_before (make quoted.0) quoted.1
 quoted_token make unclosed None = Err unclosed
 
@@ -121,16 +121,16 @@ signed negative n = if negative then neg_ℤ (pos n) else pos n
 abbrev pub number_of : Bool → List ℕ → List ℕ → LiteralTree
 number_of negative whole fraction = decimal_number (signed negative (digits_value 10 (whole ++ fraction))) (length fraction)
 
-abbrev pub number_token : SyntaxError → Bool → List ℕ → List ℕ × List ℕ → Result TokenAndRest SyntaxError
+abbrev pub number_token : ConditionSyntaxError → Bool → List ℕ → List ℕ × List ℕ → Result TokenAndRest ConditionSyntaxError
 number_token too_long negative whole fraction =
     if nat_lt 38 (length whole + length fraction.0) then Err too_long
     else token_before (literal (number_of negative whole fraction.0)) fraction.1
 
-abbrev pub number_after : SyntaxError → Bool → List ℕ × List ℕ → Result TokenAndRest SyntaxError
+abbrev pub number_after : ConditionSyntaxError → Bool → List ℕ × List ℕ → Result TokenAndRest ConditionSyntaxError
 number_after too_long negative whole = number_token too_long negative whole.0 (split_fraction whole.1)
 
 -- a number of at most 38 digits, after its sign
-unfoldable pub read_number : SyntaxError → Bool → List ℕ → Result TokenAndRest SyntaxError
+unfoldable pub read_number : ConditionSyntaxError → Bool → List ℕ → Result TokenAndRest ConditionSyntaxError
 read_number too_long negative bs = number_after too_long negative (split_digits bs)
 
 -- a text begins with a digit
@@ -158,16 +158,16 @@ word_token bs =
     else if has_word (codes "false") bs then literal (boolean false)
     else name bs
 
-abbrev pub word_before : SyntaxError → List ℕ × List ℕ → Result TokenAndRest SyntaxError
+abbrev pub word_before : ConditionSyntaxError → List ℕ × List ℕ → Result TokenAndRest ConditionSyntaxError
 word_before unexpected split = if length split.0 == 0 then Err unexpected else token_before (word_token split.0) split.1
 
 -- letters, digits and underscores: a keyword or a name
-unfoldable pub read_word : SyntaxError → List ℕ → Result TokenAndRest SyntaxError
+unfoldable pub read_word : ConditionSyntaxError → List ℕ → Result TokenAndRest ConditionSyntaxError
 read_word unexpected bs = word_before unexpected (take (prefix_len is_name_byte bs) bs, drop (prefix_len is_name_byte bs) bs)
 
 -- ---- all tokens
 
-abbrev pub number_or_word : ℕ → List ℕ → Option (List ℕ) → Result TokenAndRest SyntaxError
+abbrev pub number_or_word : ℕ → List ℕ → Option (List ℕ) → Result TokenAndRest ConditionSyntaxError
 number_or_word len bs (Some digits) =
     if starts_with_digit digits then read_number (error_at len bs TooManyDigits) true digits
     else Err (error_at len bs UnexpectedCharacter)
@@ -176,24 +176,24 @@ number_or_word len bs None =
     else read_word (error_at len bs UnexpectedCharacter) bs
 
 -- a minus sign belongs to a number
-unfoldable pub read_number_or_word : ℕ → List ℕ → Result TokenAndRest SyntaxError
+unfoldable pub read_number_or_word : ℕ → List ℕ → Result TokenAndRest ConditionSyntaxError
 read_number_or_word len bs = number_or_word len bs (after_prefix (codes "-") bs)
 
-abbrev pub or_quoted : (List ℕ → Result TokenAndRest SyntaxError) → Option (List ℕ) → Result TokenAndRest SyntaxError → Result TokenAndRest SyntaxError
+abbrev pub or_quoted : (List ℕ → Result TokenAndRest ConditionSyntaxError) → Option (List ℕ) → Result TokenAndRest ConditionSyntaxError → Result TokenAndRest ConditionSyntaxError
 or_quoted quoted (Some rest) others = quoted rest
 or_quoted quoted None others = others
 
 -- a name in double quotes, a string in single quotes, a number, a keyword or a name
-unfoldable pub read_text_token : ℕ → List ℕ → Result TokenAndRest SyntaxError
+unfoldable pub read_text_token : ℕ → List ℕ → Result TokenAndRest ConditionSyntaxError
 read_text_token len bs =
     or_quoted (λ rest. quoted_token name (error_at len bs UnclosedName) (quoted_text 34 rest)) (after_prefix (codes "\"") bs)
     (or_quoted (λ rest. quoted_token (λ s. literal (text s)) (error_at len bs UnclosedString) (quoted_text 39 rest)) (after_prefix (codes "'") bs)
     (read_number_or_word len bs))
 
-abbrev pub symbol_or_text : ℕ → List ℕ → Option TokenAndRest → Result TokenAndRest SyntaxError
+abbrev pub symbol_or_text : ℕ → List ℕ → Option TokenAndRest → Result TokenAndRest ConditionSyntaxError
 symbol_or_text len bs (Some symbol) = token_before symbol.0 symbol.1
 symbol_or_text len bs None = read_text_token len bs
 
 -- the token that the text begins with; an error is at its first byte, of a text of that length
-unfoldable pub read_token : ℕ → List ℕ → Result TokenAndRest SyntaxError
+unfoldable pub read_token : ℕ → List ℕ → Result TokenAndRest ConditionSyntaxError
 read_token len bs = if length bs == 0 then Ok (end_of_text, bs) else symbol_or_text len bs (first_symbol bs)

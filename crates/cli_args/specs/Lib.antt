@@ -12,6 +12,7 @@ pub mod Requests
 pub mod RequestTrees
 pub mod Formats
 pub mod ColumnNames
+pub mod UsageErrors
 pub mod CommandLine
 pub mod Commands
 pub mod CommandTrees

@@ -1,6 +1,6 @@
 //! The command line of `nest`, as clap parses it.
 ghost use Rattle.std.specs.Prelude.{IfOk, codes};
-ghost use Rattle.cli_args.specs.CommandLine.{IsArg, IsCommand, columns_rule, command_app, comparing_app, concat_app, convert_app, copying_app, count_app, count_rule, counting_app, equal_app, file_app, files_rule, from_json_app, head_app, indices_rule, nest_app, optional_count_rule, out_rule, printing_app, required_integer_rule, required_rule, rows_app, slice_app, slicing_app, start_rule, tail_app, take_app, top_app, where_app, with_alias};
+ghost use Rattle.cli_args.specs.CommandLine.{IsArg, IsCommand, columns_file_rule, columns_rule, command_app, comparing_app, concat_app, convert_app, copying_app, count_app, count_rule, counting_app, equal_app, file_app, files_rule, from_json_app, head_app, indices_rule, nest_app, optional_count_rule, out_rule, printing_app, required_integer_rule, required_rule, rows_app, slice_app, slicing_app, start_rule, tail_app, take_app, top_app, where_app, with_alias};
 
 use clap::{Arg, Command, value_parser};
 use std::alloc::{AllocError, Global};
@@ -13,6 +13,7 @@ const NOTES: &str = "\
 FILE is an Arrow file or stream, and - is standard input. Rows are counted from 0.
 OUT is a stream if its name ends in .arrows, else a file; - is standard output. If OUT exists, output goes to OUT.part and
 replaces OUT when complete, so OUT may be the input.
+Most commands read the columns alone that --columns a,b names.
 Exit status: 0; 1 if `equal` finds a difference; 2 after an error.";
 
 fn required<'a>(alloc: Global, id: &'a str, help: &'a str) -> Arg<'a>
@@ -25,6 +26,12 @@ fn required_integer<'a>(alloc: Global, id: &'a str, help: &'a str) -> Arg<'a>
     ensures { IsArg (required_integer_rule id.entry.now) result }
 {
     required(alloc, id, help).value_parser(value_parser!(usize))
+}
+
+fn file<'a>(alloc: Global) -> Arg<'a>
+    ensures { IsArg (required_rule (codes "FILE")) result }
+{
+    required(alloc, "FILE", "The file; - is standard input")
 }
 
 fn files<'a>(alloc: Global) -> Arg<'a>
@@ -51,9 +58,17 @@ fn optional_count<'a>(alloc: Global) -> Arg<'a>
 fn columns<'a>(alloc: Global) -> Arg<'a>
     ensures { IsArg columns_rule result }
 {
-    Arg::new(alloc, "NAMES")
-        .long("columns")
-        .help("Read these columns alone: names, separated by commas")
+    Arg::new(alloc, "NAMES").long("columns").help(
+        "Read these columns alone: names, quoted or not, separated by commas",
+    )
+}
+
+fn columns_file<'a>(alloc: Global) -> Arg<'a>
+    ensures { IsArg columns_file_rule result }
+{
+    Arg::new(alloc, "LIST").long("columns-file").help(
+        "Read the columns alone that this file names, a name a line",
+    )
 }
 
 fn out<'a>(alloc: Global) -> Arg<'a>
@@ -93,7 +108,8 @@ fn command<'a>(
     ensures { IfOk result (IsCommand (command_app name.entry.now)) }
 {
     let command = Command::new(alloc, name).about(about).after_help(example);
-    command.arg(columns(alloc))
+    let listed = command.arg(columns(alloc))?;
+    listed.arg(columns_file(alloc))
 }
 
 /// A command that reads one Arrow file.
@@ -106,7 +122,7 @@ fn file_command<'a>(
     ensures { IfOk result (IsCommand (file_app name.entry.now)) }
 {
     let command = command(alloc, name, about, example)?;
-    command.arg(required(alloc, "FILE", "The file; - is standard input"))
+    command.arg(file(alloc))
 }
 
 /// A command of two names that reads one Arrow file.
@@ -303,4 +319,37 @@ pub(crate) fn nest<'a>(alloc: Global) -> Result<Command<'a>, AllocError>
     let comparing = with_comparison(alloc, slicing)?;
     let copying = with_copies(alloc, comparing)?;
     with_import(alloc, copying)
+}
+
+/// Returns the command of a name, with the usage that its errors show.
+pub(crate) fn subcommand<'a>(alloc: Global, name: &str) -> Result<Command<'a>, AllocError> {
+    let command = if name == "schema" {
+        schema(alloc)?
+    } else if name == "rows" {
+        rows(alloc)?
+    } else if name == "head" {
+        head(alloc)?
+    } else if name == "tail" {
+        tail(alloc)?
+    } else if name == "count" {
+        row_count(alloc)?
+    } else if name == "slice" {
+        slice(alloc)?
+    } else if name == "take" {
+        take(alloc)?
+    } else if name == "where" {
+        rows_where(alloc)?
+    } else if name == "equal" {
+        equal(alloc)?
+    } else if name == "concat" {
+        concat(alloc)?
+    } else if name == "convert" {
+        convert(alloc)?
+    } else if name == "from-json" {
+        from_json(alloc)?
+    } else {
+        return nest(alloc);
+    };
+    let usage_name = format!(in alloc; "nest {name}")?;
+    command.bin_name(&usage_name)
 }

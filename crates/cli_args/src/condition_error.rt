@@ -40,7 +40,7 @@ pub enum SyntaxErrorKind {
 /// An error in the text of a condition.
 #[derive(Clone, Copy, Debug, PartialEq, Eq, Error)]
 #[error("position {position}: {kind}")]
-pub struct SyntaxError {
+pub struct ConditionSyntaxError {
     /// The position of the token that is wrong, in bytes.
     pub position: usize,
     /// What is wrong.
@@ -52,7 +52,7 @@ pub struct SyntaxError {
 pub enum ParseConditionError {
     /// The text is not a condition.
     #[error("{0}")]
-    Syntax(SyntaxError),
+    Syntax(ConditionSyntaxError),
     /// An allocation failed.
     #[error("out of memory")]
     Memory,

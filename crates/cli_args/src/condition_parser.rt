@@ -19,7 +19,7 @@ use std::alloc::{AllocError, Global};
 pub const MAX_LEVELS: u32 = 1000;
 
 /// Replaces each pair of quotes by one.
-fn undoubled_name(alloc: Global, raw: &str) -> Result<String, AllocError>
+pub(crate) fn undoubled_name(alloc: Global, raw: &str) -> Result<String, AllocError>
     ensures { IfOk result (λ s. string_bytes s ≡ undoubled 34 raw.now) }
 {
     raw.replace(alloc, "\"\"", "\"")

@@ -8,7 +8,7 @@ ghost use Rattle.cli_args.specs.ConditionTokens.{after_prefix, first_operator, f
 ghost use Rattle.cli_args.specs.ConditionTokenTrees.{token_tree};
 
 use crate::condition::Comparison;
-use crate::condition_error::{ParseConditionError, SyntaxError, SyntaxErrorKind};
+use crate::condition_error::{ConditionSyntaxError, ParseConditionError, SyntaxErrorKind};
 
 /// A token of a condition.
 #[derive(Clone, Copy)]
@@ -34,10 +34,10 @@ pub enum Token<'a> {
 }
 
 /// Returns the error of a kind where the rest of the condition begins. The condition has `len` bytes.
-pub fn error_at(len: usize, rest: &str, kind: SyntaxErrorKind) -> SyntaxError
+pub fn error_at(len: usize, rest: &str, kind: SyntaxErrorKind) -> ConditionSyntaxError
     ensures { result ≡ error_at len rest.now kind }
 {
-    SyntaxError {
+    ConditionSyntaxError {
         position: len.saturating_sub(rest.len()),
         kind,
     }
@@ -51,7 +51,7 @@ pub fn without_space(text: &str) -> &str
 }
 
 /// Returns the text after the prefix, or `None` if the text does not begin with it.
-fn strip_prefix<'a>(text: &'a str, prefix: &str) -> Option<&'a str>
+pub fn strip_prefix<'a>(text: &'a str, prefix: &str) -> Option<&'a str>
     ensures { MatchOption result (after_prefix prefix.now text.now ≡ None) (λ x. after_prefix prefix.now text.now ≡ Some x.now) }
 {
     text.strip_prefix(prefix)
@@ -119,7 +119,7 @@ fn quoted_len(quote: u8, text: &[u8]) -> Option<usize>
 }
 
 /// Splits the text after an opening quote at its closing quote.
-fn split_quoted<'a>(quote: u8, text: &'a str) -> Option<(&'a str, &'a str)>
+pub fn split_quoted<'a>(quote: u8, text: &'a str) -> Option<(&'a str, &'a str)>
     requires { quote < 128 }
     ensures { option_map (λ x. (undoubled quote x.0.now, x.1.now)) result ≡ quoted_text quote text.now }
 {
@@ -216,7 +216,7 @@ fn signed(is_negative: bool, magnitude: u128) -> i128
 /// Reads a number after its sign.
 #[tactic(auto, unfolding(crate::specs::ConditionTokens::read_number))]
 fn number<'a>(
-    too_long: SyntaxError,
+    too_long: ConditionSyntaxError,
     is_negative: bool,
     text: &'a str,
 ) -> Result<(Token<'a>, &'a str), ParseConditionError>
@@ -276,7 +276,7 @@ fn word_token(text: &str) -> Token<'_>
 /// Reads a keyword or a name.
 #[tactic(auto, unfolding(crate::specs::ConditionTokens::read_word))]
 fn word<'a>(
-    unexpected: SyntaxError,
+    unexpected: ConditionSyntaxError,
     text: &'a str,
 ) -> Result<(Token<'a>, &'a str), ParseConditionError>
     ensures { ReadsAs (λ x. (token_tree x.0, x.1.now)) result (read_word unexpected text.now) }

@@ -15,14 +15,15 @@ pub mod laws;
 mod number_literal;
 mod parsing;
 mod request;
+mod usage_error;
 mod values;
 
-pub use arguments::Arguments;
+pub use arguments::{Arguments, ColumnNames};
 pub use clap::Error;
-pub use column_names::parse_column_names;
+pub use column_names::{ColumnNamesError, ParseColumnNamesError, name_lines, parse_column_names};
 pub use command::{Command, ImportRequest};
 pub use condition::{Comparison, Condition, Literal};
-pub use condition_error::{ParseConditionError, SyntaxError, SyntaxErrorKind};
+pub use condition_error::{ConditionSyntaxError, ParseConditionError, SyntaxErrorKind};
 pub use condition_parser::{MAX_LEVELS, parse_condition};
 pub use format::{Format, format_of};
 pub use number_literal::NumberLiteral;

@@ -1,8 +1,14 @@
 //! The values of a command's arguments, as clap finds them.
 ghost use Rattle.std.specs.Prelude.{◌≡◌, IfOk, codes, map, option_map};
 ghost use Rattle.clap.specs.Words.{first_of};
-ghost use Rattle.cli_args.specs.Commands.{integer_in, argument_integer, required_integer, found_rows, argument_text, texts_of};
+ghost use Rattle.cli_args.specs.ColumnNames.{column_names};
+ghost use Rattle.cli_args.specs.Commands.{columns_in, listed_in, integer_in, argument_integer, required_integer, found_rows, argument_text, texts_of};
+ghost use Rattle.cli_args.specs.CommandTrees.{column_names_tree};
+ghost use Rattle.cli_args.specs.UsageErrors.{MeansAs};
 
+use crate::arguments::ColumnNames;
+use crate::column_names::parse_column_names;
+use crate::usage_error::{CommandError, UsageError};
 use clap::ArgMatches;
 use std::alloc::{AllocError, Global};
 
@@ -80,5 +86,29 @@ pub(crate) fn indices(alloc: Global, matches: &ArgMatches<'_>) -> Result<Vec<usi
     match texts(alloc, matches, "INDEX") {
         Ok(texts) => parse_integers(alloc, &texts),
         Err(error) => Err(error),
+    }
+}
+
+fn listed<'a>(alloc: Global, names: &str) -> Result<Option<ColumnNames<'a>>, CommandError>
+    ensures { MeansAs (option_map column_names_tree) result (listed_in (column_names names.now)) }
+{
+    match parse_column_names(alloc, names) {
+        Ok(names) => Ok(Some(ColumnNames::Listed(names))),
+        Err(error) => Err(CommandError::from(error)),
+    }
+}
+
+/// Returns the columns that a command reads.
+pub(crate) fn columns<'a>(
+    alloc: Global,
+    matches: &ArgMatches<'a>,
+) -> Result<Option<ColumnNames<'a>>, CommandError>
+    ensures { MeansAs (option_map column_names_tree) result (columns_in (found_rows matches.now)) }
+{
+    match (value(matches, "NAMES"), value(matches, "LIST")) {
+        (None, None) => Ok(None),
+        (None, Some(file)) => Ok(Some(ColumnNames::InFile(file))),
+        (Some(names), None) => listed(alloc, names),
+        (Some(_), Some(_)) => Err(CommandError::Usage(UsageError::ColumnsTwice)),
     }
 }

@@ -1,6 +1,7 @@
 //! `nest COMMAND ..` prints, compares and converts Arrow files and streams.
 #![tactic(auto)]
 
+mod column_file;
 mod concatenate;
 mod copy;
 mod failing_column;
@@ -13,14 +14,16 @@ mod support;
 mod take;
 mod unknown_names;
 
-use cli_args::{Arguments, Command, Selection, parse_arguments, parse_column_names};
+use cli_args::{Arguments, ColumnNames, Command, Selection, name_lines, parse_arguments};
 use cli_rows::CliError;
+use column_file::read_column_file;
 use concatenate::concat;
 use copy::{copy_file, copy_selection};
 use ipc_schema::Projection;
 use json_import::from_json;
-use messages::{failed, report_arguments};
+use messages::{failed, report, report_arguments};
 use print::{equal, print_count, print_rows, print_schema, print_tail};
+use std::alloc::{AllocError, Global};
 use std::env;
 use std::io::ErrorKind;
 use std::process::ExitCode;
@@ -68,19 +71,51 @@ fn run(rt: &HostRuntime, columns: Projection<'_>, command: Command<'_>) -> ExitC
     }
 }
 
-/// Splits the column names, and runs the command.
-fn run_arguments(rt: &HostRuntime, arguments: Arguments<'_>) -> ExitCode {
-    let Arguments { columns, command } = arguments;
-    let Some(text) = columns else {
-        return run(rt, Projection::All, command);
-    };
-    match parse_column_names(rt.alloc(), text) {
+/// Returns the names as string slices.
+fn string_slices(alloc: Global, names: &[String]) -> Result<Vec<&str>, AllocError> {
+    let mut slices = Vec::new(alloc);
+    for name in names {
+        slices.push(name.as_str())?;
+    }
+    Ok(slices)
+}
+
+/// Runs a command on the columns of these names.
+fn run_projected(
+    rt: &HostRuntime,
+    names: Result<Vec<&str>, AllocError>,
+    command: Command<'_>,
+) -> ExitCode {
+    match names {
         Err(_) => {
             drop(command);
             let _ = eprintln!(rt; "nest: {}", CliError::Memory);
             failed()
         }
         Ok(names) => run(rt, Projection::Names(&names), command),
+    }
+}
+
+/// Runs a command on the columns that a file names.
+fn run_in_file(rt: &HostRuntime, file: &str, command: Command<'_>) -> ExitCode {
+    match read_column_file(rt, file) {
+        Err(error) => {
+            drop(command);
+            report(rt, file, &error)
+        }
+        Ok(text) => run_projected(rt, name_lines(rt.alloc(), &text), command),
+    }
+}
+
+/// Runs a command on the columns that it reads.
+fn run_arguments(rt: &HostRuntime, arguments: Arguments<'_>) -> ExitCode {
+    let Arguments { columns, command } = arguments;
+    match columns {
+        None => run(rt, Projection::All, command),
+        Some(ColumnNames::Listed(names)) => {
+            run_projected(rt, string_slices(rt.alloc(), &names), command)
+        }
+        Some(ColumnNames::InFile(file)) => run_in_file(rt, file, command),
     }
 }
 

@@ -1,6 +1,9 @@
 //! Command lines.
 use clap::error::ErrorKind;
-use cli_args::{Command, Error, Format, Selection, format_of, parse_arguments, parse_column_names};
+use cli_args::{
+    ColumnNames, ColumnNamesError, Command, Error, Format, ParseColumnNamesError, Selection,
+    format_of, name_lines, parse_arguments, parse_column_names,
+};
 use std::alloc::{AllocError, Global};
 use std::test::*;
 
@@ -143,6 +146,31 @@ fn commands_have_files(rt: HostRuntime) -> Result<(), Fail> {
     Ok(())
 }
 
+/// Options of columns, and the error of each.
+const INVALID_COLUMNS: [(&[&str], ErrorKind); 3] = [
+    (
+        &["count", "f", "--columns", "\"a"],
+        ErrorKind::ValueValidation,
+    ),
+    (
+        &["count", "f", "--columns", "a", "--columns-file", "g"],
+        ErrorKind::ArgumentConflict,
+    ),
+    (
+        &["from-json", "t", "f", "g", "--columns-file", "g"],
+        ErrorKind::UnknownArgument,
+    ),
+];
+
+#[test]
+fn invalid_columns_are_errors(rt: HostRuntime) -> Result<(), Fail> {
+    for (arguments, want) in INVALID_COLUMNS {
+        let error = error_of(rt.alloc(), arguments)?;
+        assert!(rt; error.kind() == want, "{}: {error}", arguments[0]);
+    }
+    Ok(())
+}
+
 #[test]
 fn invalid_arguments_are_errors(rt: HostRuntime) -> Result<(), Fail> {
     for (arguments, want) in [
@@ -246,9 +274,76 @@ fn columns_are_parsed(rt: HostRuntime) -> Result<(), Fail> {
         ["concat", "f", "-o", "g", "--columns", "a,b"].as_slice(),
     ] {
         let all = words(alloc, arguments)?;
-        let arguments = parse_arguments(alloc, &all)?;
-        let names = parse_column_names(alloc, arguments.columns.unwrap_or(""))?;
-        assert!(rt; names.as_slice() == ["a", "b"].as_slice());
+        let found = parse_arguments(alloc, &all)?;
+        match found.columns {
+            Some(ColumnNames::Listed(names)) => {
+                assert!(rt;
+                    names.len() == 2 && names[0].as_str() == "a" && names[1].as_str() == "b"
+                );
+            }
+            _ => return Err(Fail::from("other columns")),
+        }
+    }
+    Ok(())
+}
+
+#[test]
+fn files_of_columns_are_parsed(rt: HostRuntime) -> Result<(), Fail> {
+    let all = words(rt.alloc(), &["count", "--columns-file", "g", "f"])?;
+    let found = parse_arguments(rt.alloc(), &all)?;
+    assert!(rt; matches!(&found.columns, Some(ColumnNames::InFile("g"))));
+    for (text, want) in [
+        ("", [].as_slice()),
+        ("a", &["a"]),
+        ("a\nb,c\n", &["a", "b,c"]),
+        ("a\r\n\n\"b\"\n", &["a", "", "\"b\""]),
+    ] {
+        let found = name_lines(rt.alloc(), text)?;
+        assert!(rt; found.as_slice() == want, "{text:?}: {found:?}");
+    }
+    Ok(())
+}
+
+/// Lists of column names, and the names, each after a line feed.
+const COLUMN_NAMES: [(&str, &str); 10] = [
+    ("a,b", "\na\nb"),
+    ("a", "\na"),
+    ("", "\n"),
+    (",", "\n\n"),
+    ("a,", "\na\n"),
+    ("a\"b,c\"", "\na\"b\nc\""),
+    ("\"a,b\",c", "\na,b\nc"),
+    ("\"a\"\"b\",\"\"\"\"", "\na\"b\n\""),
+    ("\"\",a", "\n\na"),
+    (" \"a\",ä", "\n \"a\"\nä"),
+];
+
+/// Invalid lists of column names, and their errors.
+const INVALID_NAMES: [(&str, ColumnNamesError); 5] = [
+    ("\"", ColumnNamesError::UnclosedName(0)),
+    ("a,\"b", ColumnNamesError::UnclosedName(2)),
+    ("\"a\"\"", ColumnNamesError::UnclosedName(0)),
+    ("\"a\"b", ColumnNamesError::CommaExpected(3)),
+    ("ä,\"a\" ,b", ColumnNamesError::CommaExpected(6)),
+];
+
+#[test]
+fn column_names_are_parsed(rt: HostRuntime) -> Result<(), Fail> {
+    let alloc = rt.alloc();
+    for (text, want) in COLUMN_NAMES {
+        let mut found = String::new(alloc);
+        for name in &parse_column_names(alloc, text).expect(&rt, text) {
+            found.push_str("\n")?;
+            found.push_str(name.as_str())?;
+        }
+        assert!(rt; found.as_str() == want, "{text}: {found:?}");
+    }
+    for (text, want) in INVALID_NAMES {
+        let found = parse_column_names(alloc, text).err();
+        assert!(rt;
+            found == Some(ParseColumnNamesError::Names(want)),
+            "{text}: {found:?}"
+        );
     }
     Ok(())
 }
