@@ -21,8 +21,8 @@ def uses_of(folder):
     return {name: uses.split() for name, _, uses in lines if name.strip()}
 
 
-def read(path):
-    with open(path, encoding="utf-8") as file:
+def read(path, errors="strict"):
+    with open(path, encoding="utf-8", errors=errors) as file:
         return file.read()
 
 
