@@ -10,6 +10,7 @@ mod json_import;
 mod messages;
 mod output;
 mod print;
+mod schema;
 mod support;
 mod take;
 mod unknown_names;

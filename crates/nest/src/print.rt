@@ -2,10 +2,10 @@
 use crate::input::open_input;
 use crate::messages::{InputError, print_comparison, report, report_input};
 use crate::output::StandardOutput;
-use crate::support::{is_unsupported, print_support};
+use crate::schema::print_columns;
 use crate::take::print_taken;
 use cli_args::{Request, Selection};
-use cli_read::{compare, count_lines, schema_text, tail_lines};
+use cli_read::{compare, count_lines, tail_lines};
 use cli_rows::{in_row_order, write_output};
 use ipc_schema::Projection;
 use std::io;
@@ -33,31 +33,6 @@ fn print_selection<W: Write>(
                 Ok(())
             }
         },
-    }
-}
-
-fn print_fields<W: Write>(
-    rt: &HostRuntime,
-    columns: Projection<'_>,
-    file: &str,
-    out: &mut W,
-) -> Result<(), InputError> {
-    let input = open_input(rt, file)?;
-    let text = schema_text(rt.alloc(), columns, input)?;
-    write_output(out, text.as_bytes())?;
-    Ok(())
-}
-
-/// Prints the columns of a file, of which some may not be supported.
-fn print_columns<W: Write>(
-    rt: &HostRuntime,
-    columns: Projection<'_>,
-    file: &str,
-    out: &mut W,
-) -> Result<(), InputError> {
-    match (print_fields(rt, columns, file, out), columns) {
-        (Err(error), Projection::All) if is_unsupported(&error) => print_support(rt, file, out),
-        (printed, _) => printed,
     }
 }
 

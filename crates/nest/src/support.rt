@@ -6,23 +6,37 @@ use crate::messages::InputError;
 use cli_read::{Input, open_schema};
 use cli_rows::{CliError, support_error, support_lines, write_output};
 use ipc_flatbuf::IpcReadError;
-use ipc_io::{FetchedMessage, fetch_message};
+use ipc_io::{FetchedMessage, SeekRead, fetch_message};
 use ipc_schema::{FieldSupport, Projection, columns_support};
 use std::alloc::Global;
-use std::io::{Read, Write};
+use std::io::{Cursor, Read, Write};
+
+/// The number of bytes before the first message of a file: its magic and two bytes of padding.
+const BEFORE_MESSAGES: usize = 8;
 
 /// The error of an input with a type that is not supported.
 const UNSUPPORTED: CliError = CliError::Read(IpcReadError::UnsupportedType);
 
-/// Opens an input again at its first message. In a file, which has a stream after its magic and two bytes of padding.
+/// Opens an input again at its first message.
 fn open_stream(rt: &HostRuntime, file: &str) -> Result<Source, OpenError> {
     match open_again(rt, file)? {
         Input::Stream(source) => Ok(source),
         Input::File(mut source) => {
-            let mut magic = [0u8; 8];
+            let mut magic = [0u8; BEFORE_MESSAGES];
             source.read_exact(&mut magic)?;
             Ok(source)
         }
+    }
+}
+
+/// Reads the next message, of an input that has one.
+fn next_message<R: Read>(alloc: Global, source: &mut R) -> Result<FetchedMessage, InputError>
+    ensures { IfOk result (λ message. length message.metadata.items < 2 ^ 31) }
+{
+    match fetch_message(alloc, source) {
+        Ok(Some(message)) => Ok(message),
+        Ok(None) => Err(InputError::from(UNSUPPORTED)),
+        Err(error) => Err(InputError::from(CliError::from(error))),
     }
 }
 
@@ -30,13 +44,9 @@ fn open_stream(rt: &HostRuntime, file: &str) -> Result<Source, OpenError> {
 fn first_message(rt: &HostRuntime, file: &str) -> Result<FetchedMessage, InputError>
     ensures { IfOk result (λ message. length message.metadata.items < 2 ^ 31) }
 {
-    let Ok(mut source) = open_stream(rt, file) else {
-        return Err(InputError::from(UNSUPPORTED));
-    };
-    match fetch_message(rt.alloc(), &mut source) {
-        Ok(Some(message)) => Ok(message),
-        Ok(None) => Err(InputError::from(UNSUPPORTED)),
-        Err(error) => Err(InputError::from(CliError::from(error))),
+    match open_stream(rt, file) {
+        Ok(mut source) => next_message(rt.alloc(), &mut source),
+        Err(_) => Err(InputError::from(UNSUPPORTED)),
     }
 }
 
@@ -62,6 +72,23 @@ fn supported_indices(alloc: Global, columns: &[FieldSupport<'_>]) -> Result<Vec<
     Ok(indices)
 }
 
+/// Prints the schema that a message has, of an input of which columns are not supported.
+fn print_marked<R: SeekRead + Drop, W: Write>(
+    rt: &HostRuntime,
+    message: &FetchedMessage,
+    input: Input<R>,
+    out: &mut W,
+) -> Result<(), InputError>
+    requires { length message.now.metadata.items < 2 ^ 31 }
+{
+    let columns = columns_of(rt.alloc(), message)?;
+    let indices = supported_indices(rt.alloc(), &columns)?;
+    let reader = open_schema(rt.alloc(), Projection::Indices(&indices), input)?;
+    let text = support_lines(rt.alloc(), &columns, &reader.schema().fields)?;
+    write_output(out, text.as_bytes())?;
+    Ok(())
+}
+
 /// Prints the schema of a file of which columns are not supported.
 pub fn print_support<W: Write>(
     rt: &HostRuntime,
@@ -69,13 +96,31 @@ pub fn print_support<W: Write>(
     out: &mut W,
 ) -> Result<(), InputError> {
     let message = first_message(rt, file)?;
-    let columns = columns_of(rt.alloc(), &message)?;
-    let indices = supported_indices(rt.alloc(), &columns)?;
     let input = open_again(rt, file)?;
-    let reader = open_schema(rt.alloc(), Projection::Indices(&indices), input)?;
-    let text = support_lines(rt.alloc(), &columns, &reader.schema().fields)?;
-    write_output(out, text.as_bytes())?;
-    Ok(())
+    print_marked(rt, &message, input, out)
+}
+
+/// Prints the schema of a stream of which columns are not supported, by the bytes of its schema message.
+pub fn print_support_of_stream<W: Write>(
+    rt: &HostRuntime,
+    bytes: &[u8],
+    out: &mut W,
+) -> Result<(), InputError> {
+    let message = next_message(rt.alloc(), &mut Cursor::new(bytes))?;
+    print_marked(rt, &message, Input::Stream(Cursor::new(bytes)), out)
+}
+
+/// Prints the schema of a file in memory of which columns are not supported.
+pub fn print_support_of_file<W: Write>(
+    rt: &HostRuntime,
+    bytes: &[u8],
+    out: &mut W,
+) -> Result<(), InputError> {
+    if bytes.len() < BEFORE_MESSAGES {
+        return Err(InputError::from(UNSUPPORTED));
+    }
+    let message = next_message(rt.alloc(), &mut Cursor::new(&bytes[BEFORE_MESSAGES..]))?;
+    print_marked(rt, &message, Input::File(Cursor::new(bytes)), out)
 }
 
 /// Returns whether a column is read.
