@@ -1,5 +1,6 @@
 -- Rows counted record batch by record batch.
 use Rattle.std.proofs.Common.{◌≡◌, inl, inr, ℕ, ◌+◌, ◌<◌, ◌≤◌, List, [], ◌∷◌, ◌++◌, length, map, sum, take, get_or, Option, Some, None, Result, Ok, Err, refl, sym, ap, subst, ◌∙◌, arith}
+use Rattle.std.specs.Prelude.{IsOk}
 use Rattle.std.specs.Option.{option_map}
 use Rattle.std.specs.Io.KnownBytes.{Keeps}
 use Rattle.std.proofs.lemmas.List.{take_all, take_more}
@@ -29,7 +30,7 @@ use Rattle.cli_read.specs.Decoded.{Decoded, table_with}
 use Rattle.cli_read.specs.ProjectedNames.{FailsToOpenColumns, HasNames, HasUnknown}
 use Rattle.cli_read.specs.Remaining.{FailsToReadNext, IsOpened, IsReadErrorOf, Remaining, ReturnsNext, StartsEmpty, with_schema}
 use Rattle.cli_read.specs.RowBuffers.{IsAfter, prepended, table_of_batches}
-use Rattle.cli_read.proofs.BufferSteps.{behind-more, behind-none, behind-whole}
+use Rattle.cli_read.proofs.BufferSteps.{behind-first, behind-more, behind-none, behind-whole}
 
 abbrev Batches : Type 0
 Batches = Result (List RecordBatchTree) IpcReadError
@@ -64,6 +65,9 @@ count-end s k (Some t) None v n w r = absurd w
 count-end s k (Some t) (Some u) None n w r = absurd r
 count-end s k (Some t) (Some u) (Some v) n (bs, at, is) r = subst (λ (read : Batches). HasTable (table_with s read) (λ h. n ≡ total_rows h)) (sym (behind-whole t u v k bs at r)) is
 
+pub decodes : (s : SchemaModel) (read : Batches) (bs : List RecordBatchTree) → read ≡ Ok bs → IsOk (table_with s read)
+decodes s read bs e = subst (λ (r : Batches). IsOk (table_with s r)) (sym e) refl
+
 fails-behind : (error : CliError) (s : SchemaModel) (bs : List RecordBatchTree) (read : Batches) → IsReadErrorOf error read → IsReadErrorOf error (table_with s (prepended bs read))
 fails-behind Input s bs read h = tt
 fails-behind (Read error) s bs read h = λ real. ap (λ (r : Batches). table_with s (prepended bs r)) (h real)
@@ -78,11 +82,13 @@ fails-behind Memory s bs read h = h
 pub count-fails : (error : CliError) (s : SchemaModel) (k : ℕ) (t u : Option Remaining) (n : ℕ) → CountState k t u n → FailsToReadNext error u → FailsIn (option_map (with_schema s) t) (record { batch = Some k; error = error })
 count-fails error s k None u n w h = tt
 count-fails error s k (Some t) None n w h = absurd w
-count-fails error s k (Some t) (Some u) n (bs, at, is) h = subst (λ (r : Batches). IsReadErrorOf error (table_with s r)) (sym (at.first 1)) (fails-behind error s bs (u.first 1) h)
+count-fails error s k (Some t) (Some u) n (bs, at, is) h =
+    (subst (λ (r : Batches). IsReadErrorOf error (table_with s r)) (sym (at.first 1)) (fails-behind error s bs (u.first 1) h), decodes s (t.first k) bs (behind-first t u k bs at))
 
-pub uncounted : (x : Option Decoded) (k : ℕ) → FailsIn x (record { batch = Some k; error = Input })
-uncounted None k = tt
-uncounted (Some x) k = tt
+pub uncounted : (s : SchemaModel) (k : ℕ) (t u : Option Remaining) (n : ℕ) → CountState k t u n → FailsIn (option_map (with_schema s) t) (record { batch = Some k; error = Input })
+uncounted s k None u n w = tt
+uncounted s k (Some t) None n w = absurd w
+uncounted s k (Some t) (Some u) n (bs, at, is) = (tt, decodes s (t.first k) bs (behind-first t u k bs at))
 
 -- ---- opened inputs
 
@@ -104,7 +110,7 @@ fails-alike picks (Some x) (Some y) stop o names h = by stop.batch (subst (λ (z
   where
     by : (batch : Option ℕ) → IsErrorIn x batch stop.error → IsCountError picks x batch stop.error
     by None e = absurd e
-    by (Some k) e = (e, names)
+    by (Some k) e = (e.0, e.1, names)
 
 pub unopened : (picks : ProjectionModel) (x : Option Decoded) (error : CliError) → FailsToOpenColumns picks error x → FailsToCount picks x (record { batch = None; error = error })
 unopened picks None error h = tt
@@ -182,14 +188,20 @@ metadata-end s blocks k (Some xs) (Some ys) n (same, (ns, are, is)) le =
     let whole : row_counts_at xs blocks ≡ Ok ns = ap (row_counts_at xs) (sym (take_all k blocks le)) ∙ are in
     subst (λ (r : Numbers). HasTable (table_with s (batches_of_counts r)) (λ h. n ≡ total_rows h)) (sym whole) (is ∙ sym (total-alone ns))
 
+counted : (s : SchemaModel) (counts : Numbers) (ns : List ℕ) → counts ≡ Ok ns → IsOk (table_with s (batches_of_counts counts))
+counted s counts ns e = subst (λ (r : Numbers). IsOk (table_with s (batches_of_counts r))) (sym e) refl
+
 pub metadata-fails : (s : SchemaModel) (blocks : List Block) (k : ℕ) (known now : Option (List ℕ)) (n : ℕ) (e : ReadError) → MetadataState k blocks known now n → k < length blocks → CountsAt blocks k now (Err e) → FailsIn (option_map (metadata_of_blocks s blocks) known) (record { batch = Some k; error = read_error e })
 metadata-fails s blocks k None now n e w lt h = tt
 metadata-fails s blocks k (Some xs) None n e w lt h = absurd w
-metadata-fails s blocks k (Some xs) (Some ys) n (Ipc error) (same, (ns, are, is)) lt h = λ real.
-    let one : block_rows_in xs (get_or blocks k no_block) ≡ Err error = ap (λ (l : List ℕ). block_rows_in l (get_or blocks k no_block)) (sym same) ∙ h real in
-    let all : row_counts_at xs (take (k + 1) blocks) ≡ Err error = counts-more xs blocks k lt ∙ rw (are, one) refl in
-    ap (λ (r : Numbers). table_with s (batches_of_counts r)) all
-metadata-fails s blocks k (Some xs) (Some ys) n (Io e) w lt h = tt
+metadata-fails s blocks k (Some xs) (Some ys) n (Ipc error) (same, (ns, are, is)) lt h = (fails, counted s (row_counts_at xs (take k blocks)) ns are)
+  where
+    fails : IsReadErrorOf (Read error) (table_with s (batches_of_counts (row_counts_at xs (take (k + 1) blocks))))
+    fails = λ real.
+        let one : block_rows_in xs (get_or blocks k no_block) ≡ Err error = ap (λ (l : List ℕ). block_rows_in l (get_or blocks k no_block)) (sym same) ∙ h real in
+        let all : row_counts_at xs (take (k + 1) blocks) ≡ Err error = counts-more xs blocks k lt ∙ rw (are, one) refl in
+        ap (λ (r : Numbers). table_with s (batches_of_counts r)) all
+metadata-fails s blocks k (Some xs) (Some ys) n (Io e) (same, (ns, are, is)) lt h = (tt, counted s (row_counts_at xs (take k blocks)) ns are)
 
 -- ---- opened metadata
 

@@ -13,7 +13,7 @@ use Rattle.cli_read.specs.FirstErrors.{ReadsFirst}
 use Rattle.cli_read.specs.Remaining.{FailsToReadNext, Remaining, ReturnsNext, StartsEmpty, with_schema}
 use Rattle.cli_read.specs.RowBuffers.{IsAfter}
 use Rattle.cli_read.proofs.BufferSteps.{behind-first, behind-whole}
-use Rattle.cli_read.proofs.Counted.{CountState, count-begun, count-fails, count-more}
+use Rattle.cli_read.proofs.Counted.{CountState, count-begun, count-fails, count-more, decodes}
 
 abbrev Batches : Type 0
 Batches = Result (List RecordBatchTree) IpcReadError
@@ -31,19 +31,16 @@ read-more k t u v b (n, w) r = (n + b.rows, count-more k t u v n (n + b.rows) b 
 pub read-fails : (error : CliError) (s : SchemaModel) (k : ℕ) (t u : Option Remaining) → ReadState k t u → FailsToReadNext error u → FailsIn (option_map (with_schema s) t) (record { batch = Some k; error = error })
 read-fails error s k t u (n, w) h = count-fails error s k t u n w h
 
-is-read : (s : SchemaModel) (read : Batches) (bs : List RecordBatchTree) → read ≡ Ok bs → IsOk (table_with s read)
-is-read s read bs e = subst (λ (r : Batches). IsOk (table_with s r)) (sym e) refl
-
 pub read-count : (s : SchemaModel) (k : ℕ) (t u : Option Remaining) → ReadState k t u → ReadsFirst k (option_map (with_schema s) t)
 read-count s k None u w = tt
 read-count s k (Some t) None (n, w) = absurd w
-read-count s k (Some t) (Some u) (n, (bs, at, is)) = inl (is-read s (t.first k) bs (behind-first t u k bs at))
+read-count s k (Some t) (Some u) (n, (bs, at, is)) = inl (decodes s (t.first k) bs (behind-first t u k bs at))
 
 pub read-whole : (s : SchemaModel) (count k : ℕ) (t u v : Option Remaining) → ReadState k t u → ReturnsNext u v None → ReadsFirst count (option_map (with_schema s) t)
 read-whole s count k None u v w r = tt
 read-whole s count k (Some t) None v (n, w) r = absurd w
 read-whole s count k (Some t) (Some u) None (n, w) r = absurd r
-read-whole s count k (Some t) (Some u) (Some v) (n, (bs, at, is)) r = inr (is-read s t.whole bs (behind-whole t u v k bs at r))
+read-whole s count k (Some t) (Some u) (Some v) (n, (bs, at, is)) r = inr (decodes s t.whole bs (behind-whole t u v k bs at r))
 
 -- both decode alike
 pub reads-alike : (count : ℕ) (x y : Option Decoded) → DecodesAlike x y → ReadsFirst count y → ReadsFirst count x

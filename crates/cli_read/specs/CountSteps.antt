@@ -1,5 +1,5 @@
 -- Steps of counting the rows of an input.
-use Rattle.std.specs.Prelude.{◌≡◌, ◌+◌, ℕ, List, take, Option, Some, None}
+use Rattle.std.specs.Prelude.{◌≡◌, ◌+◌, ℕ, List, take, Option, Some, None, IsOk}
 use Rattle.std.specs.Option.{option_map}
 use Rattle.ipc_schema.specs.Projections.{ProjectionModel}
 use Rattle.ipc_schema.specs.Schemas.{SchemaModel}
@@ -14,10 +14,10 @@ use Rattle.cli_read.specs.Readers.{decoded_reader}
 use Rattle.cli_read.specs.Remaining.{IsReadErrorOf}
 use Rattle.cli_read.specs.declared.reader.BatchReader.{BatchReader}
 
--- this record batch was not read
+-- this record batch was not read, and those before it decode
 abbrev pub IsErrorIn : Decoded → Option ℕ → CliError → Type 0
 IsErrorIn s None error = ⊥
-IsErrorIn s (Some k) error = IsReadErrorOf error (s.first (k + 1))
+IsErrorIn s (Some k) error = IsReadErrorOf error (s.first (k + 1)) × IsOk (s.first k)
 
 abbrev pub FailsIn : Option Decoded → BatchError → Type 0
 FailsIn None stop = Unit {0}

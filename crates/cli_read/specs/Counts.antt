@@ -1,5 +1,5 @@
 -- The number of rows of an input.
-use Rattle.std.specs.Prelude.{◌≡◌, ◌⊎◌, ◌++◌, ◌+◌, ℕ, List, [], ◌∷◌, map, sum, take, Option, Some, None, Result, Ok}
+use Rattle.std.specs.Prelude.{◌≡◌, ◌⊎◌, ◌++◌, ◌+◌, ℕ, List, [], ◌∷◌, map, sum, take, Option, Some, None, Result, Ok, IsOk}
 use Rattle.std.specs.Option.{option_map}
 use Rattle.std.specs.Fmt.{decimal}
 use Rattle.ipc_flatbuf.specs.ReadResults.{◌>>=◌}
@@ -61,10 +61,10 @@ abbrev pub Counts : Option Decoded → ℕ → Type 0
 Counts None n = Unit {0}
 Counts (Some s) n = HasTable s.whole (λ t. n ≡ total_rows t)
 
--- the input was not opened; or this record batch was not read, and each projected name is that of a column
+-- the input was not opened; or this record batch was not read, those before it decode, and each projected name is that of a column
 abbrev pub IsCountError : ProjectionModel → Decoded → Option ℕ → CliError → Type 0
 IsCountError picks s None error = FailsToOpenColumns picks error (Some s)
-IsCountError picks s (Some k) error = IsReadErrorOf error (s.first (k + 1)) × HasUnknown picks None s
+IsCountError picks s (Some k) error = IsReadErrorOf error (s.first (k + 1)) × IsOk (s.first k) × HasUnknown picks None s
 
 abbrev pub FailsToCount : ProjectionModel → Option Decoded → BatchError → Type 0
 FailsToCount picks None stop = Unit {0}

@@ -3,7 +3,7 @@ ghost use Rattle.std.specs.Prelude.{IfNone, IfSome};
 ghost use Rattle.ipc_schema.specs.Projections.{projection_of};
 ghost use Rattle.cli_read.specs.Counts.{FailsToCount};
 ghost use Rattle.cli_read.specs.CountSteps.{FailsToCountBatches};
-ghost use Rattle.cli_read.specs.FirstErrors.{ReadsFirst};
+ghost use Rattle.cli_read.specs.FirstErrors.{IsInFirst, ReadsFirst};
 ghost use Rattle.cli_read.specs.Inputs.{decoded_input};
 ghost use Rattle.cli_read.specs.Readers.{decoded_reader};
 
@@ -21,6 +21,7 @@ fn batch_error<R: SeekRead + Drop>(
     count: usize,
 ) -> Option<BatchError>
     ensures error { IfSome result (FailsToCountBatches R.remaining R.stream_position R.stream_bytes reader) }
+    ensures within { IfSome result (IsInFirst count) }
     ensures none { IfNone result (ReadsFirst count (decoded_reader R.remaining R.stream_position R.stream_bytes reader)) }
 {
     let mut reader = reader;
@@ -50,6 +51,7 @@ pub fn first_error<R: SeekRead + Drop>(
 ) -> Option<BatchError>
     ensures error { let picks = projection_of columns.entry in
         IfSome result (FailsToCount picks (decoded_input R.remaining R.stream_position R.stream_bytes picks input)) }
+    ensures within { IfSome result (IsInFirst count) }
     ensures none { let picks = projection_of columns.entry in
         IfNone result (ReadsFirst count (decoded_input R.remaining R.stream_position R.stream_bytes picks input)) }
 {
