@@ -472,6 +472,11 @@ printf '{"d":1}' >"$room/past"
 expect 2 '' "nest: $room/past: line 1: unknown field" from-json "$rows" "$room/past" "$room/as"
 expect 0 "$laid" '' rows "$room/made"
 expect 2 '' "nest: struct<a: map<string, int8>>: cannot be read from JSON: map type" from-json 'struct<a: map<string, int8>>' "$room/lines" "$room/as"
+# Dates and timestamps in conditions, as rows print them; a string that is no date.
+printf '{"day":"2024-02-29","at":"2024-02-29T12:34:56.500Z"}\n{"day":"1969-12-31","at":null}\n{"day":null,"at":"1970-01-01T00:00:00.000Z"}\n' >"$room/days.json"
+expect 0 '' '' from-json 'struct<day: date32[day], at: timestamp[ms, tz=UTC]>' "$room/days.json" "$room/days"
+expect 0 '{"day":"2024-02-29","at":"2024-02-29T12:34:56.500Z"}\n' '' where "$room/days" "day >= '2024-02-29' and at < '2024-02-29T12:34:57Z'"
+expect 2 '' "nest: $room/days: position 0: the string is not a value of the column's type" where "$room/days" "day = '2023-02-29'"
 # Floats: the shortest decimals, and the names of the others; one past the largest. The second half is above a tie that its nearest double is.
 printf '{"h":1.5}\n{"h":2049.0000000000000001}\n{"h":"Infinity"}\n' >"$room/halves.json"
 expect 0 '' '' from-json 'struct<h: halffloat>' "$room/halves.json" "$room/halves"

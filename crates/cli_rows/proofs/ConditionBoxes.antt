@@ -1,7 +1,8 @@
 -- Conditions in boxes.
 use Rattle.std.proofs.Common.{◌≡◌, ℕ, List, Box, Global, sym, ap, ◌∙◌}
 use Rattle.nest_memory.specs.TypeTree.{FieldTree}
-use Rattle.cli_rows.specs.ConditionErrors.{resolved_condition}
+use Rattle.cli_rows.specs.ColumnFields.{field_of_column, resolved_column}
+use Rattle.cli_rows.specs.ConditionErrors.{resolved_condition, resolved_literal, spec_field_kind}
 use Rattle.cli_args.specs.ColumnTrees.{column_tree}
 use Rattle.cli_args.specs.Conditions.{ConditionTree, both, compare, either, negation}
 use Rattle.cli_args.specs.ConditionTrees.{condition_step, condition_tree, literal_tree}
@@ -26,6 +27,11 @@ tree-or : (a b : Box Condition Global) → condition_tree (Or a b) ≡ either (c
 tree-or a b = ap condition_tree (sym (rolls-Or a b)) ∙ fold-roll-Condition ConditionTree condition_step (Condition-F.Or a b)
 
 -- ---- resolved inside
+
+pub resolved-compare : (fs : List FieldTree) (a : Condition) (column : Column) (at : ℕ) (op : Comparison) (literal : Literal) (d : Column) (l : Literal) → a ≡ Compare column at op literal → column_tree d ≡ resolved_column fs (column_tree column)
+    → literal_tree l ≡ resolved_literal (spec_field_kind (field_of_column (column_tree column) fs)) (literal_tree literal) → condition_tree (Compare d at op l) ≡ resolved_condition fs (condition_tree a)
+resolved-compare fs a column at op literal d l is h k =
+    tree-compare d at op l ∙ (λ i. compare (h i) at op (k i)) ∙ ap (resolved_condition fs) (sym (ap condition_tree is ∙ tree-compare column at op literal))
 
 pub resolved-not : (fs : List FieldTree) (a : Condition) (b d : Box Condition Global) → a ≡ Not b → condition_tree d.value ≡ resolved_condition fs (condition_tree b.value) → condition_tree (Not d) ≡ resolved_condition fs (condition_tree a)
 resolved-not fs a b d is h = tree-not d ∙ ap negation h ∙ ap (resolved_condition fs) (sym (ap condition_tree is ∙ tree-not b))

@@ -1,6 +1,8 @@
 mod Offsets
 mod Decimals
 mod Values
+mod TimeTexts
+mod TimeExamples
 mod Truths
 mod ConditionBoxes
 mod RecordColumns

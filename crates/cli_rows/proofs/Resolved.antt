@@ -1,7 +1,7 @@
 -- Selections whose columns are resolved.
-use Rattle.std.proofs.Common.{◌≡◌, ℕ, suc, ◌<◌, Bool, true, false, List, [], ◌∷◌, length, map, Option, Some, None, option_map, bytes_eq, if◌then◌else◌, refl, sym, ap, subst, ◌∙◌, arith}
+use Rattle.std.proofs.Common.{◌≡◌, ℕ, zero, suc, ◌<◌, Bool, true, false, List, [], ◌∷◌, length, map, Option, Some, None, option_map, bytes_eq, if◌then◌else◌, refl, sym, ap, subst, ◌∙◌, arith}
 use Rattle.std.specs.Option.{option_and_then, option_or}
-use Rattle.std.specs.Prelude.{unwrap_or}
+use Rattle.std.specs.Prelude.{is_some, unwrap_or}
 use Rattle.std.specs.List.{AllByRecursion, filter, flat_map}
 use Rattle.std.proofs.Math.Bool.{cond}
 use Rattle.nest_memory.specs.TypeOf.{field_trees}
@@ -12,10 +12,18 @@ use Rattle.nest_model.specs.Slot.{Slot, Slots, more_slots, no_slots}
 use Rattle.json_write.specs.JsonText.{field_name}
 use Rattle.ipc.specs.Streams.{RecordBatchTree}
 use Rattle.cli_args.specs.Columns.{ColumnTree, indexed, named}
-use Rattle.cli_args.specs.Conditions.{ConditionTree, both, compare, either, is_null, is_true, negation}
+use Rattle.cli_args.specs.Conditions as literals
+use Rattle.cli_args.specs.Conditions.{ConditionTree, LiteralTree, NumberTree, both, compare, either, is_null, is_true, negation}
+use Rattle.cli_args.specs.declared.condition.Comparison.{Comparison}
 use Rattle.cli_args.specs.Requests.{SelectionTree, all, indices, slice, where_true}
 use Rattle.cli_rows.specs.Conditions.{is_true_in, nullness, spec_compared, spec_truth, truth_of, value_at, value_named, value_of}
-use Rattle.cli_rows.specs.ConditionErrors.{resolved_condition, spec_boolean_error, spec_column_error, spec_comparison_error, spec_condition_error}
+use Rattle.cli_rows.specs.Comparisons.{spec_holds_of, spec_number_order, spec_order, spec_ordered}
+use Rattle.cli_rows.specs.Kinds.{spec_column_kind}
+use Rattle.cli_rows.specs.TimeLiterals.{spec_number_of_text}
+use Rattle.cli_rows.specs.declared.error.ColumnError.TheVariants.{InvalidText}
+use Rattle.cli_rows.specs.declared.select.kinds.ValueKind.{ValueKind}
+use Rattle.cli_rows.specs.declared.select.kinds.ValueKind.TheVariants as kinds
+use Rattle.cli_rows.specs.ConditionErrors.{number_or_text, resolved_condition, resolved_literal, spec_boolean_error, spec_column_error, spec_comparison_error, spec_condition_error, spec_field_kind, spec_kind_error}
 use Rattle.cli_rows.specs.ColumnFields.{column_by_index, field_of_column, resolved_column, spec_column_index, spec_field_at, spec_field_named}
 use Rattle.cli_rows.specs.Truth.{truth_and, truth_not, truth_or}
 use Rattle.cli_rows.specs.ColumnNames.{resolved_selection, spec_selection_error}
@@ -75,12 +83,83 @@ no-column : (column : ColumnTree) → resolved_column [] column ≡ column
 no-column (named name) = refl
 no-column (indexed i) = refl
 
+-- ---- a resolved literal
+
+no-literal : (literal : LiteralTree) → resolved_literal None literal ≡ literal
+no-literal (literals.number n) = refl
+no-literal (literals.text bs) = refl
+no-literal (literals.boolean b) = refl
+
+no-field : (literal : LiteralTree) (column : ColumnTree) → resolved_literal (spec_field_kind (field_of_column column [])) literal ≡ literal
+no-field literal (named name) = no-literal literal
+no-field literal (indexed i) = no-literal literal
+
+same-order : (kind : Option ValueKind) (literal : LiteralTree) (v : Slot) → spec_order kind (resolved_literal kind literal) v ≡ spec_order kind literal v
+same-order (Some (kinds.Temporal u)) (literals.text bs) v = by (spec_number_of_text u bs) refl
+  where
+    by : (o : Option NumberTree) → spec_number_of_text u bs ≡ o → spec_order (Some (kinds.Temporal u)) (number_or_text bs o) v ≡ spec_order (Some (kinds.Temporal u)) (literals.text bs) v
+    by None e = refl
+    by (Some n) e = sym (ap (λ o. spec_ordered (option_and_then (spec_number_order 0 v) o)) e)
+same-order (Some (kinds.Temporal u)) (literals.number n) v = refl
+same-order (Some (kinds.Temporal u)) (literals.boolean b) v = refl
+same-order (Some (kinds.Number s)) literal v = refl
+same-order (Some (kinds.Float p)) literal v = refl
+same-order (Some kinds.String) literal v = refl
+same-order (Some kinds.Boolean) literal v = refl
+same-order None literal v = ap (λ l. spec_order None l v) (no-literal literal)
+
+same-compared : (op : Comparison) (literal : LiteralTree) (t : TypeTree) (v : Slot) → spec_compared op (resolved_literal (spec_column_kind t) literal) (t, v) ≡ spec_compared op literal (t, v)
+same-compared op literal t v = ap (option_map (spec_holds_of op)) (same-order (spec_column_kind t) literal v)
+
+same-error : (at : ℕ) (kind : Option ValueKind) (literal : LiteralTree) → spec_kind_error at (resolved_literal kind literal) kind ≡ spec_kind_error at literal kind
+same-error at (Some (kinds.Temporal u)) (literals.text bs) = by (spec_number_of_text u bs) refl
+  where
+    by : (o : Option NumberTree) → spec_number_of_text u bs ≡ o → spec_kind_error at (number_or_text bs o) (Some (kinds.Temporal u)) ≡ spec_kind_error at (literals.text bs) (Some (kinds.Temporal u))
+    by None e = refl
+    by (Some n) e = sym (ap (λ o. if is_some o then None else Some (InvalidText at)) e)
+same-error at (Some (kinds.Temporal u)) (literals.number n) = refl
+same-error at (Some (kinds.Temporal u)) (literals.boolean b) = refl
+same-error at (Some (kinds.Number s)) literal = refl
+same-error at (Some (kinds.Float p)) literal = refl
+same-error at (Some kinds.String) literal = refl
+same-error at (Some kinds.Boolean) literal = refl
+same-error at None literal = ap (λ l. spec_kind_error at l None) (no-literal literal)
+
+field-error : (at : ℕ) (literal : LiteralTree) (o : Option FieldTree) → spec_comparison_error at (resolved_literal (spec_field_kind o) literal) o ≡ spec_comparison_error at literal o
+field-error at literal None = refl
+field-error at literal (Some f) = same-error at (spec_column_kind (field_type f)) literal
+
+abbrev compared_value : Comparison → LiteralTree → Option FieldTree → Option RowSlot → Option Bool
+compared_value op literal f r = option_and_then (spec_compared op (resolved_literal (spec_field_kind f) literal)) r
+
+named-literal : (op : Comparison) (literal : LiteralTree) (name : List ℕ) (fs : List FieldTree) (ss : Slots) → compared_value op literal (spec_field_named name fs) (value_named name (field_trees fs) ss) ≡ option_and_then (spec_compared op literal) (value_named name (field_trees fs) ss)
+named-literal op literal name [] ss = refl
+named-literal op literal name (f ∷ fs) no_slots = refl
+named-literal op literal name (f ∷ fs) (more_slots s ss) = by (bytes_eq (field_name f) name) (named-literal op literal name fs ss)
+  where
+    by : (q : Bool) → compared_value op literal (spec_field_named name fs) (value_named name (field_trees fs) ss) ≡ option_and_then (spec_compared op literal) (value_named name (field_trees fs) ss)
+        → compared_value op literal (if q then Some f else spec_field_named name fs) (if q then Some (field_type f, s) else value_named name (field_trees fs) ss)
+        ≡ option_and_then (spec_compared op literal) (if q then Some (field_type f, s) else value_named name (field_trees fs) ss)
+    by true rest = same-compared op literal (field_type f) s
+    by false rest = rest
+
+indexed-literal : (op : Comparison) (literal : LiteralTree) (i : ℕ) (fs : List FieldTree) (ss : Slots) → compared_value op literal (spec_field_at i fs) (value_at i (field_trees fs) ss) ≡ option_and_then (spec_compared op literal) (value_at i (field_trees fs) ss)
+indexed-literal op literal i [] ss = refl
+indexed-literal op literal i (f ∷ fs) no_slots = refl
+indexed-literal op literal zero (f ∷ fs) (more_slots s ss) = same-compared op literal (field_type f) s
+indexed-literal op literal (suc i) (f ∷ fs) (more_slots s ss) = indexed-literal op literal i fs ss
+
+column-literal : (op : Comparison) (literal : LiteralTree) (column : ColumnTree) (fs : List FieldTree) (ss : Slots) → compared_value op literal (field_of_column column fs) (value_of column (field_trees fs) ss) ≡ option_and_then (spec_compared op literal) (value_of column (field_trees fs) ss)
+column-literal op literal (named name) fs ss = named-literal op literal name fs ss
+column-literal op literal (indexed i) fs ss = indexed-literal op literal i fs ss
+
 -- ---- a resolved condition
 
 condition-error : (fs : List FieldTree) (c : ConditionTree) → spec_condition_error (resolved_condition fs c) fs ≡ spec_condition_error c fs
 condition-error fs (is_true column at) = ap (spec_boolean_error at) (column-field fs column)
 condition-error fs (is_null column at) = ap (spec_column_error at) (column-field fs column)
-condition-error fs (compare column at op literal) = ap (spec_comparison_error at literal) (column-field fs column)
+condition-error fs (compare column at op literal) =
+    ap (spec_comparison_error at (resolved_literal (spec_field_kind (field_of_column column fs)) literal)) (column-field fs column) ∙ field-error at literal (field_of_column column fs)
 condition-error fs (negation c) = condition-error fs c
 condition-error fs (both c d) = let e = condition-error fs c in let f = condition-error fs d in λ i. option_or (e i) (f i)
 condition-error fs (either c d) = let e = condition-error fs c in let f = condition-error fs d in λ i. option_or (e i) (f i)
@@ -88,7 +167,8 @@ condition-error fs (either c d) = let e = condition-error fs c in let f = condit
 condition-truth : (fs : List FieldTree) (c : ConditionTree) (ss : Slots) → spec_truth (resolved_condition fs c) (field_trees fs) ss ≡ spec_truth c (field_trees fs) ss
 condition-truth fs (is_true column at) ss = ap (option_and_then truth_of) (column-value fs column ss)
 condition-truth fs (is_null column at) ss = ap (option_and_then nullness) (column-value fs column ss)
-condition-truth fs (compare column at op literal) ss = ap (option_and_then (spec_compared op literal)) (column-value fs column ss)
+condition-truth fs (compare column at op literal) ss =
+    ap (compared_value op literal (field_of_column column fs)) (column-value fs column ss) ∙ column-literal op literal column fs ss
 condition-truth fs (negation c) ss = ap truth_not (condition-truth fs c ss)
 condition-truth fs (both c d) ss = let e = condition-truth fs c ss in let f = condition-truth fs d ss in λ i. truth_and (e i) (f i)
 condition-truth fs (either c d) ss = let e = condition-truth fs c ss in let f = condition-truth fs d ss in λ i. truth_or (e i) (f i)
@@ -96,7 +176,7 @@ condition-truth fs (either c d) ss = let e = condition-truth fs c ss in let f = 
 no-columns : (c : ConditionTree) → resolved_condition [] c ≡ c
 no-columns (is_true column at) = ap (λ z. is_true z at) (no-column column)
 no-columns (is_null column at) = ap (λ z. is_null z at) (no-column column)
-no-columns (compare column at op literal) = ap (λ z. compare z at op literal) (no-column column)
+no-columns (compare column at op literal) = let e = no-column column in let f = no-field literal column in λ i. compare (e i) at op (f i)
 no-columns (negation c) = ap negation (no-columns c)
 no-columns (both c d) = let e = no-columns c in let f = no-columns d in λ i. both (e i) (f i)
 no-columns (either c d) = let e = no-columns c in let f = no-columns d in λ i. either (e i) (f i)

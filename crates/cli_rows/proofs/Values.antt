@@ -7,12 +7,14 @@ use Rattle.nest_memory.specs.declared.datatypes.floats.Precision.TheVariants.{Ha
 use Rattle.nest_memory.specs.declared.datatypes.physical_type.PrimitiveType.{PrimitiveType}
 use Rattle.nest_memory.specs.declared.datatypes.physical_type.PrimitiveType.TheVariants as primitives
 use Rattle.nest_memory.specs.Physical.{physical_type}
+use Rattle.nest_memory.specs.declared.datatypes.physical_type.PhysicalType.{PhysicalType}
 use Rattle.nest_memory.specs.declared.datatypes.physical_type.PhysicalType.TheVariants as physical
 use Rattle.nest_memory.specs.TypeTree as types
-use Rattle.nest_memory.specs.TypeTree.{Letters, TypeTree}
+use Rattle.nest_memory.specs.TypeTree.{Letters, TypeTree, logical_type, value_type}
 use Rattle.nest_model.specs.Accessors.{child_of, key_at, keys_of, validity_of}
 use Rattle.nest_model.specs.Array.{TopFits}
-use Rattle.nest_model.specs.Fits.{Names, is_dictionary}
+use Rattle.nest_model.specs.FactLaws.{dictionary-facts}
+use Rattle.nest_model.specs.Fits.{IsLogically, Names, is_dictionary}
 use Rattle.nest_model.specs.Layout as layouts
 use Rattle.nest_model.specs.Layout.{Layout, layout_type, weight}
 use Rattle.nest_model.specs.Meaning.{len}
@@ -23,7 +25,8 @@ use Rattle.nest_model.specs.Slot.{Slot}
 use Rattle.nest_array.specs.Kinds.{IsKeyed, IsPrimitive}
 use Rattle.cli_rows.specs.Comparisons.{boolean_of}
 use Rattle.cli_rows.specs.Conditions.{is_boolean_kind, is_valid, truth_of}
-use Rattle.cli_rows.specs.Kinds.{float_kind_or, spec_value_kind}
+use Rattle.cli_rows.specs.Kinds.{float_kind_or, spec_column_kind, spec_has_kind, spec_value_kind}
+use Rattle.cli_rows.specs.declared.select.time_literals.TemporalKind.{TemporalKind}
 use Rattle.cli_rows.specs.declared.select.kinds.ValueKind.{ValueKind}
 use Rattle.cli_rows.specs.declared.select.kinds.ValueKind.TheVariants as kinds
 
@@ -34,6 +37,9 @@ unfloated (Some p) inner k other e = absurd (other p e)
 
 not-number : (s : ℕ) (p : Precision) → Some (kinds.Float p) ≡ Some (kinds.Number s) → ⊥
 not-number s p e = cc
+
+not-temporal : (u : TemporalKind) (p : Precision) → Some (kinds.Float p) ≡ Some (kinds.Temporal u) → ⊥
+not-temporal u p e = cc
 
 not-string : (p : Precision) → Some (kinds.Float p) ≡ Some kinds.String → ⊥
 not-string p e = cc
@@ -73,12 +79,12 @@ float-extension n t p (Some q) inner is e =
     let same : q ≡ p = ap (precision_or q) e in
     subst (λ (r : Precision). physical_type t ≡ physical.Primitive (bits_kind r)) same (bits-physical t q (named n (bits_precision t) q is))
 
-pub float-kind : (t : TypeTree) (p : Precision) → spec_value_kind t ≡ Some (kinds.Float p) → physical_type t ≡ physical.Primitive (bits_kind p)
+float-kind : (t : TypeTree) (p : Precision) → spec_value_kind t ≡ Some (kinds.Float p) → physical_type t ≡ physical.Primitive (bits_kind p)
 float-kind (types.extension n t None) p e = float-extension n t p (named_precision n (bits_precision t)) (float-kind t p) refl e
 float-kind (types.extension n t (Some m)) p e = float-kind t p e
 float-kind t p e = absurd cc
 
-pub number-kind : (t : TypeTree) (s : ℕ) → spec_value_kind t ≡ Some (kinds.Number s) → IsPrimitive (physical_type t)
+number-kind : (t : TypeTree) (s : ℕ) → spec_value_kind t ≡ Some (kinds.Number s) → IsPrimitive (physical_type t)
 number-kind types.int8 s e = tt
 number-kind types.int16 s e = tt
 number-kind types.int32 s e = tt
@@ -87,23 +93,103 @@ number-kind types.uint8 s e = tt
 number-kind types.uint16 s e = tt
 number-kind types.uint32 s e = tt
 number-kind types.uint64 s e = tt
+number-kind (types.duration u) s e = tt
 number-kind (types.decimal p d) s e = tt
 number-kind (types.extension n t m) s e = number-kind t s (unfloated (spec_precision_of (types.extension n t m)) (spec_value_kind t) (kinds.Number s) (not-number s) e)
 number-kind t s e = absurd cc
 
-pub string-kind : (t : TypeTree) → spec_value_kind t ≡ Some kinds.String → (physical_type t ≡ physical.Utf8 → ⊥) → (physical_type t ≡ physical.LargeUtf8 → ⊥) → ⊥
-string-kind types.utf8 e h k = h refl
-string-kind types.large_utf8 e h k = k refl
-string-kind (types.extension n t m) e h k = string-kind t (unfloated (spec_precision_of (types.extension n t m)) (spec_value_kind t) kinds.String not-string e) h k
-string-kind t e h k = cc
+temporal-kind : (t : TypeTree) (u : TemporalKind) → spec_value_kind t ≡ Some (kinds.Temporal u) → IsPrimitive (physical_type t)
+temporal-kind types.date32 u e = tt
+temporal-kind types.date64 u e = tt
+temporal-kind (types.time32 v) u e = tt
+temporal-kind (types.time64 v) u e = tt
+temporal-kind (types.timestamp v z) u e = tt
+temporal-kind (types.extension n t m) u e = temporal-kind t u (unfloated (spec_precision_of (types.extension n t m)) (spec_value_kind t) (kinds.Temporal u) (not-temporal u) e)
+temporal-kind t u e = absurd cc
 
-boolean-type : (t : TypeTree) → spec_value_kind t ≡ Some kinds.Boolean → physical_type t ≡ physical.Boolean
-boolean-type types.boolean e = refl
-boolean-type (types.extension n t m) e = boolean-type t (unfloated (spec_precision_of (types.extension n t m)) (spec_value_kind t) kinds.Boolean not-boolean e)
-boolean-type t e = absurd cc
+string-kind : (t : TypeTree) → spec_value_kind t ≡ Some kinds.String → spec_has_kind kinds.String (physical_type t) ≡ true
+string-kind types.utf8 e = refl
+string-kind types.large_utf8 e = refl
+string-kind (types.extension n t m) e = string-kind t (unfloated (spec_precision_of (types.extension n t m)) (spec_value_kind t) kinds.String not-string e)
+string-kind t e = absurd cc
 
-pub boolean-truth : (t : TypeTree) (v : Slot) → spec_value_kind t ≡ Some kinds.Boolean → truth_of (t, v) ≡ boolean_of v
-boolean-truth t v e = ap (λ p. if is_boolean_kind p then boolean_of v else None) (boolean-type t e)
+boolean-kind : (t : TypeTree) → spec_value_kind t ≡ Some kinds.Boolean → physical_type t ≡ physical.Boolean
+boolean-kind types.boolean e = refl
+boolean-kind (types.extension n t m) e = boolean-kind t (unfloated (spec_precision_of (types.extension n t m)) (spec_value_kind t) kinds.Boolean not-boolean e)
+boolean-kind t e = absurd cc
+
+-- ---- the kinds of a physical type
+
+primitive-numbers : (p : PhysicalType) (s : ℕ) → IsPrimitive p → spec_has_kind (kinds.Number s) p ≡ true
+primitive-numbers (physical.Primitive k) s h = refl
+primitive-numbers p s h = absurd h
+
+primitive-times : (p : PhysicalType) (u : TemporalKind) → IsPrimitive p → spec_has_kind (kinds.Temporal u) p ≡ true
+primitive-times (physical.Primitive k) u h = refl
+primitive-times p u h = absurd h
+
+bits-floats : (p : Precision) → spec_has_kind (kinds.Float p) (physical.Primitive (bits_kind p)) ≡ true
+bits-floats Half = refl
+bits-floats Single = refl
+bits-floats Double = refl
+
+pub has-kind : (t : TypeTree) (k : ValueKind) → spec_value_kind t ≡ Some k → spec_has_kind k (physical_type t) ≡ true
+has-kind t (kinds.Number s) e = primitive-numbers (physical_type t) s (number-kind t s e)
+has-kind t (kinds.Float p) e = ap (spec_has_kind (kinds.Float p)) (float-kind t p e) ∙ bits-floats p
+has-kind t (kinds.Temporal u) e = primitive-times (physical_type t) u (temporal-kind t u e)
+has-kind t kinds.String e = string-kind t e
+has-kind t kinds.Boolean e = ap (spec_has_kind kinds.Boolean) (boolean-kind t e)
+
+pub numbers-primitive : (s : ℕ) (p : PhysicalType) → spec_has_kind (kinds.Number s) p ≡ true → IsPrimitive p
+numbers-primitive s (physical.Primitive k) e = tt
+numbers-primitive s p e = absurd cc
+
+pub times-primitive : (u : TemporalKind) (p : PhysicalType) → spec_has_kind (kinds.Temporal u) p ≡ true → IsPrimitive p
+times-primitive u (physical.Primitive k) e = tt
+times-primitive u p e = absurd cc
+
+pub floats-bits : (q : Precision) (p : PhysicalType) → spec_has_kind (kinds.Float q) p ≡ true → p ≡ physical.Primitive (bits_kind q)
+floats-bits Half (physical.Primitive primitives.UInt16) e = refl
+floats-bits Single (physical.Primitive primitives.UInt32) e = refl
+floats-bits Double (physical.Primitive primitives.UInt64) e = refl
+floats-bits q p e = absurd cc
+
+pub strings-utf8 : (p : PhysicalType) → spec_has_kind kinds.String p ≡ true → (p ≡ physical.Utf8 → ⊥) → (p ≡ physical.LargeUtf8 → ⊥) → ⊥
+strings-utf8 physical.Utf8 e h k = h refl
+strings-utf8 physical.LargeUtf8 e h k = k refl
+strings-utf8 p e h k = cc
+
+booleans-are : (p : PhysicalType) → spec_has_kind kinds.Boolean p ≡ true → is_boolean_kind p ≡ true
+booleans-are physical.Boolean e = refl
+booleans-are p e = absurd cc
+
+pub boolean-truth : (t : TypeTree) (v : Slot) → spec_has_kind kinds.Boolean (physical_type t) ≡ true → truth_of (t, v) ≡ boolean_of v
+boolean-truth t v e = ap (λ b. if b then boolean_of v else None) (booleans-are (physical_type t) e)
+
+-- ---- columns
+
+no-values : (t : TypeTree) → (IsKeyed (physical_type t) → ⊥) → value_type t ≡ None
+no-values (types.dictionary k t b) h = absurd (h tt)
+no-values (types.extension n t m) h = no-values t h
+no-values t h = refl
+
+pub unkeyed-kind : (t : TypeTree) (k : ValueKind) → (IsKeyed (physical_type t) → ⊥) → spec_column_kind t ≡ Some k → spec_has_kind k (physical_type t) ≡ true
+unkeyed-kind t k h e = has-kind t k (sym (ap (λ o. unwrap_or (option_map spec_value_kind o) (spec_value_kind t)) (no-values t h)) ∙ e)
+
+physical-logical : (t : TypeTree) → physical_type t ≡ physical_type (logical_type t)
+physical-logical (types.extension n t m) = physical-logical t
+physical-logical t = refl
+
+values-kind : (o : Option TypeTree) (t u : TypeTree) (k : ValueKind) → IsLogically o u → unwrap_or (option_map spec_value_kind o) (spec_value_kind t) ≡ Some k → spec_has_kind k (physical_type u) ≡ true
+values-kind None t u k h e = absurd h
+values-kind (Some v) t u k h e = ap (spec_has_kind k) (physical-logical u ∙ ap physical_type h ∙ sym (physical-logical v)) ∙ has-kind v k e
+
+-- the array of the values of a dictionary
+pub keyed-kind : (a c : Layout) (k : ValueKind) → TopFits a → a ≡ layouts.dictionary (layout_type a) (keys_of a) (child_of a) → c ≡ child_of a → spec_column_kind (layout_type a) ≡ Some k → spec_has_kind k (physical_type (layout_type c)) ≡ true
+keyed-kind a c k fits kind is e =
+    let typed = (dictionary-facts (layout_type a) (keys_of a) (child_of a) (subst TopFits kind fits)).value_typed in
+    ap (λ b. spec_has_kind k (physical_type (layout_type b))) is
+    ∙ values-kind (value_type (layout_type a)) (layout_type a) (layout_type (child_of a)) k typed e
 
 -- ---- nulls
 

@@ -1,9 +1,10 @@
 -- Examples of conditions.
-use Rattle.std.specs.Prelude.{ℕ, ℤ, true, List, [], ◌∷◌, codes, negsuc, pos}
+use Rattle.std.specs.Prelude.{ℕ, ℤ, true, false, List, [], ◌∷◌, codes, negsuc, pos}
 use Rattle.nest_memory.specs.TypeTree as types
 use Rattle.nest_memory.specs.TypeTree.{FieldTree, TypeTree, field}
 use Rattle.nest_memory.specs.TypeOf.{field_trees}
 use Rattle.nest_memory.specs.Floats.{spec_float_type}
+use Rattle.nest_memory.specs.declared.datatypes.IntegerType.TheVariants.{Int32}
 use Rattle.nest_memory.specs.declared.datatypes.floats.Precision.TheVariants.{Half, Single, Double}
 use Rattle.nest_model.specs.Slot as slots
 use Rattle.nest_model.specs.Slot.{Slot, more_slots, no_slots}
@@ -15,9 +16,9 @@ use Rattle.cli_rows.specs.Rows.{RowSlot}
 abbrev nullable : List ℕ → TypeTree → FieldTree
 nullable name t = field name t true []
 
--- two booleans, an integer, a string and a date
+-- two booleans, an integer, a string, a date and bytes
 abbrev pub example_fields : List FieldTree
-example_fields = nullable (codes "p") types.boolean ∷ nullable (codes "q") types.boolean ∷ nullable (codes "n") types.int64 ∷ nullable (codes "s") types.utf8 ∷ nullable (codes "x") types.date32 ∷ []
+example_fields = nullable (codes "p") types.boolean ∷ nullable (codes "q") types.boolean ∷ nullable (codes "n") types.int64 ∷ nullable (codes "s") types.utf8 ∷ nullable (codes "x") types.date32 ∷ nullable (codes "y") types.binary ∷ []
 
 abbrev pub p : ColumnTree
 p = named (codes "p")
@@ -34,6 +35,9 @@ s = named (codes "s")
 abbrev pub x : ColumnTree
 x = named (codes "x")
 
+abbrev pub y : ColumnTree
+y = named (codes "y")
+
 abbrev pub absent : ColumnTree
 absent = named (codes "o")
 
@@ -46,13 +50,21 @@ second column = is_true column 6
 
 -- a row of both booleans, null at the others
 abbrev pub booleans_row : Slot → Slot → RowSlot
-booleans_row v w = (types.struct (field_trees example_fields), slots.record_of (more_slots v (more_slots w (more_slots slots.null (more_slots slots.null (more_slots slots.null no_slots))))))
+booleans_row v w = (types.struct (field_trees example_fields), slots.record_of (more_slots v (more_slots w (more_slots slots.null (more_slots slots.null (more_slots slots.null (more_slots slots.null no_slots)))))))
 
 abbrev pub integer_value : ℤ → RowSlot
 integer_value z = (types.int64, slots.number (z ∷ []))
 
 abbrev pub string_value : List ℕ → RowSlot
 string_value bs = (types.utf8, slots.utf8 bs)
+
+-- values of dates and times, as numbers of days or units
+abbrev pub value_of_type : TypeTree → ℤ → RowSlot
+value_of_type t z = (t, slots.number (z ∷ []))
+
+-- a string in a dictionary
+abbrev pub string_by_key : List ℕ → RowSlot
+string_by_key bs = (types.dictionary Int32 types.utf8 false, slots.utf8 bs)
 
 -- 3 and -3
 abbrev pub three : RowSlot

@@ -16,7 +16,7 @@ use Rattle.cli_args.specs.Columns.{ColumnTree, indexed, named}
 use Rattle.cli_args.specs.Conditions.{ConditionTree, LiteralTree, is_true, is_null, compare, negation, both, either}
 use Rattle.cli_args.specs.declared.condition.Comparison.{Comparison}
 use Rattle.cli_rows.specs.Comparisons.{boolean_of, spec_holds_of, spec_order}
-use Rattle.cli_rows.specs.Kinds.{spec_value_kind}
+use Rattle.cli_rows.specs.Kinds.{spec_column_kind}
 use Rattle.cli_rows.specs.Rows.{RowSlot}
 use Rattle.cli_rows.specs.Truth.{truth_and, truth_not, truth_or}
 
@@ -68,7 +68,7 @@ nullness (t, s) = Some (not (is_valid s))
 
 -- whether a value compares so with a literal, unknown if it is null
 abbrev pub spec_compared : Comparison → LiteralTree → RowSlot → Option Bool
-spec_compared op literal (t, s) = option_map (spec_holds_of op) (spec_order (spec_value_kind t) literal s)
+spec_compared op literal (t, s) = option_map (spec_holds_of op) (spec_order (spec_column_kind t) literal s)
 
 -- the truth of a condition in a record of these fields
 abbrev pub spec_truth : ConditionTree → FieldTrees → Slots → Option Bool

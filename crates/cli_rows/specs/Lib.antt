@@ -1,5 +1,6 @@
 pub mod Rows
 pub mod Truth
+pub mod TimeLiterals
 pub mod Kinds
 pub mod Comparisons
 pub mod Conditions

@@ -1,17 +1,22 @@
 //! Examples and laws of conditions. Each function's contract is an example or a law, and its body is empty.
-ghost use Rattle.std.specs.Prelude.{◌≡◌, Bool, List, [], ◌∷◌, true, false, Option, Some, None, IsSome, codes, negsuc, pos};
+ghost use Rattle.std.specs.Prelude.{◌≡◌, Bool, List, [], ◌∷◌, true, false, Option, Some, None, FitsSigned, IsSome, ℤ, codes, negsuc, pos};
+ghost use Rattle.std.specs.Int.{w32};
 ghost use Rattle.nest_memory.specs.TypeTree as types;
 ghost use Rattle.nest_memory.specs.TypeTree.{FieldTree, TypeTree};
+ghost use Rattle.nest_memory.specs.declared.datatypes.TimeUnit.TheVariants.{Second, Millisecond, Microsecond, Nanosecond};
+ghost use Rattle.nest_memory.specs.declared.datatypes.IntegerType.TheVariants.{Int32};
 ghost use Rattle.nest_model.specs.Slot as slots;
 ghost use Rattle.nest_model.specs.Slot.{Slot};
 ghost use Rattle.cli_args.specs.Columns.{indexed};
-ghost use Rattle.cli_args.specs.Conditions.{ConditionTree, LiteralTree, boolean, both, compare, either, is_null, is_true, negation, text};
+ghost use Rattle.cli_args.specs.Conditions.{ConditionTree, LiteralTree, boolean, both, compare, either, is_null, is_true, negation, number, text};
 ghost use Rattle.cli_args.specs.NumberLiterals.{decimal_number};
 ghost use Rattle.cli_args.specs.declared.condition.Comparison.{Comparison};
 ghost use Rattle.cli_args.specs.declared.condition.Comparison.TheVariants.{Equal, NotEqual, Less, LessOrEqual, Greater, GreaterOrEqual};
 ghost use Rattle.cli_rows.specs.ConditionErrors.{resolved_condition, spec_condition_error};
-ghost use Rattle.cli_rows.specs.ConditionExamples.{absent, booleans_row, double_value, example_fields, first, value_of_half, integer_value, minus_three, minus_three_and_a_half, n, nought, p, q, s, second, single_value, string_value, tenth, three, three_and_a_half, three_point_zero, x};
+ghost use Rattle.cli_rows.specs.ConditionExamples.{absent, booleans_row, double_value, example_fields, first, value_of_half, integer_value, minus_three, minus_three_and_a_half, n, nought, p, q, s, second, single_value, string_by_key, string_value, tenth, three, three_and_a_half, three_point_zero, value_of_type, x, y};
 ghost use Rattle.cli_rows.specs.Conditions.{is_true_in, nullness, spec_compared, truth_in};
+ghost use Rattle.json_write.specs.Times.{date_text};
+ghost use Rattle.cli_rows.specs.TimeLiterals.{day_with_text, whole_number};
 ghost use Rattle.cli_rows.specs.Truth.{truth_and, truth_not, truth_or};
 ghost use Rattle.cli_rows.specs.declared.error.ColumnError.TheVariants.{UnknownColumn, NotBoolean, NotComparable, OtherLiteral};
 
@@ -105,6 +110,44 @@ pub fn strings_are_compared()
     ensures large { spec_compared GreaterOrEqual (text []) (types.large_utf8, slots.utf8 []) ≡ Some true }
 {}
 
+/// Dates by their text: day 0 and the day before it, a leap day, and the last day before the year 0.
+pub fn dates_have_numbers()
+    ensures first { day_with_text (codes "1970-01-01") ≡ Some (pos 0) }
+    ensures before { day_with_text (codes "1969-12-31") ≡ Some (negsuc 0) }
+    ensures leap_day { day_with_text (codes "2000-02-29") ≡ Some (pos 11_016) }
+    ensures negative { day_with_text (codes "-000001-12-31") ≡ Some (negsuc 719_528) }
+{}
+
+/// The text of each day is that of the day.
+pub fn days_have_their_text()
+    ensures { (n : ℤ) → FitsSigned w32 n → day_with_text (date_text n) ≡ Some n }
+{}
+
+/// A leap day with itself and the day before it, as text and as a number; a time with one a millisecond after it; timestamps in UTC and
+/// without a zone; midnight.
+pub fn dates_and_times_are_compared()
+    ensures date { spec_compared Equal (text (codes "2000-02-29")) (value_of_type types.date32 (pos 11_016)) ≡ Some true }
+    ensures earlier { spec_compared GreaterOrEqual (text (codes "2000-02-29")) (value_of_type types.date32 (pos 11_015)) ≡ Some false }
+    ensures number { spec_compared Equal (decimal_number (pos 11_016) 0) (value_of_type types.date32 (pos 11_016)) ≡ Some true }
+    ensures time { spec_compared Greater (text (codes "12:34:56")) (value_of_type (types.time32 Millisecond) (pos 45_296_001)) ≡ Some true }
+    ensures utc { spec_compared Equal (text (codes "2024-02-29T12:34:56Z")) (value_of_type (types.timestamp Microsecond (Some [])) (pos 1_709_210_096_000_000)) ≡ Some true }
+    ensures no_zone { spec_compared Less (text (codes "2024-02-29T12:34:56")) (value_of_type (types.timestamp Nanosecond None) (pos 1_709_210_095_999_999_999)) ≡ Some true }
+    ensures midnight { spec_compared LessOrEqual (text (codes "2024-02-29")) (value_of_type (types.timestamp Second None) (pos 1_709_164_800)) ≡ Some true }
+    ensures milliseconds { spec_compared Equal (text (codes "2024-02-29")) (value_of_type types.date64 (pos 1_709_164_800_000)) ≡ Some true }
+{}
+
+/// Durations by their number of units.
+pub fn durations_are_compared()
+    ensures { spec_compared Greater (decimal_number (pos 15) 1) (value_of_type (types.duration Second) (pos 2)) ≡ Some true }
+{}
+
+/// Values of dictionaries as any others; a null key or a key of a null value is null.
+pub fn values_of_dictionaries_are_compared()
+    ensures equal { spec_compared Equal (text (codes "ab")) (string_by_key (codes "ab")) ≡ Some true }
+    ensures less { spec_compared Less (text (codes "abc")) (string_by_key (codes "ab")) ≡ Some true }
+    ensures null { truth_not (spec_compared Equal (text (codes "ab")) (types.dictionary Int32 types.utf8 false, slots.null)) ≡ None }
+{}
+
 /// False before true.
 pub fn booleans_are_compared()
     ensures less { spec_compared Less (boolean true) (types.boolean, slots.boolean false) ≡ Some true }
@@ -143,7 +186,8 @@ pub fn conditions_have_errors()
     ensures unknown_null { spec_condition_error (is_null absent 3) example_fields ≡ Some (UnknownColumn 3) }
     ensures unknown_compared { spec_condition_error (compare absent 4 Less three_and_a_half) example_fields ≡ Some (UnknownColumn 4) }
     ensures not_boolean { spec_condition_error (second n) example_fields ≡ Some (NotBoolean 6) }
-    ensures not_compared { spec_condition_error (compare x 2 Less three_and_a_half) example_fields ≡ Some (NotComparable 2) }
+    ensures not_compared { spec_condition_error (compare y 2 Less three_and_a_half) example_fields ≡ Some (NotComparable 2) }
+    ensures date { spec_condition_error (compare x 2 Less three_and_a_half) example_fields ≡ None }
     ensures number { spec_condition_error (compare n 5 Equal (text (codes "3"))) example_fields ≡ Some (OtherLiteral 5) }
     ensures string { spec_condition_error (compare s 0 Equal three_point_zero) example_fields ≡ Some (OtherLiteral 0) }
     ensures boolean { spec_condition_error (compare p 1 Equal three_point_zero) example_fields ≡ Some (OtherLiteral 1) }
@@ -158,7 +202,8 @@ pub fn first_error_is_found()
     ensures not { spec_condition_error (both (negation (first n)) (second absent)) example_fields ≡ Some (NotBoolean 0) }
 {}
 
-/// Columns by their indices; an unknown name stays.
+/// Columns by their indices, and dates by their numbers; an unknown name stays.
 pub fn conditions_are_resolved()
-    ensures { resolved_condition example_fields (both (first q) (negation (second absent))) ≡ both (is_true (indexed 1) 0) (negation (second absent)) }
+    ensures literal { resolved_condition example_fields (compare x 0 Less (text (codes "2000-02-29"))) ≡ compare (indexed 4) 0 Less (number (whole_number (pos 11_016))) }
+    ensures names { resolved_condition example_fields (both (first q) (negation (second absent))) ≡ both (is_true (indexed 1) 0) (negation (second absent)) }
 {}

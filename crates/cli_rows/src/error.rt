@@ -24,6 +24,9 @@ pub enum ColumnError {
     /// The literal is of another kind than the values of the column.
     #[error("position {0}: the column cannot be compared with this literal")]
     OtherLiteral(usize),
+    /// The string is not the text of a value of the column's type.
+    #[error("position {0}: the string is not a value of the column's type")]
+    InvalidText(usize),
 }
 
 /// Error returned where an input is not read, or an output not written.

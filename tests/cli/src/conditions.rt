@@ -9,10 +9,10 @@ use nest_flat::boolean::BooleanArray;
 use nest_flat::primitive::PrimitiveArray;
 use nest_flat::primitive::mutable::MutablePrimitiveArray;
 use nest_flat::utf8::Utf8Array;
-use nest_memory::datatypes::DataType;
+use nest_memory::datatypes::{DataType, IntervalUnit};
 use nest_memory::datatypes::floats::{Precision, float_type};
 use nest_memory::error::Error;
-use std::alloc::Global;
+use std::alloc::{AllocError, Global};
 use std::test::*;
 
 fn prices(alloc: Global) -> Result<PrimitiveArray<i128>, Error> {
@@ -74,7 +74,7 @@ fn halves(alloc: Global) -> Result<PrimitiveArray<u16>, Error> {
     builder.freeze()
 }
 
-// A stream of six rows: `id`, `price`, `name`, `ok`, `day`, the floats `x`, `y` and `h`, and the number of the row in `a b`.
+// A stream of six rows: `id`, `price`, `name`, `ok`, the months `span`, the floats `x`, `y` and `h`, and the number of the row in `a b`.
 fn stream(alloc: Global) -> Result<Vec<u8>, Fail> {
     let ids = [Some(1), Some(2), Some(3), None, Some(-5), Some(i32::MAX)];
     let names = [Some("b"), Some("a"), None, Some("Z"), Some("ab"), Some("")];
@@ -85,34 +85,40 @@ fn stream(alloc: Global) -> Result<Vec<u8>, Fail> {
     columns.push(prices(alloc)?.boxed())?;
     columns.push(Utf8Array::<i32>::from_options(alloc, &names)?.boxed())?;
     columns.push(BooleanArray::from_options(alloc, &oks)?.boxed())?;
-    let mut days = MutablePrimitiveArray::<i32>::new(alloc).to(DataType::Date32);
+    let months = DataType::Interval(IntervalUnit::YearMonth);
+    let mut spans = MutablePrimitiveArray::<i32>::new(alloc).to(months);
     let mut numbers = MutablePrimitiveArray::<u8>::new(alloc);
     for i in 0..6u8 {
-        days.try_push(Some(0))?;
+        spans.try_push(Some(0))?;
         numbers.try_push(Some(i))?;
     }
-    columns.push(days.freeze()?.boxed())?;
+    columns.push(spans.freeze()?.boxed())?;
     columns.push(doubles(alloc)?.boxed())?;
     columns.push(singles(alloc)?.boxed())?;
     columns.push(halves(alloc)?.boxed())?;
     columns.push(numbers.freeze()?.boxed())?;
-    let names = ["id", "price", "name", "ok", "day", "x", "y", "h", "a b"];
+    let names = ["id", "price", "name", "ok", "span", "x", "y", "h", "a b"];
     let (schema, batch) = batch_of_columns(alloc, &names, columns)?;
     Ok(write_stream(alloc, &schema, &[batch])?)
 }
 
-// The indices of the rows where a condition is true, as digits. Each row ends with the number of the row and a brace.
+/// Returns the numbers of printed rows, as digits. Each row ends with its number and a brace.
+pub fn row_numbers(alloc: Global, text: &str) -> Result<String, AllocError> {
+    let mut rows = String::new(alloc);
+    for line in text.lines() {
+        let from = line.len() - 2;
+        rows.push_str(&line[from..from + 1])?;
+    }
+    Ok(rows)
+}
+
+// The numbers of the rows where a condition is true.
 fn selected(alloc: Global, bytes: &[u8], condition: &str) -> Result<String, CliError> {
     let Ok(Some(request)) = request(alloc, &["where", condition]) else {
         return Err(CliError::Memory);
     };
     let text = text_of(alloc, Projection::All, &request, bytes)?;
-    let mut rows = String::new(alloc);
-    for line in text.as_str().lines() {
-        let from = line.len() - 2;
-        rows.push_str(&line[from..from + 1])?;
-    }
-    Ok(rows)
+    Ok(row_numbers(alloc, text.as_str())?)
 }
 
 #[test]
@@ -178,8 +184,8 @@ fn rows_are_selected(rt: HostRuntime) -> Result<(), Fail> {
         ("name != ''", "0134"),
         ("name is null", "2"),
         ("not name = 'a'", "0345"),
-        ("day is null", ""),
-        ("day is not null", "012345"),
+        ("span is null", ""),
+        ("span is not null", "012345"),
         ("\"a b\" >= 2 and \"a b\" < 4", "23"),
         ("ok or id = 2 and price > 10", "03"),
         ("(ok or id = 2) and price >= 10", "1"),
@@ -207,7 +213,7 @@ fn columns_have_errors(rt: HostRuntime) -> Result<(), Fail> {
         ("ok or name = 1", ColumnError::OtherLiteral(6)),
         ("ok = 1", ColumnError::OtherLiteral(0)),
         ("price = true", ColumnError::OtherLiteral(0)),
-        ("day = 1", ColumnError::NotComparable(0)),
+        ("span = 1", ColumnError::NotComparable(0)),
     ] {
         let found = selected(alloc, &bytes, condition);
         assert!(rt;

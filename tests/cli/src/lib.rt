@@ -11,6 +11,7 @@
 //! | `tailing` | The last rows as lines; record batches that are not read; hostile bytes |
 //! | `comparing` | The first difference of two inputs; which input has an error, and when |
 //! | `conditions` | Rows where a condition is true; errors of conditions |
+//! | `dates` | Rows where a condition on dates, times or values of dictionaries is true |
 //! | `copying` | Copies of all rows, of slices, and of rows where a column is true, in either format |
 //! | `concatenating` | Inputs appended to an output; which input has an error |
 //! | `names` | Projected names that no column has |
@@ -31,6 +32,8 @@ mod conditions;
 mod copying;
 #[cfg(test)]
 mod counting;
+#[cfg(test)]
+mod dates;
 #[cfg(test)]
 mod devices;
 #[cfg(test)]

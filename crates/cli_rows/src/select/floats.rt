@@ -1,14 +1,15 @@
 //! Floating-point numbers compared with literals.
-ghost use Rattle.std.specs.Prelude.{◌≡◌, ◌<◌, Some, from_bits, option_map};
+ghost use Rattle.std.specs.Prelude.{◌≡◌, ◌<◌, from_bits, option_map, true};
 ghost use Rattle.std.specs.Float.Ieee.{binary32, binary64};
 ghost use Rattle.std.specs.Ordering.{float_partial_cmp};
+ghost use Rattle.nest_memory.specs.Physical.{physical_type};
 ghost use Rattle.nest_memory.specs.declared.datatypes.floats.Precision.TheVariants as precisions;
 ghost use Rattle.nest_model.specs.Layout.{layout_type};
 ghost use Rattle.nest_model.specs.Meaning.{len, slot};
 ghost use Rattle.nest_array.specs.Seen.{layout_of};
 ghost use Rattle.cli_args.specs.ConditionTrees.{number_tree};
 ghost use Rattle.cli_rows.specs.Comparisons.{integer_of, spec_float_order};
-ghost use Rattle.cli_rows.specs.Kinds.{spec_value_kind};
+ghost use Rattle.cli_rows.specs.Kinds.{spec_has_kind};
 ghost use Rattle.cli_rows.specs.declared.select.kinds.ValueKind.TheVariants as kinds;
 
 use cli_args::NumberLiteral;
@@ -33,7 +34,7 @@ fn order_of_doubles(left: u64, right: u64) -> Option<Ordering>
 /// Compares the half-precision number in slot `i` with a literal.
 fn half_order(array: &AnyArray, i: usize, literal: &NumberLiteral) -> Option<Option<Ordering>>
     requires within { i < len (layout_of array.now) }
-    requires kind { spec_value_kind (layout_type (layout_of array.now)) ≡ Some (kinds.Float precisions.Half) }
+    requires kind { spec_has_kind (kinds.Float precisions.Half) (physical_type (layout_type (layout_of array.now))) ≡ true }
     ensures { result ≡ option_map (spec_float_order precisions.Half (number_tree literal.now)) (integer_of (slot (layout_of array.now) i)) }
 {
     match array.as_primitive::<u16>() {
@@ -48,7 +49,7 @@ fn half_order(array: &AnyArray, i: usize, literal: &NumberLiteral) -> Option<Opt
 /// Compares the single-precision number in slot `i` with a literal.
 fn single_order(array: &AnyArray, i: usize, literal: &NumberLiteral) -> Option<Option<Ordering>>
     requires within { i < len (layout_of array.now) }
-    requires kind { spec_value_kind (layout_type (layout_of array.now)) ≡ Some (kinds.Float precisions.Single) }
+    requires kind { spec_has_kind (kinds.Float precisions.Single) (physical_type (layout_type (layout_of array.now))) ≡ true }
     ensures { result ≡ option_map (spec_float_order precisions.Single (number_tree literal.now)) (integer_of (slot (layout_of array.now) i)) }
 {
     match array.as_primitive::<u32>() {
@@ -63,7 +64,7 @@ fn single_order(array: &AnyArray, i: usize, literal: &NumberLiteral) -> Option<O
 /// Compares the double-precision number in slot `i` with a literal.
 fn double_order(array: &AnyArray, i: usize, literal: &NumberLiteral) -> Option<Option<Ordering>>
     requires within { i < len (layout_of array.now) }
-    requires kind { spec_value_kind (layout_type (layout_of array.now)) ≡ Some (kinds.Float precisions.Double) }
+    requires kind { spec_has_kind (kinds.Float precisions.Double) (physical_type (layout_type (layout_of array.now))) ≡ true }
     ensures { result ≡ option_map (spec_float_order precisions.Double (number_tree literal.now)) (integer_of (slot (layout_of array.now) i)) }
 {
     match array.as_primitive::<u64>() {
@@ -83,7 +84,7 @@ pub fn float_order(
     literal: &NumberLiteral,
 ) -> Option<Option<Ordering>>
     requires within { i < len (layout_of array.now) }
-    requires kind { spec_value_kind (layout_type (layout_of array.now)) ≡ Some (kinds.Float precision) }
+    requires kind { spec_has_kind (kinds.Float precision) (physical_type (layout_type (layout_of array.now))) ≡ true }
     ensures { result ≡ option_map (spec_float_order precision (number_tree literal.now)) (integer_of (slot (layout_of array.now) i)) }
 {
     match precision {

@@ -4,7 +4,6 @@ use Rattle.nest_array.specs.Seen.{layout_of}
 use Rattle.cli_args.specs.ConditionTrees.{condition_tree}
 use Rattle.ipc.specs.Streams.{record_batch_of}
 use Rattle.nest_take.specs.Taken.{IsTaken}
-use Rattle.cli_rows.specs.Conditions.{true_indices}
 use Rattle.cli_rows.specs.Rows.{rows_of}
 use Rattle.cli_rows.specs.SelectedTables.{AreRowsOf, batch_rows}
 use Rattle.cli_rows.proofs.SelectedBatches.{filtered-each, rows-result, true-below, true-rows}
