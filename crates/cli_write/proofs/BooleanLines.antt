@@ -2,12 +2,11 @@
 use Rattle.std.proofs.Common.{◌≡◌, ◌∙◌, ℕ, Bool, true, false, List, [], ◌∷◌, None, Ok, Err, ap, sym}
 use Rattle.cli_rows.specs.Records.{record_type}
 use Rattle.cli_rows.specs.Rows.{RowSlot}
-use Rattle.cli_write.specs.LineExamples.{IsBooleanLine}
+use Rattle.cli_write.specs.LineExamples.{IsBooleanLine, invalid_json}
 use Rattle.cli_write.specs.Imports.{HasRows, records_of}
 use Rattle.json_read.specs.JsonLines.{json_value, line_row, value_row, line_rows}
 use Rattle.json_read.specs.LineRows as told
-use Rattle.json_read.specs.LineRows.{prepend_row}
-use Rattle.json_read.specs.declared.error.LineError.TheVariants.{InvalidJson}
+use Rattle.json_read.specs.LineRows.{failure_of, prepend_row}
 use Rattle.cli_rows.specs.Compared.{table_rows}
 use Rattle.cli_rows.specs.TableExamples.{ok_field}
 use Rattle.cli_rows.specs.Tables.{TableTree}
@@ -28,7 +27,7 @@ row-is line false h = ap (value_row ok_type) h
 pub rows-are : (x y : List ℕ) (a b : Bool) → IsBooleanLine x a → IsBooleanLine y b → line_rows ok_type (x ∷ y ∷ []) ≡ Ok (ok_slot a ∷ ok_slot b ∷ [])
 rows-are x y a b hx hy = λ i. prepend_row (row-is x a hx i) 0 (prepend_row (row-is y b hy i) 1 (Ok []))
 
-pub rows-stop : (x y : List ℕ) (a : Bool) → IsBooleanLine x a → json_value y ≡ None → line_rows ok_type (x ∷ y ∷ []) ≡ Err (1, InvalidJson)
+pub rows-stop : (x y : List ℕ) (a : Bool) → IsBooleanLine x a → json_value y ≡ None → line_rows ok_type (x ∷ y ∷ []) ≡ Err (1, failure_of invalid_json)
 rows-stop x y a hx hy = λ i. prepend_row (row-is x a hx i) 0 (prepend_row (ap (value_row ok_type) hy i) 1 (Ok []))
 
 abbrev slots-in : told.Rows → List Slot

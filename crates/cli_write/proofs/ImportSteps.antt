@@ -22,6 +22,7 @@ use Rattle.cli_write.specs.declared.import.error.ImportError.TheVariants as caus
 use Rattle.json_read.proofs.MoreLines.{both-err, both-ok, first-err}
 use Rattle.json_read.specs.JsonLines as json_lines
 use Rattle.json_read.specs.JsonLines.{line_row}
+use Rattle.json_read.specs.LineRows.{failure_of}
 use Rattle.json_read.specs.LineSplit.{lines_of}
 use Rattle.cli_rows.specs.Tables.{TableTree}
 use Rattle.cli_rows.specs.declared.error.CliError.{CliError}
@@ -75,7 +76,7 @@ take-front (l ∷ ls) more = ap (λ (ks : List (List ℕ)). l ∷ ks) (take-fron
 
 unread-more : (e : ImportError) (fs : List FieldTree) (ls more : List (List ℕ)) → IsLinesError e fs ls → IsLinesError e fs (ls ++ more)
 unread-more (causes.Type e) fs ls more h = h
-unread-more (causes.Line k e) fs ls more h = first-err (line_row (record_type fs)) 0 (length ls) (ls ++ more) (k, e) (ap (json_lines.line_rows (record_type fs)) (take-front ls more) ∙ h)
+unread-more (causes.Line k e) fs ls more h = first-err (line_row (record_type fs)) 0 (length ls) (ls ++ more) (k, failure_of e) (ap (json_lines.line_rows (record_type fs)) (take-front ls more) ∙ h)
 unread-more (causes.Write why) fs ls more h = absurd h
 unread-more causes.Overflow fs ls more h = tt
 unread-more causes.Input fs ls more h = absurd h
@@ -177,8 +178,8 @@ module _ {W : Type 0} (contents : W → Option (List ℕ)) where
       by (causes.Type e) h = h
       by (causes.Line k e) h =
           ap (json_lines.line_rows (record_type fs)) p.lines
-          ∙ both-err (line_row (record_type fs)) 0 p.front (lines_of (text ++ rest)) p.rows k e p.read h
-          ∙ ap (λ m. Err (m, e)) (let q : 0 + length p.front + k ≡ n + k = omega (arith, p.counted) in q)
+          ∙ both-err (line_row (record_type fs)) 0 p.front (lines_of (text ++ rest)) p.rows k (failure_of e) p.read h
+          ∙ ap (λ m. Err (m, failure_of e)) (let q : 0 + length p.front + k ≡ n + k = omega (arith, p.counted) in q)
       by (causes.Write why) h = absurd h
       by causes.Overflow h = tt
       by causes.Input h = absurd h

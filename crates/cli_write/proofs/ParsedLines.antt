@@ -10,6 +10,7 @@ use Rattle.cli_write.specs.Imports.{records_of}
 use Rattle.cli_write.specs.ImportStates.{ReadsBatch, IsLinesError, json_import_error}
 use Rattle.json_read.specs.JsonLines.{AreAllValid, IsJsonReadError, line_row}
 use Rattle.json_read.specs.JsonLines as json_lines
+use Rattle.json_read.specs.LineRows.{failure_of}
 use Rattle.json_read.specs.LineSplit.{AreFirstLines, lines_of}
 use Rattle.json_read.specs.UnsupportedTypes.{unsupported_type}
 use Rattle.json_read.specs.declared.error.JsonReadError.{JsonReadError}
@@ -42,7 +43,7 @@ are-rows fs a e f h = are-records fs (layout_type a) (slots_of a) e f h
 
 pub unread-text : (fs : List FieldTree) (t : TypeTree) (e : JsonReadError) (n : ℕ) (ls : List (List ℕ)) → t ≡ record_type fs → IsJsonReadError e t (take n ls) → IsLinesError (json_import_error e) fs ls
 unread-text fs t (text_faults.Type e) n ls q h = ap unsupported_type (sym q) ∙ h
-unread-text fs t (text_faults.Line line e) n ls q h = first-err (line_row (record_type fs)) 0 n ls (line, e) (ap (λ u. json_lines.line_rows u (take n ls)) (sym q) ∙ h)
+unread-text fs t (text_faults.Line line e) n ls q h = first-err (line_row (record_type fs)) 0 n ls (line, failure_of e) (ap (λ u. json_lines.line_rows u (take n ls)) (sym q) ∙ h)
 unread-text fs t text_faults.Overflow n ls q h = tt
 unread-text fs t text_faults.Memory n ls q h = tt
 

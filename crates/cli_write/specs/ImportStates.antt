@@ -9,6 +9,7 @@ use Rattle.cli_write.specs.Imports.{IsImportError, records_of}
 use Rattle.cli_write.specs.declared.import.error.ImportError.{ImportError}
 use Rattle.cli_write.specs.declared.import.error.ImportError.TheVariants as causes
 use Rattle.json_read.specs.JsonLines.{line_rows}
+use Rattle.json_read.specs.LineRows.{failure_of}
 use Rattle.json_read.specs.LineSplit.{lines_of}
 use Rattle.json_read.specs.UnsupportedTypes.{unsupported_type}
 use Rattle.json_read.specs.declared.error.JsonReadError.{JsonReadError}
@@ -25,7 +26,7 @@ use Rattle.cli_args.specs.declared.format.Format.{Format}
 -- why its lines are not parsed
 abbrev pub IsLinesError : ImportError → List FieldTree → List (List ℕ) → Type 0
 IsLinesError (causes.Type e) fs lines = unsupported_type (record_type fs) ≡ Some e
-IsLinesError (causes.Line line e) fs lines = line_rows (record_type fs) lines ≡ Err (line, e)
+IsLinesError (causes.Line line e) fs lines = line_rows (record_type fs) lines ≡ Err (line, failure_of e)
 IsLinesError (causes.Write why) fs lines = ⊥
 IsLinesError causes.Overflow fs lines = Unit {0}
 IsLinesError causes.Input fs lines = ⊥

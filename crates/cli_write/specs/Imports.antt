@@ -7,6 +7,7 @@ use Rattle.cli_write.specs.Copies.{IsWriteRefusal}
 use Rattle.cli_write.specs.declared.import.error.ImportError.{ImportError}
 use Rattle.cli_write.specs.declared.import.error.ImportError.TheVariants as causes
 use Rattle.json_read.specs.JsonLines.{line_rows}
+use Rattle.json_read.specs.LineRows.{failure_of}
 use Rattle.json_read.specs.LineSplit.{lines_of}
 use Rattle.json_read.specs.UnsupportedTypes.{unsupported_type}
 use Rattle.cli_rows.specs.Compared.{table_rows}
@@ -36,7 +37,7 @@ WritesLines fs form lines old new = (h : TableTree) × (bytes : List ℕ) × Has
 -- or writing failed, a limit was exceeded, or an allocation failed.
 abbrev pub IsImportError : ImportError → List FieldTree → Format → List (List ℕ) → Type 0
 IsImportError (causes.Type e) fs form lines = unsupported_type (record_type fs) ≡ Some e
-IsImportError (causes.Line line e) fs form lines = line_rows (record_type fs) lines ≡ Err (line, e)
+IsImportError (causes.Line line e) fs form lines = line_rows (record_type fs) lines ≡ Err (line, failure_of e)
 IsImportError (causes.Write why) fs form lines = (first : List (List ℕ)) × (others : List (List ℕ)) × (h : TableTree) × (lines ≡ first ++ others) × HasRows fs first h × IsWriteRefusal form h why
 IsImportError causes.Overflow fs form lines = Unit {0}
 IsImportError causes.Input fs form lines = Unit {0}

@@ -4,7 +4,6 @@ ghost use Rattle.ipc_flatbuf.specs.declared.error.IpcReadError.TheVariants.{Trun
 ghost use Rattle.ipc_schema.specs.Schemas.{SchemaModel};
 ghost use Rattle.nest_memory.specs.TypeTree.{FieldTree};
 ghost use Rattle.json_read.specs.JsonLines.{json_value};
-ghost use Rattle.json_read.specs.declared.error.LineError.TheVariants.{InvalidJson};
 ghost use Rattle.json_read.specs.declared.error.UnsupportedTypeError.TheVariants.{FloatingPoint};
 ghost use Rattle.cli_args.specs.Columns.{named};
 ghost use Rattle.cli_args.specs.Conditions.{is_true};
@@ -20,7 +19,7 @@ ghost use Rattle.cli_write.specs.Concat.{IsAppendError, WritesConcatenation};
 ghost use Rattle.cli_write.specs.ConcatExamples.{truncated_batch};
 ghost use Rattle.cli_write.specs.Copies.{FailsWhileCopying, IsCopy, HasSufficientBatches};
 ghost use Rattle.cli_write.specs.Imports.{HasRows, IsImportError, WritesLines};
-ghost use Rattle.cli_write.specs.LineExamples.{IsBooleanLine, float_field};
+ghost use Rattle.cli_write.specs.LineExamples.{IsBooleanLine, float_field, invalid_json};
 ghost use Rattle.cli_write.specs.Writers.{WritesTableBatches};
 ghost use Rattle.cli_write.specs.declared.concat.AppendError.TheVariants.{Schema};
 ghost use Rattle.cli_write.specs.declared.import.error.ImportError.TheVariants as import_errors;
@@ -84,8 +83,8 @@ pub fn lines_are_rows()
 /// The first invalid line is returned, from 0: the second of `{"ok":true}` and a line that is not JSON. An unsupported type is returned
 /// before any line.
 pub fn the_first_invalid_line_is_returned(form: Format)
-    ensures second { (x y : List ℕ) → IsBooleanLine x true → json_value y ≡ None → IsImportError (import_errors.Line 1 InvalidJson) (ok_field ∷ []) form (x ∷ y ∷ []) }
-    ensures first { (x y : List ℕ) → IsBooleanLine x true → json_value y ≡ None → IsImportError (import_errors.Line 0 InvalidJson) (ok_field ∷ []) form (x ∷ y ∷ []) → ⊥ }
+    ensures second { (x y : List ℕ) → IsBooleanLine x true → json_value y ≡ None → IsImportError (import_errors.Line 1 invalid_json) (ok_field ∷ []) form (x ∷ y ∷ []) }
+    ensures first { (x y : List ℕ) → IsBooleanLine x true → json_value y ≡ None → IsImportError (import_errors.Line 0 invalid_json) (ok_field ∷ []) form (x ∷ y ∷ []) → ⊥ }
     ensures float { (lines : List (List ℕ)) → IsImportError (import_errors.Type FloatingPoint) (float_field ∷ []) form lines }
     ensures boolean { (lines : List (List ℕ)) → IsImportError (import_errors.Type FloatingPoint) (ok_field ∷ []) form lines → ⊥ }
 {}

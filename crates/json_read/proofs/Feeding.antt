@@ -106,7 +106,7 @@ not-named k no_fields i h e = cc
 not-named k (more_fields f fs) zero h e = h.0 (let p : field_name f ≡ k = cc in sym p)
 not-named k (more_fields f fs) (suc i) h e = not-named k fs i h.1 e
 
-head-apart : (n k : Letters) (fs : FieldTrees) (i : ℕ) → LacksField n fs → field_name_at_index fs i ≡ Some k → n ≡ k → ⊥
+pub head-apart : (n k : Letters) (fs : FieldTrees) (i : ℕ) → LacksField n fs → field_name_at_index fs i ≡ Some k → n ≡ k → ⊥
 head-apart n k fs i h e q = not-named n fs i h (e ∙ ap Some (sym q))
 
 -- the head's child added the slot

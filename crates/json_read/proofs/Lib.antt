@@ -16,6 +16,8 @@ mod Named
 mod NumberReading
 mod Pushed
 mod ReadBack
+mod RequiredLaws
+mod PathLaws
 mod RoundTrip
 pub mod RowLaws
 mod Stepping

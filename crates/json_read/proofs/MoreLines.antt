@@ -2,9 +2,8 @@
 use Rattle.std.proofs.Common.{◌≡◌, ◌∙◌, ℕ, zero, suc, ◌+◌, ◌<◌, ◌≤◌, List, [], ◌∷◌, ◌++◌, length, take, Bool, true, false, Ok, Err, ◌==◌, if◌then◌else◌, refl, ap, arith}
 use Rattle.std.specs.List.{onto_first}
 use Rattle.nest_model.specs.Slot.{Slot}
-use Rattle.json_read.specs.LineRows.{LineRow, Rows, rows_from, prepend_row, prepend_slot}
+use Rattle.json_read.specs.LineRows.{LineFailure, LineRow, Rows, rows_from, prepend_row, prepend_slot}
 use Rattle.json_read.specs.LineSplit.{lines_of}
-use Rattle.json_read.specs.declared.error.LineError.{LineError}
 
 -- the indices of lines, counted after so many others
 shift : ℕ → Rows → Rows
@@ -30,7 +29,7 @@ module _ (row : List ℕ → LineRow) where
   unfolding shift
   behind-ok a ls ss h = ap (λ k. rows_from row k ls) (let e : a ≡ a + 0 = omega arith in e) ∙ shifted a 0 ls ∙ ap (shift a) h
 
-  behind-err : (a : ℕ) (ls : List (List ℕ)) (k : ℕ) (e : LineError) → rows_from row 0 ls ≡ Err (k, e) → rows_from row a ls ≡ Err (a + k, e)
+  behind-err : (a : ℕ) (ls : List (List ℕ)) (k : ℕ) (e : LineFailure) → rows_from row 0 ls ≡ Err (k, e) → rows_from row a ls ≡ Err (a + k, e)
   unfolding shift
   behind-err a ls k e h = ap (λ n. rows_from row n ls) (let q : a ≡ a + 0 = omega arith in q) ∙ shifted a 0 ls ∙ ap (shift a) h
 
@@ -44,7 +43,7 @@ module _ (row : List ℕ → LineRow) where
       go (Ok s) (Err f') us e q f = absurd cc
       go (Err r) rest us e q f = absurd cc
 
-  pub both-err : (a : ℕ) (xs ys : List (List ℕ)) (ss : List Slot) (k : ℕ) (e : LineError) → rows_from row a xs ≡ Ok ss → rows_from row 0 ys ≡ Err (k, e) → rows_from row a (xs ++ ys) ≡ Err (a + length xs + k, e)
+  pub both-err : (a : ℕ) (xs ys : List (List ℕ)) (ss : List Slot) (k : ℕ) (e : LineFailure) → rows_from row a xs ≡ Ok ss → rows_from row 0 ys ≡ Err (k, e) → rows_from row a (xs ++ ys) ≡ Err (a + length xs + k, e)
   both-err a [] ys ss k e h g = behind-err a ys k e g ∙ ap (λ n. Err (n, e)) (let q : a + k ≡ a + 0 + k = omega arith in q)
   both-err a (x ∷ xs) ys ss k e h g = go (row x) (rows_from row (a + 1) xs) h refl (λ ts q. both-err (a + 1) xs ys ts k e q g)
     where
@@ -55,18 +54,18 @@ module _ (row : List ℕ → LineRow) where
       go (Err r) rest p q f = absurd cc
 
   -- the first line at error is the first of all
-  pub first-err : (a n : ℕ) (ls : List (List ℕ)) (f : ℕ × LineError) → rows_from row a (take n ls) ≡ Err f → rows_from row a ls ≡ Err f
+  pub first-err : (a n : ℕ) (ls : List (List ℕ)) (f : ℕ × LineFailure) → rows_from row a (take n ls) ≡ Err f → rows_from row a ls ≡ Err f
   first-err a zero ls f h = absurd cc
   first-err a (suc n) [] f h = absurd cc
   first-err a (suc n) (l ∷ ls) f h = go (row l) (rows_from row (a + 1) (take n ls)) h refl (λ g e. first-err (a + 1) n ls g e)
     where
-      go : (r : LineRow) (rest : Rows) → prepend_row r a rest ≡ Err f → rows_from row (a + 1) (take n ls) ≡ rest → ((g : ℕ × LineError) → rows_from row (a + 1) (take n ls) ≡ Err g → rows_from row (a + 1) ls ≡ Err g) → prepend_row r a (rows_from row (a + 1) ls) ≡ Err f
+      go : (r : LineRow) (rest : Rows) → prepend_row r a rest ≡ Err f → rows_from row (a + 1) (take n ls) ≡ rest → ((g : ℕ × LineFailure) → rows_from row (a + 1) (take n ls) ≡ Err g → rows_from row (a + 1) ls ≡ Err g) → prepend_row r a (rows_from row (a + 1) ls) ≡ Err f
       go (Ok s) (Ok ts) p q k = absurd cc
       go (Ok s) (Err g) p q k = ap (prepend_slot s) (k g q) ∙ p
       go (Err r) rest p q k = p
 
   -- a line at error is one of them
-  pub err-within : (a : ℕ) (ls : List (List ℕ)) (k : ℕ) (e : LineError) → rows_from row a ls ≡ Err (k, e) → k < a + length ls
+  pub err-within : (a : ℕ) (ls : List (List ℕ)) (k : ℕ) (e : LineFailure) → rows_from row a ls ≡ Err (k, e) → k < a + length ls
   err-within a [] k e h = absurd cc
   err-within a (l ∷ ls) k e h = go (row l) (rows_from row (a + 1) ls) h (λ q. err-within (a + 1) ls k e q) refl
     where
@@ -74,7 +73,7 @@ module _ (row : List ℕ → LineRow) where
       go (Ok s) (Ok ts) p f q = absurd cc
       go (Ok s) (Err g) p f q = omega (arith, f (q ∙ p))
       go (Err r) rest p f q =
-          let pair : ◌≡◌ {A = ℕ × LineError} (a, r) (k, e) = cc in
+          let pair : ◌≡◌ {A = ℕ × LineFailure} (a, r) (k, e) = cc in
           let z : a ≡ k = ap (λ x. x.0) pair in
           omega (arith, z)
 

@@ -5,9 +5,8 @@ use Rattle.std.proofs.lemmas.Bool.{cases_lt}
 use Rattle.std.proofs.lemmas.List.{length-append, take-append-drop, take_all, drop_all}
 use Rattle.std.specs.List.{onto_first}
 use Rattle.nest_model.specs.Slot.{Slot}
-use Rattle.json_read.specs.LineRows.{LineRow, Rows, rows_from, prepend_row, prepend_slot}
+use Rattle.json_read.specs.LineRows.{LineFailure, LineRow, Rows, rows_from, prepend_row, prepend_slot}
 use Rattle.json_read.specs.LineSplit.{AreFirstLines, EndsLines, lines_of}
-use Rattle.json_read.specs.declared.error.LineError.{LineError}
 
 -- ---- rows
 
@@ -32,7 +31,7 @@ rows-grow row above (x ∷ lines) line ss s h e =
     ap (λ (r : LineRow). prepend_row r above (rows_from row (above + 1) (lines ++ line ∷ []))) t.row ∙ ap (prepend_slot t.first) (rows-grow row (above + 1) lines line t.others s t.after e)
     ∙ ap (λ (l : List Slot). Ok (l ++ s ∷ [])) (sym t.all)
 
-rows-stop : (row : List ℕ → LineRow) (above : ℕ) (lines : List (List ℕ)) (line : List ℕ) (more : List (List ℕ)) (ss : List Slot) (e : LineError)
+rows-stop : (row : List ℕ → LineRow) (above : ℕ) (lines : List (List ℕ)) (line : List ℕ) (more : List (List ℕ)) (ss : List Slot) (e : LineFailure)
     → rows_from row above lines ≡ Ok ss → row line ≡ Err e → rows_from row above (lines ++ line ∷ more) ≡ Err (above + length lines, e)
 rows-stop row above [] line more ss e h bad = ap (λ (r : LineRow). prepend_row r above (rows_from row (above + 1) more)) bad ∙ (let z : above ≡ above + 0 = omega arith in ap (λ k. Err (k, e)) z)
 rows-stop row above (x ∷ lines) line more ss e h bad =
@@ -101,7 +100,7 @@ module _ (row : List ℕ → LineRow) (text line : List ℕ) (limit used count n
     rows = ap (rows_from row 0) more-lines ∙ rows-grow row 0 (lines_of (take used text)) line ss s read.rows good;
   }
 
-  stop-at : (a : After (drop used text) line) (e : LineError) → count < limit → row line ≡ Err e → rows_from row 0 (take limit (lines_of text)) ≡ Err (count, e)
+  stop-at : (a : After (drop used text) line) (e : LineFailure) → count < limit → row line ≡ Err e → rows_from row 0 (take limit (lines_of text)) ≡ Err (count, e)
   stop-at a e few bad =
       let fs = lines_of (take used text) in
       let complete : lines_of text ≡ fs ++ line ∷ a.more = ap lines_of (sym (take-append-drop used text)) ∙ read.ends open_ (drop used text) ∙ ap (λ (ls : List (List ℕ)). fs ++ ls) a.split in
@@ -112,7 +111,7 @@ module _ (row : List ℕ → LineRow) (text line : List ℕ) (limit used count n
       ∙ rows-stop row 0 fs line past.0 ss e read.rows bad
       ∙ ap (λ k. Err (k, e)) at
 
-  pub read-stop : (e : LineError) → count < limit → row line ≡ Err e → rows_from row 0 (take limit (lines_of text)) ≡ Err (count, e)
+  pub read-stop : (e : LineFailure) → count < limit → row line ≡ Err e → rows_from row 0 (take limit (lines_of text)) ≡ Err (count, e)
   read-stop e few bad = elim (cases_lt n (length (drop used text))) [ inl lt ↦ stop-at (after _ _ n is lt) e few bad | inr le ↦ stop-at (after-last _ _ n is le) e few bad ]
 
 -- where the loop ends

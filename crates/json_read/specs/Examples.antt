@@ -1,5 +1,5 @@
--- The struct type of the examples: an integer and a list of strings.
-use Rattle.std.specs.Prelude.{[], ◌∷◌, pos, true, codes}
+-- The struct types of the examples: an integer and a list of strings; the same with fields that are not nullable.
+use Rattle.std.specs.Prelude.{[], ◌∷◌, pos, true, false, codes}
 use Rattle.json.specs.Json.{Json, array, item, member, no_items, no_members, number, object, string}
 use Rattle.nest_memory.specs.TypeTree as types
 use Rattle.nest_memory.specs.TypeTree.{TypeTree, field, no_fields, more_fields}
@@ -15,3 +15,10 @@ tags_and_id = object (member (codes "tags") (array (item (string (codes "a")) no
 
 abbrev pub id_and_tags : Slot
 id_and_tags = slots.record_of (more_slots (slots.number (pos 1 ∷ [])) (more_slots (slots.list (more_slots (slots.utf8 (codes "a")) no_slots)) no_slots))
+
+-- `id` and the items of `tags` are not nullable
+abbrev pub required_type : TypeTree
+required_type = types.struct (more_fields (field (codes "id") types.int64 false []) (more_fields (field (codes "tags") (types.list (field (codes "item") types.utf8 false [])) true []) no_fields))
+
+abbrev pub id_then_tags : Json → Json → Json
+id_then_tags x y = object (member (codes "id") x (member (codes "tags") y no_members))

@@ -3,14 +3,15 @@ use Rattle.std.specs.Prelude.{◌≡◌, ◌≢◌, ℕ, Bool, true, false, ◌&
 use Rattle.std.specs.Str.{is_utf8}
 use Rattle.json.specs.Find.{is_null}
 use Rattle.json.specs.Json.{Json, document}
+use Rattle.json_read.specs.FlatValues.{first_error}
 use Rattle.json_read.specs.JsonSlots.{value_error, slot_of}
-use Rattle.json_read.specs.LineRows.{LineRow, Rows, rows_from}
+use Rattle.json_read.specs.ErrorPaths.{spec_row_path}
+use Rattle.json_read.specs.LineRows.{LineFailure, LineRow, Rows, failure_of, rows_from}
+use Rattle.json_read.specs.RequiredFields.{null_error}
 use Rattle.json_read.specs.SlotAdded.{SlotAdded}
 use Rattle.json_read.specs.UnsupportedTypes.{unsupported_type}
 use Rattle.json_read.specs.declared.error.LineError.TheVariants as line_errors
 use Rattle.json_read.specs.declared.error.LineError.TheVariants.{InvalidJson}
-use Rattle.json_read.specs.declared.value_error.PushError.{PushError}
-use Rattle.json_read.specs.declared.value_error.PushError.TheVariants as push_error
 use Rattle.json_read.specs.declared.error.JsonReadError.{JsonReadError}
 use Rattle.json_read.specs.declared.error.JsonReadError.TheVariants as read_errors
 use Rattle.json_read.specs.declared.error.PushLineError.{PushLineError}
@@ -18,7 +19,7 @@ use Rattle.json_read.specs.declared.error.PushLineError.TheVariants as push_line
 use Rattle.json_read.specs.declared.value_error.ValueError.{ValueError}
 use Rattle.json_read.specs.declared.value_error.ValueError.TheVariants.{WrongType}
 use Rattle.nest_memory.specs.Physical.{physical_type}
-use Rattle.nest_memory.specs.TypeTree.{TypeTree}
+use Rattle.nest_memory.specs.TypeTree.{Letters, TypeTree}
 use Rattle.nest_memory.specs.declared.datatypes.physical_type.PhysicalType.{PhysicalType}
 use Rattle.nest_memory.specs.declared.datatypes.physical_type.PhysicalType.TheVariants as physical
 use Rattle.nest_model.specs.BuilderTree.{BuilderTree}
@@ -29,9 +30,13 @@ use Rattle.nest_model.specs.Slot.{Slot}
 abbrev pub json_value : List ℕ → Option Json
 json_value line = if is_utf8 line then document line else None
 
-abbrev pub slot_unless_error : Option ValueError → Slot → LineRow
-slot_unless_error None s = Ok s
-slot_unless_error (Some e) s = Err (line_errors.Value e)
+-- the failure of a value, in the field of that path
+abbrev pub value_failure : ValueError → Option Letters → LineFailure
+value_failure e path = record { reason = line_errors.Value e; path = path }
+
+abbrev pub slot_unless_error : Option ValueError → Option Letters → Slot → LineRow
+slot_unless_error None path s = Ok s
+slot_unless_error (Some e) path s = Err (value_failure e path)
 
 -- the type is a struct
 abbrev pub spec_is_struct : PhysicalType → Bool
@@ -42,13 +47,17 @@ spec_is_struct _ = false
 abbrev pub spec_is_null_struct : TypeTree → Json → Bool
 spec_is_null_struct t j = is_null j && spec_is_struct (physical_type t)
 
--- the error of the value of a line
+-- the error of the value of a line: a null in a field that is not nullable is one only in a value without another error
 abbrev pub row_error : TypeTree → Json → Option ValueError
-row_error t j = if spec_is_null_struct t j then Some WrongType else value_error t j
+row_error t j = if spec_is_null_struct t j then Some WrongType else first_error (value_error t j) (null_error t j)
+
+-- the failure of a line that is not JSON, which is in no field
+abbrev pub json_failure : LineFailure
+json_failure = record { reason = InvalidJson; path = None }
 
 abbrev pub value_row : TypeTree → Option Json → LineRow
-value_row t None = Err InvalidJson
-value_row t (Some j) = slot_unless_error (row_error t j) (slot_of t j)
+value_row t None = Err json_failure
+value_row t (Some j) = slot_unless_error (row_error t j) (spec_row_path t j) (slot_of t j)
 
 -- the slot of a line, or its error
 abbrev pub line_row : TypeTree → List ℕ → LineRow
@@ -67,12 +76,7 @@ AreAllValid (s ∷ ss) = (s ≢ slots.null) × AreAllValid ss
 abbrev pub StructRowsAreValid : TypeTree → List Slot → Type 0
 StructRowsAreValid t ss = physical_type t ≡ physical.Struct → AreAllValid ss
 
--- the error of a value as that of its line, and the error of a line as that of the text
-abbrev pub spec_push_line_error : PushError → PushLineError
-spec_push_line_error (push_error.Value e) = push_line_errors.Line (line_errors.Value e)
-spec_push_line_error push_error.Overflow = push_line_errors.Overflow
-spec_push_line_error push_error.Memory = push_line_errors.Memory
-
+-- the error of a line as that of the text
 abbrev pub spec_json_read_error : ℕ → PushLineError → JsonReadError
 spec_json_read_error line (push_line_errors.Line e) = read_errors.Line line e
 spec_json_read_error line push_line_errors.Overflow = read_errors.Overflow
@@ -85,13 +89,13 @@ LineAdded (Err e) old new = ⊥
 
 -- the error of a line, or a limit or a failed allocation
 abbrev pub IsLineError : PushLineError → LineRow → Type 0
-IsLineError (push_line_errors.Line e) row = row ≡ Err e
+IsLineError (push_line_errors.Line e) row = row ≡ Err (failure_of e)
 IsLineError push_line_errors.Overflow row = Unit {0}
 IsLineError push_line_errors.Memory row = Unit {0}
 
 -- the error of the data type or of the first invalid line, or a limit or a failed allocation
 abbrev pub IsJsonReadError : JsonReadError → TypeTree → List (List ℕ) → Type 0
 IsJsonReadError (read_errors.Type e) t lines = unsupported_type t ≡ Some e
-IsJsonReadError (read_errors.Line line e) t lines = line_rows t lines ≡ Err (line, e)
+IsJsonReadError (read_errors.Line line e) t lines = line_rows t lines ≡ Err (line, failure_of e)
 IsJsonReadError read_errors.Overflow t lines = Unit {0}
 IsJsonReadError read_errors.Memory t lines = Unit {0}

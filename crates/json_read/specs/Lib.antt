@@ -12,6 +12,8 @@ pub mod ScaledNumbers
 pub mod FlatRoundTrip
 pub mod JsonLines
 pub mod JsonSlots
+pub mod RequiredFields
+pub mod ErrorPaths
 pub mod NativeNumbers
 pub mod RoundTrip
 pub mod LineRows

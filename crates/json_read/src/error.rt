@@ -4,6 +4,8 @@ ghost use Rattle.json_read.specs.declared.error.NewBuilderError.TheVariants as b
 
 use crate::value_error::ValueError;
 use std::alloc::{AllocError, AllocFailed};
+use std::fmt;
+use std::fmt::{Display, Formatter};
 use thiserror::Error;
 
 /// A data type whose values cannot be read from JSON.
@@ -57,11 +59,31 @@ pub enum LineError {
     Value(ValueError),
 }
 
+/// The error of a line, and the field that it is in.
+#[derive(Debug, Drop, PartialEq, Eq)]
+pub struct FieldError {
+    /// The path of the field: the names of the fields from the value of the line down, joined by dots. `None` if the error is in no field, as
+    /// that of a line that is not JSON.
+    pub field: Option<String>,
+    /// The error of the line.
+    pub reason: LineError,
+}
+
+impl Display for FieldError {
+    fn fmt<W: fmt::Write>(&self, f: &mut Formatter<W>) -> fmt::Result {
+        let reason = self.reason;
+        match &self.field {
+            Some(field) => write!(f, "field \"{field}\": {reason}"),
+            None => write!(f, "{reason}"),
+        }
+    }
+}
+
 /// Error returned when a line is added to a builder.
-#[derive(Clone, Copy)]
+#[derive(Drop)]
 pub(crate) enum PushLineError {
     /// The line is no slot of the data type.
-    Line(LineError),
+    Line(FieldError),
     /// The array or a child array would exceed its maximum size.
     Overflow,
     /// An allocation failed.
@@ -69,14 +91,14 @@ pub(crate) enum PushLineError {
 }
 
 /// Error returned by `read_json_lines` and `read_first_json_lines`.
-#[derive(Clone, Copy, Debug, PartialEq, Eq, Error)]
+#[derive(Debug, Drop, PartialEq, Eq, Error)]
 pub enum JsonReadError {
     /// JSON of the type cannot be read. Of several reasons it is the first, a type before its children, these in order.
     #[error("cannot be read from JSON: {0}")]
     Type(UnsupportedTypeError),
     /// The first invalid line, counted from 0, and its error.
-    #[error("line {line} (counted from 0): {reason}")]
-    Line { line: usize, reason: LineError },
+    #[error("line {line} (counted from 0): {error}")]
+    Line { line: usize, error: FieldError },
     /// The array or a child array would exceed the maximum length, the offset type or the key type.
     #[error("array exceeds its maximum size")]
     Overflow,

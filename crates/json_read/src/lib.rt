@@ -5,6 +5,7 @@
 
 mod builders;
 mod error;
+mod error_paths;
 mod fields;
 mod flat;
 mod floats;
@@ -17,6 +18,7 @@ mod list_rows;
 mod natives;
 mod numbers;
 mod push;
+mod required_fields;
 mod struct_rows;
 mod text_numbers;
 mod texts;
@@ -25,6 +27,6 @@ mod value_error;
 mod values_type;
 
 pub use builders::new_builder;
-pub use error::{JsonReadError, LineError, NewBuilderError, UnsupportedTypeError};
+pub use error::{FieldError, JsonReadError, LineError, NewBuilderError, UnsupportedTypeError};
 pub use lines::{JsonRows, read_first_json_lines, read_json_lines};
 pub use value_error::ValueError;

@@ -1,19 +1,22 @@
 //! Lines of JSON as the slots of an array.
-ghost use Rattle.std.specs.Prelude.{◌≡◌, ◌^◌, ◌≤◌, [], IfErr, IfOk, None, Ok, OnErr, OnOk, length, take};
+ghost use Rattle.std.specs.Prelude.{◌≡◌, ◌^◌, ◌≤◌, [], IfErr, IfOk, None, Ok, OnErr, OnOk, Some, length, take};
 ghost use Rattle.json.specs.Value.{value_view};
 ghost use Rattle.nest_any.specs.Trees.{tree_of};
 ghost use Rattle.nest_any.specs.Words.{IsComplete, builder_type, layout_of, layout_type, own_slots, slots_of, type_of};
 ghost use Rattle.json_read.specs.DistinctNames.{HasDistinctFieldNames};
-ghost use Rattle.json_read.specs.JsonLines.{IsLineError, IsJsonReadError, StructRowsAreValid, LineAdded, row_error, spec_is_null_struct, spec_is_struct, spec_push_line_error, line_row, line_rows, spec_json_read_error};
+ghost use Rattle.json_read.specs.JsonLines.{IsLineError, IsJsonReadError, StructRowsAreValid, LineAdded, row_error, spec_is_null_struct, spec_is_struct, line_row, line_rows, spec_json_read_error, value_row};
 ghost use Rattle.json_read.specs.JsonSlots.{slot_of};
 ghost use Rattle.json_read.specs.LineSplit.{AreFirstLines, lines_of};
+ghost use Rattle.json_read.specs.RequiredFields.{has_required_field};
 ghost use Rattle.json_read.specs.SlotAdded.{IsPushError, SlotAdded};
 ghost use Rattle.json_read.specs.UnsupportedTypes.{unsupported_type};
 
 use crate::builders::new_builder;
-use crate::error::{JsonReadError, LineError, NewBuilderError, PushLineError};
+use crate::error::{FieldError, JsonReadError, LineError, NewBuilderError, PushLineError};
+use crate::error_paths::row_path;
 use crate::line_split::line_ends;
 use crate::push::push_value;
+use crate::required_fields::{check_nulls, requires_values};
 use crate::value_error::{PushError, ValueError};
 use json::{Error, Scratch, Value};
 use nest_any::AnyMutableArray;
@@ -35,11 +38,12 @@ pub struct JsonRows {
 }
 
 /// Reads lines of JSON as an array of the data type, a slot a line. A line feed ends each line; the last may lack it. The value of a
-/// line may not be null if the data type is a struct.
+/// line may not be null if the data type is a struct. A value of a field that is not nullable may not be null, nor may its member be missing.
 ///
 /// # Errors
 /// - `Type`: JSON of the type cannot be read. Of several reasons it is the first, a type before its children, these in order.
-/// - `Line`: the first invalid line, counted from 0. Of several errors it is the first in the line.
+/// - `Line`: the first invalid line, counted from 0, with its error and the path of the field that the error is in. Of several errors it is
+///   the first in the line, `UnexpectedNull` after all others.
 /// - `Overflow`: the array or a child array would exceed its maximum size; no later line has been read.
 /// - `Memory`: an allocation fails; no later line has been read.
 pub fn read_json_lines(
@@ -86,17 +90,19 @@ pub fn read_first_json_lines(
     match new_builder(alloc, data_type) {
         Err(NewBuilderError::Type(reason)) => Err(JsonReadError::Type(reason)),
         Err(NewBuilderError::Memory) => Err(JsonReadError::Memory),
-        Ok(builder) => fill(alloc, builder, text, limit),
+        Ok(builder) => fill(alloc, data_type, builder, text, limit),
     }
 }
 
-/// Reads lines with an empty builder.
+/// Reads lines with an empty builder of the data type.
 fn fill(
     alloc: Global,
+    data_type: &DataType,
     builder: AnyMutableArray,
     text: &[u8],
     limit: usize,
 ) -> Result<JsonRows, JsonReadError>
+    requires typed { builder_type (tree_of builder) ≡ type_of data_type.now }
     requires complete { IsComplete (tree_of builder) }
     requires empty { own_slots (tree_of builder) ≡ [] }
     requires distinct { HasDistinctFieldNames (builder_type (tree_of builder)) }
@@ -106,7 +112,7 @@ fn fill(
     ensures error { IfErr result (λ e. IsJsonReadError e (builder_type (tree_of builder)) (take limit (lines_of text.now))) }
 {
     let mut builder = builder;
-    match push_lines(alloc, &mut builder, text, limit) {
+    match push_lines(alloc, data_type, &mut builder, text, limit) {
         Ok((used, lines)) => {
             let array = MutableArray::as_box(&mut builder);
             drop(builder);
@@ -122,13 +128,15 @@ fn fill(
     }
 }
 
-/// Adds the first lines to an empty builder; returns the number of their bytes and their number.
+/// Adds the first lines to an empty builder of the data type; returns the number of their bytes and their number.
 fn push_lines(
     alloc: Global,
+    data_type: &DataType,
     builder: &mut AnyMutableArray,
     text: &[u8],
     limit: usize,
 ) -> Result<(usize, usize), JsonReadError>
+    requires typed { builder_type (tree_of builder.old) ≡ type_of data_type.now }
     requires complete { IsComplete (tree_of builder.old) }
     requires empty { own_slots (tree_of builder.old) ≡ [] }
     requires distinct { HasDistinctFieldNames (builder_type (tree_of builder.old)) }
@@ -138,13 +146,15 @@ fn push_lines(
     ensures same_type { OnOk result (builder_type (tree_of builder.new) ≡ builder_type (tree_of builder.old)) }
     ensures error { IfErr result (λ e. IsJsonReadError e (builder_type (tree_of builder.old)) (take limit (lines_of text.now))) }
 {
+    let required = requires_values(data_type);
     let mut scratch = Scratch::new(alloc);
     let mut used = 0;
     let mut lines = 0;
     'lines: while lines < limit && used < text.len() {
         let rest = &text[used..];
         let (end, next) = line_ends(rest);
-        match push_line(alloc, builder, &rest[..end], &mut scratch) {
+        let line = &rest[..end];
+        match push_line(alloc, data_type, required, builder, line, &mut scratch) {
             Ok(()) => {}
             Err(error) => return Err(json_read_error(lines, error)),
         }
@@ -154,13 +164,17 @@ fn push_lines(
     Ok((used, lines))
 }
 
-/// Adds the slot of a line.
+/// Adds the slot of a line. `required` says whether a field of the data type is not nullable.
 fn push_line(
     alloc: Global,
+    data_type: &DataType,
+    required: bool,
     builder: &mut AnyMutableArray,
     line: &[u8],
     scratch: &mut Scratch,
 ) -> Result<(), PushLineError>
+    requires typed { builder_type (tree_of builder.old) ≡ type_of data_type.now }
+    requires required { required ≡ has_required_field (type_of data_type.now) }
     requires complete { IsComplete (tree_of builder.old) }
     requires distinct { HasDistinctFieldNames (builder_type (tree_of builder.old)) }
     ensures added { OnOk result (LineAdded (line_row (builder_type (tree_of builder.old)) line.now) (tree_of builder.old) (tree_of builder.new)) }
@@ -168,24 +182,37 @@ fn push_line(
 {
     match Value::from_slice(alloc, line, scratch) {
         Ok(value) => {
-            let pushed = push_row(alloc, builder, &value);
-            drop(value);
+            let pushed = push_row(alloc, data_type, required, builder, &value);
             match pushed {
-                Ok(()) => Ok(()),
-                Err(error) => Err(push_line_error(error)),
+                Ok(()) => {
+                    drop(value);
+                    Ok(())
+                }
+                Err(error) => {
+                    let failed = row_failure(alloc, data_type, &value, error);
+                    drop(value);
+                    Err(failed)
+                }
             }
         }
-        Err(Error::Invalid) => Err(PushLineError::Line(LineError::InvalidJson)),
+        Err(Error::Invalid) => Err(PushLineError::Line(FieldError {
+            field: None,
+            reason: LineError::InvalidJson,
+        })),
         Err(_) => Err(PushLineError::Memory),
     }
 }
 
-/// Adds the slot of the value of a line.
+/// Adds the slot of the value of a line. `required` says whether a field of the data type is not nullable.
 fn push_row(
     alloc: Global,
+    data_type: &DataType,
+    required: bool,
     builder: &mut AnyMutableArray,
     value: &Value<'_>,
 ) -> Result<(), PushError>
+    requires typed { builder_type (tree_of builder.old) ≡ type_of data_type.now }
+    requires required { required ≡ has_required_field (type_of data_type.now) }
     requires complete { IsComplete (tree_of builder.old) }
     requires distinct { HasDistinctFieldNames (builder_type (tree_of builder.old)) }
     ensures added { OnOk result (SlotAdded (slot_of (builder_type (tree_of builder.old)) (value_view value.now)) (tree_of builder.old) (tree_of builder.new)) }
@@ -195,7 +222,10 @@ fn push_row(
     if is_null_struct(builder, value) {
         return Err(PushError::Value(ValueError::WrongType));
     }
-    push_value(alloc, builder, value)
+    match push_value(alloc, builder, value) {
+        Ok(()) => check_nulls(data_type, required, value),
+        Err(error) => Err(error),
+    }
 }
 
 // Returns whether the value is a null struct.
@@ -212,12 +242,26 @@ fn is_struct(kind: PhysicalType) -> bool
     matches!(kind, PhysicalType::Struct)
 }
 
-// Converts the error of a value to that of its line.
-fn push_line_error(error: PushError) -> PushLineError
-    ensures { result ≡ spec_push_line_error error }
+// Converts the error of a value to that of its line, with the path of its field.
+fn row_failure(
+    alloc: Global,
+    data_type: &DataType,
+    value: &Value<'_>,
+    error: PushError,
+) -> PushLineError
+    requires distinct { HasDistinctFieldNames (type_of data_type.now) }
+    requires error { IsPushError error (row_error (type_of data_type.now) (value_view value.now)) }
+    ensures { IsLineError result (value_row (type_of data_type.now) (Some (value_view value.now))) }
 {
     match error {
-        PushError::Value(error) => PushLineError::Line(LineError::Value(error)),
+        PushError::Value(reason) => match row_path(alloc, data_type, value) {
+            Ok(field) => PushLineError::Line(FieldError {
+                field,
+                reason: LineError::Value(reason),
+            }),
+            Err(PushError::Memory) => PushLineError::Memory,
+            Err(_) => PushLineError::Overflow,
+        },
         PushError::Overflow => PushLineError::Overflow,
         PushError::Memory => PushLineError::Memory,
     }
@@ -228,7 +272,7 @@ fn json_read_error(line: usize, error: PushLineError) -> JsonReadError
     ensures { result ≡ spec_json_read_error line error }
 {
     match error {
-        PushLineError::Line(reason) => JsonReadError::Line { line, reason },
+        PushLineError::Line(error) => JsonReadError::Line { line, error },
         PushLineError::Overflow => JsonReadError::Overflow,
         PushLineError::Memory => JsonReadError::Memory,
     }

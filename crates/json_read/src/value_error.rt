@@ -36,6 +36,9 @@ pub enum ValueError {
     /// A member before has the same name.
     #[error("duplicate field")]
     DuplicateField,
+    /// A value is null, or a member is missing, in a field that is not nullable.
+    #[error("null in a field that is not nullable")]
+    UnexpectedNull,
 }
 
 /// Error returned when a value is added to a builder.

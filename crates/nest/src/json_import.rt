@@ -19,9 +19,10 @@ fn report_import(rt: &HostRuntime, request: &ImportRequest<'_>, error: ImportErr
             let _ = eprintln!(rt; "nest: {row_type}: cannot be read from JSON: {reason}");
             failed()
         }
-        ImportError::Line(line, reason) => {
+        ImportError::Line(line, error) => {
             let line = line.saturating_add(1);
-            let _ = eprintln!(rt; "nest: {lines}: line {line}: {reason}");
+            let _ = eprintln!(rt; "nest: {lines}: line {line}: {error}");
+            drop(error);
             failed()
         }
         ImportError::Overflow => {
@@ -89,7 +90,10 @@ fn import_to_file<R: Read + Drop>(
             let done = import_from(rt, fields, input, output);
             match settle(rt, out, place, done.is_ok()) {
                 Ok(()) => report_done(rt, request, done),
-                Err(code) => code,
+                Err(code) => {
+                    drop(done);
+                    code
+                }
             }
         }
     }

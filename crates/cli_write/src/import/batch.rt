@@ -35,7 +35,10 @@ pub(crate) fn after_lines(error: ImportError, lines: usize) -> ImportError
     match error {
         ImportError::Line(line, reason) => match lines.checked_add(line) {
             Some(line) => ImportError::Line(line, reason),
-            None => ImportError::Overflow,
+            None => {
+                drop(reason);
+                ImportError::Overflow
+            }
         },
         other => other,
     }

@@ -4,16 +4,16 @@ ghost use Rattle.cli_write.specs.declared.import.error.ImportError.TheVariants.{
 
 use cli_rows::CliError;
 use ipc_flatbuf::IpcWriteError;
-use json_read::{JsonReadError, LineError, UnsupportedTypeError};
+use json_read::{FieldError, JsonReadError, UnsupportedTypeError};
 use std::alloc::{AllocError, AllocFailed};
 
 /// Error returned where lines of JSON are not written as Arrow.
-#[derive(Clone, Copy, Debug, PartialEq, Eq)]
+#[derive(Debug, Drop, PartialEq, Eq)]
 pub enum ImportError {
     /// Records of these fields are not read from JSON, for the first reason: a type before its children, in order.
     Type(UnsupportedTypeError),
-    /// The first invalid line, from 0, and the reason.
-    Line(usize, LineError),
+    /// The first invalid line, from 0, with the reason and the field that it is in.
+    Line(usize, FieldError),
     /// The rows of a record batch exceed the limits of an array, or the lines exceed 2^64.
     Overflow,
     /// The rows cannot be written in the format of the output.
@@ -71,7 +71,7 @@ impl From<JsonReadError> for ImportError {
     fn from(error: JsonReadError) -> ImportError {
         match error {
             JsonReadError::Type(reason) => ImportError::Type(reason),
-            JsonReadError::Line { line, reason } => ImportError::Line(line, reason),
+            JsonReadError::Line { line, error } => ImportError::Line(line, error),
             JsonReadError::Overflow => ImportError::Overflow,
             JsonReadError::Memory => ImportError::Memory,
         }

@@ -191,7 +191,7 @@ fn import_typed<R: Read + Drop, W: Write + Drop, P: Progress>(
 /// lines, or of 32 MiB of lines, are written as a record batch before further lines are read.
 ///
 /// # Errors
-/// `Type` with the first reason why such records are not read. `Line` with the first invalid line, from 0, and its first reason. `Overflow`
+/// `Type` with the first reason why such records are not read. `Line` with the first invalid line, from 0, its first reason and the path of its field. `Overflow`
 /// if the rows of a record batch exceed the limits of an array. `Write` with the first reason why the lines up to a record batch cannot be
 /// written. `Input` if a read fails, `Output` if a write fails. `Memory`, also in `Write`, if an allocation fails. A prefix of the bytes
 /// may have been written then.
