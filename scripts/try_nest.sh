@@ -465,12 +465,21 @@ for out in "$room/made" "$room/made.arrows"; do
 done
 "$program" rows "$room/made" | "$program" from-json "$rows" - - | cmp -s - "$room/made" || { echo 'nest from-json: its own lines'; failed=1; }
 printf '{"a":1}\n{"a":2147483648}\n' >"$room/past"
-expect 2 '' "nest: $room/past: line 2: number out of range" from-json "$rows" "$room/past" "$room/as"
+expect 2 '' "nest: $room/past: line 2: field \"a\": number out of range" from-json "$rows" "$room/past" "$room/as"
 printf '{"a":1}\n\n' >"$room/past"
 expect 2 '' "nest: $room/past: line 2: invalid JSON" from-json "$rows" "$room/past" "$room/as"
 printf '{"d":1}' >"$room/past"
-expect 2 '' "nest: $room/past: line 1: unknown field" from-json "$rows" "$room/past" "$room/as"
+expect 2 '' "nest: $room/past: line 1: field \"d\": unknown field" from-json "$rows" "$room/past" "$room/as"
 expect 0 "$laid" '' rows "$room/made"
+# Nulls and missing members of fields that are not nullable.
+required='struct<a: int32 not null, c: list<item: int8 not null>>'
+printf '{"a":1}\n{"a":2,"c":[1,null]}\n' >"$room/past"
+expect 2 '' "nest: $room/past: line 2: field \"c.item\": null in a field that is not nullable" from-json "$required" "$room/past" "$room/as"
+printf '{"c":[]}\n' >"$room/past"
+expect 2 '' "nest: $room/past: line 1: field \"a\": null in a field that is not nullable" from-json "$required" "$room/past" "$room/as"
+printf '{"c":[1],"a":1}\n{"a":2,"c":null}\n' >"$room/past"
+expect 0 '' '' from-json "$required" "$room/past" "$room/whole"
+expect 0 '{"a":1,"c":[1]}\n{"a":2,"c":null}\n' '' rows "$room/whole"
 expect 2 '' "nest: struct<a: map<string, int8>>: cannot be read from JSON: map type" from-json 'struct<a: map<string, int8>>' "$room/lines" "$room/as"
 # Dates and timestamps in conditions, as rows print them; a string that is no date.
 printf '{"day":"2024-02-29","at":"2024-02-29T12:34:56.500Z"}\n{"day":"1969-12-31","at":null}\n{"day":null,"at":"1970-01-01T00:00:00.000Z"}\n' >"$room/days.json"
@@ -482,7 +491,7 @@ printf '{"h":1.5}\n{"h":2049.0000000000000001}\n{"h":"Infinity"}\n' >"$room/halv
 expect 0 '' '' from-json 'struct<h: halffloat>' "$room/halves.json" "$room/halves"
 expect 0 '{"h":1.5}\n{"h":2050.0}\n{"h":"Infinity"}\n' '' rows "$room/halves"
 printf '{"h":65520}\n' >"$room/past"
-expect 2 '' "nest: $room/past: line 1: number out of range" from-json 'struct<h: halffloat>' "$room/past" "$room/as"
+expect 2 '' "nest: $room/past: line 1: field \"h\": number out of range" from-json 'struct<h: halffloat>' "$room/past" "$room/as"
 printf '{"x":0.1,"y":[1.5,null]}\n{"x":1e23,"y":[16777217]}\n{"x":"NaN","y":["-Infinity"]}\n{"x":-0.0,"y":null}\n' >"$room/floats.json"
 expect 0 '' '' from-json 'struct<x: double, y: list<item: float>>' "$room/floats.json" "$room/floats"
 expect 0 '{"x":0.1,"y":[1.5,null]}\n{"x":1e23,"y":[16777216.0]}\n{"x":"NaN","y":["-Infinity"]}\n{"x":-0.0,"y":null}\n' '' rows "$room/floats"
@@ -493,7 +502,7 @@ expect 0 '{"x":0.1,"y":[1.5,null]}\n' '' where "$room/floats" 'x = 0.1'
 expect 0 '{"x":"NaN","y":["-Infinity"]}\n{"x":-0.0,"y":null}\n' '' where "$room/floats" 'not (x = 0.1 or x > 1)'
 expect 0 '{"x":-0.0,"y":null}\n' '' where "$room/floats" 'x = 0'
 printf '{"x":1e309}\n' >"$room/past"
-expect 2 '' "nest: $room/past: line 1: number out of range" from-json 'struct<x: double>' "$room/past" "$room/as"
+expect 2 '' "nest: $room/past: line 1: field \"x\": number out of range" from-json 'struct<x: double>' "$room/past" "$room/as"
 expect 2 '' "nest: $room/none: no such file" from-json "$rows" "$room/none" "$room/as"
 expect 2 '' "nest: $room/none/as: output cannot be written: no such directory" from-json "$rows" "$room/lines" "$room/none/as"
 expect 2 '' 'nest: int8: the type of a row is a struct' from-json int8 "$room/lines" "$room/as"

@@ -1,5 +1,5 @@
 //! Decimals of 256 bits as JSON. The halves are computed from the digits, byte by byte.
-use json_read::{JsonReadError, LineError, ValueError, read_json_lines};
+use json_read::{FieldError, JsonReadError, LineError, ValueError, read_json_lines};
 use json_write::Json;
 use nest_array::AnyArray;
 use nest_flat::any_native::AnyNative;
@@ -148,7 +148,10 @@ fn long_decimals_are_refused(rt: HostRuntime) -> Result<(), Fail> {
                 error
                     == JsonReadError::Line {
                         line: 0,
-                        reason: LineError::Value(ValueError::PrecisionExceeded)
+                        error: FieldError {
+                            field: None,
+                            reason: LineError::Value(ValueError::PrecisionExceeded)
+                        }
                     },
                 "{text}: {error}"
             ),

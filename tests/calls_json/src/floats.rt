@@ -3,7 +3,7 @@ ghost use Rattle.std.specs.Prelude.{◌*◌, ◌<◌};
 ghost use Rattle.std.specs.Float.Ieee.{top};
 
 use float_text::{FloatFormat, is_finite, single_of_half, write_float};
-use json_read::{JsonReadError, LineError, ValueError, read_json_lines};
+use json_read::{FieldError, JsonReadError, LineError, ValueError, read_json_lines};
 use json_write::Json;
 use nest_array::AnyArray;
 use nest_flat::any_native::AnyNative;
@@ -109,7 +109,10 @@ fn invalid_numbers_are_rejected(rt: HostRuntime) -> Result<(), Fail> {
                 error
                     == JsonReadError::Line {
                         line: 0,
-                        reason: LineError::Value(want)
+                        error: FieldError {
+                            field: None,
+                            reason: LineError::Value(want)
+                        }
                     },
                 "{precision:?} of {text}: {error}"
             ),
@@ -167,7 +170,10 @@ fn halves_are_rounded_once(rt: HostRuntime) -> Result<(), Fail> {
         ("4098", Some(0x6c00)),
         ("4099", Some(0x6c01)),
         ("4102", Some(0x6c02)),
-        ("4102.000000000000000000000000000000000000000000000000001", Some(0x6c02)),
+        (
+            "4102.000000000000000000000000000000000000000000000000001",
+            Some(0x6c02),
+        ),
         ("0.00006103515625", Some(0x0400)),
         ("0.000061035156249", Some(0x0400)),
         ("0.00006097555160522461", Some(0x03ff)),
@@ -176,7 +182,10 @@ fn halves_are_rounded_once(rt: HostRuntime) -> Result<(), Fail> {
         ("0.00006100535392761230468751", Some(0x0400)),
         ("1000.25", Some(0x63d0)),
         ("1000.75", Some(0x63d2)),
-        ("0.5000000000000000000000000000000000000000001", Some(0x3800)),
+        (
+            "0.5000000000000000000000000000000000000000001",
+            Some(0x3800),
+        ),
         ("0.50024414062500000000000000000000001", Some(0x3801)),
         ("0.500244140625", Some(0x3800)),
         ("0.50073242187500", Some(0x3802)),
@@ -215,7 +224,10 @@ fn names_of_halves_are_read(rt: HostRuntime) -> Result<(), Fail> {
                 error
                     == JsonReadError::Line {
                         line: 0,
-                        reason: LineError::Value(want)
+                        error: FieldError {
+                            field: None,
+                            reason: LineError::Value(want)
+                        }
                     },
                 "{text}: {error}"
             ),

@@ -6,7 +6,7 @@ use cli_write::import::{ImportError, import};
 use cli_write::{Progress, copy};
 use ipc_flatbuf::IpcWriteError;
 use ipc_schema::{Projection, Schema, clone_fields};
-use json_read::{LineError, UnsupportedTypeError, ValueError, read_json_lines};
+use json_read::{FieldError, LineError, UnsupportedTypeError, ValueError, read_json_lines};
 use nest_memory::datatypes::{DataType, Field, Metadata};
 use std::alloc::Global;
 use std::io;
@@ -213,38 +213,80 @@ fn batches_have_65536_rows(rt: HostRuntime) -> Result<(), Fail> {
     text.extend_from_slice(b"{\"a\":128}\n")?;
     let input = text_of(alloc, &text, 1000, NEVER)?;
     let (done, count) = imported(alloc, "struct<a: int8>", Format::File, input, NEVER)?;
-    let line = LineError::Value(ValueError::OutOfRange);
-    assert!(&rt; done.err() == Some(ImportError::Line(65537, line)));
+    let reason = LineError::Value(ValueError::OutOfRange);
+    assert!(&rt; done.err() == Some(line_error(alloc, 65537, Some("a"), reason)?));
     assert!(&rt; count.rows == 65536 && count.batches == 1);
     Ok(())
 }
 
 #[test]
-fn invalid_lines_are_errors(rt: HostRuntime) -> Result<(), Fail> {
+fn unsupported_types_are_errors(rt: HostRuntime) -> Result<(), Fail> {
     let alloc = rt.alloc();
-    for (row_type, text, want) in [
+    for (row_type, want) in [
         (
             "struct<a: list<item: map<string, int8>>>",
-            "{}",
-            ImportError::Type(UnsupportedTypeError::Map),
+            UnsupportedTypeError::Map,
         ),
-        (
-            "struct<>",
-            "{}",
-            ImportError::Type(UnsupportedTypeError::EmptyStruct),
-        ),
+        ("struct<>", UnsupportedTypeError::EmptyStruct),
+    ] {
+        let error = made(alloc, row_type, Format::File, b"{}")?.err();
+        assert!(&rt;
+            error == Some(ImportError::Type(want)),
+            "{row_type}: {error:?}"
+        );
+    }
+    Ok(())
+}
+
+/// The error of a line, in a field if there is a path.
+fn line_error(
+    alloc: Global,
+    line: usize,
+    path: Option<&str>,
+    reason: LineError,
+) -> Result<ImportError, Fail> {
+    let field = match path {
+        Some(path) => Some(String::from_str(alloc, path)?),
+        None => None,
+    };
+    Ok(ImportError::Line(line, FieldError { field, reason }))
+}
+
+#[test]
+fn invalid_lines_are_errors(rt: HostRuntime) -> Result<(), Fail> {
+    let alloc = rt.alloc();
+    for (row_type, text, line, path, reason) in [
         (
             ROWS,
             "{}\nnull\n",
-            ImportError::Line(1, LineError::Value(ValueError::WrongType)),
+            1,
+            None,
+            LineError::Value(ValueError::WrongType),
         ),
         (
             ROWS,
             "{}\n{\"b\":1}\n",
-            ImportError::Line(1, LineError::Value(ValueError::UnknownField)),
+            1,
+            Some("b"),
+            LineError::Value(ValueError::UnknownField),
         ),
-        (ROWS, "{\n", ImportError::Line(0, LineError::InvalidJson)),
+        (
+            ROWS,
+            "{}\n{}\n{\"tags\":[\"x\",1]}\n",
+            2,
+            Some("tags.item"),
+            LineError::Value(ValueError::WrongType),
+        ),
+        (
+            "struct<a: int8 not null>",
+            "{\"a\":1}\n{}\n",
+            1,
+            Some("a"),
+            LineError::Value(ValueError::UnexpectedNull),
+        ),
+        (ROWS, "{\n", 0, None, LineError::InvalidJson),
     ] {
+        let want = line_error(alloc, line, path, reason)?;
         let error = made(alloc, row_type, Format::File, text.as_bytes())?.err();
         assert!(&rt; error == Some(want), "{row_type}: {error:?}");
     }

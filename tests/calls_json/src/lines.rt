@@ -386,7 +386,7 @@ fn lines_are_rejected(rt: HostRuntime) -> Result<(), Fail> {
             (
                 "fixed_size_list<item: int8>[2]",
                 "[1,2,true]",
-                "line 0 (counted from 0): value of another type",
+                "line 0 (counted from 0): field \"item\": value of another type",
             ),
             (
                 "day_time_interval",
@@ -401,22 +401,22 @@ fn lines_are_rejected(rt: HostRuntime) -> Result<(), Fail> {
             (
                 RECORD,
                 "{\"id\":1}\n{\"no\":1}\n",
-                "line 1 (counted from 0): unknown field",
+                "line 1 (counted from 0): field \"no\": unknown field",
             ),
             (
                 RECORD,
                 "{\"id\":1,\"id\":2}",
-                "line 0 (counted from 0): duplicate field",
+                "line 0 (counted from 0): field \"id\": duplicate field",
             ),
             (
                 RECORD,
                 "{\"id\":1,\"no\":2,\"id\":true}",
-                "line 0 (counted from 0): unknown field",
+                "line 0 (counted from 0): field \"no\": unknown field",
             ),
             (
                 RECORD,
                 "{\"at\":{\"x\":1,\"x\":1}}",
-                "line 0 (counted from 0): duplicate field",
+                "line 0 (counted from 0): field \"at.x\": duplicate field",
             ),
             (
                 RECORD,
@@ -437,6 +437,129 @@ fn lines_are_rejected(rt: HostRuntime) -> Result<(), Fail> {
                 "string",
                 "[]",
                 "line 0 (counted from 0): value of another type",
+            ),
+        ],
+    )
+}
+
+/// The field of an error: that of the first one, by its path.
+#[test]
+fn errors_name_fields(rt: HostRuntime) -> Result<(), Fail> {
+    check(
+        &rt,
+        &[
+            (
+                RECORD,
+                "{\"id\":true}",
+                "line 0 (counted from 0): field \"id\": value of another type",
+            ),
+            (
+                RECORD,
+                "{\"tags\":[\"a\",1],\"id\":true}",
+                "line 0 (counted from 0): field \"tags.item\": value of another type",
+            ),
+            (
+                RECORD,
+                "{\"at\":{\"z\":1}}",
+                "line 0 (counted from 0): field \"at.z\": unknown field",
+            ),
+            (
+                RECORD,
+                "{\"at\":[]}",
+                "line 0 (counted from 0): field \"at\": value of another type",
+            ),
+            (
+                "struct<a: struct<b: list<c: fixed_size_list<d: int8>[2]>>>",
+                "{\"a\":{\"b\":[[1,2],null,[3,128]]}}",
+                "line 0 (counted from 0): field \"a.b.c.d\": number out of range",
+            ),
+            (
+                "struct<a: struct<b: list<c: fixed_size_list<d: int8>[2]>>>",
+                "{\"a\":{\"b\":[[1,2],[3]]}}",
+                "line 0 (counted from 0): field \"a.b.c\": wrong number of items or bytes",
+            ),
+            (
+                "struct<: int8>",
+                "{\"\":1.5}",
+                "line 0 (counted from 0): field \"\": number is not an integer",
+            ),
+            (
+                "struct<a: dictionary<values=string, indices=int8, ordered=0>>",
+                "{\"a\":1}",
+                "line 0 (counted from 0): field \"a\": value of another type",
+            ),
+        ],
+    )
+}
+
+const UNEXPECTED_NULL: &str =
+    "line 0 (counted from 0): field \"id\": null in a field that is not nullable";
+
+const REQUIRED: &str =
+    "struct<id: int64 not null, tags: list<item: string not null>, at: struct<x: int8 not null>>";
+
+/// Nulls and missing members of fields that are not nullable, at any depth. They come after any other error of the line.
+#[test]
+fn nulls_are_rejected(rt: HostRuntime) -> Result<(), Fail> {
+    check(
+        &rt,
+        &[
+            (REQUIRED, "{\"id\":null}", UNEXPECTED_NULL),
+            (REQUIRED, "{}", UNEXPECTED_NULL),
+            (
+                REQUIRED,
+                "{\"tags\":[null]}",
+                "line 0 (counted from 0): field \"tags.item\": null in a field that is not nullable",
+            ),
+            (
+                REQUIRED,
+                "{\"tags\":[\"a\"],\"at\":{\"x\":1}}",
+                UNEXPECTED_NULL,
+            ),
+            (
+                REQUIRED,
+                "{\"id\":1,\"tags\":[\"a\",null]}",
+                "line 0 (counted from 0): field \"tags.item\": null in a field that is not nullable",
+            ),
+            (
+                REQUIRED,
+                "{\"id\":1}\n{\"id\":2,\"at\":{}}\n",
+                "line 1 (counted from 0): field \"at.x\": null in a field that is not nullable",
+            ),
+            (
+                REQUIRED,
+                "{\"at\":{\"x\":null}}",
+                "line 0 (counted from 0): field \"at.x\": null in a field that is not nullable",
+            ),
+            (
+                REQUIRED,
+                "{\"id\":null,\"at\":{\"x\":128}}",
+                "line 0 (counted from 0): field \"at.x\": number out of range",
+            ),
+            (
+                "list<item: int8 not null>",
+                "[1]\n[2,null]\n",
+                "line 1 (counted from 0): field \"item\": null in a field that is not nullable",
+            ),
+            (
+                "fixed_size_list<item: bool not null>[2]",
+                "[null,true]",
+                "line 0 (counted from 0): field \"item\": null in a field that is not nullable",
+            ),
+            (
+                "list<item: fixed_size_list<item: bool not null>[1] not null>",
+                "[[true],[null]]",
+                "line 0 (counted from 0): field \"item.item\": null in a field that is not nullable",
+            ),
+            (
+                REQUIRED,
+                "{\"at\":null,\"tags\":null,\"id\":1}\n{\"id\":2,\"tags\":[],\"at\":{\"x\":3}}\n",
+                "[{\"id\":1,\"tags\":null,\"at\":null},{\"id\":2,\"tags\":[],\"at\":{\"x\":3}}]",
+            ),
+            (
+                "list<item: int8 not null>",
+                "[]\nnull\n[1,2]\n",
+                "[[],null,[1,2]]",
             ),
         ],
     )
@@ -562,7 +685,7 @@ fn is_settled(alloc: Global, text: &[u8]) -> Result<bool, Fail> {
     let data_type = parse_type(alloc, RECORD)?;
     match read_json_lines(alloc, &data_type, text) {
         Ok(array) => Ok(array.len() <= 1 + text.len() / 3),
-        Err(JsonReadError::Line { line, reason: _ }) => Ok(line <= text.len()),
+        Err(JsonReadError::Line { line, error: _ }) => Ok(line <= text.len()),
         Err(_) => Ok(false),
     }
 }

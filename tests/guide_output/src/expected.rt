@@ -114,5 +114,5 @@ read_names_and_ages, age: [31,null]
 
 pub const JSON_LINES: &str = r#"
 people_from_json: [{"name":"Ann","age":31},{"name":"Cy","age":null}]
-people_from_json of {"name":"Ann","age":3000000000}: line 0 (counted from 0): number out of range
+people_from_json of {"name":"Ann","age":3000000000}: line 0 (counted from 0): field "age": number out of range
 "#;
