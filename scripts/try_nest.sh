@@ -136,6 +136,38 @@ expect 2 "$two" "nest: $room/negative: record batch 2: $negative" rows "$room/ne
 expect 0 "$two" '' rows "$room/negative" --start 0 --count 2
 expect 0 '{"a":1,"b":"a"}\n' '' take "$room/negative" 0
 expect 2 '' "nest: $room/negative: record batch 2: $negative" take "$room/negative" 0 2
+# What metadata says: no body and no column is read. Values in the order of the lines.
+# informs FILE FORMAT VERSION COMPRESSION COLUMNS BATCHES ROWS DICTIONARIES DELTAS
+informs() {
+    local file=$1
+    shift
+    local names=('format' 'version' 'compression' 'columns' 'record batches' 'rows' 'dictionary batches' 'delta dictionaries') lines=
+    for name in "${names[@]}"; do
+        lines+="$name: $1\n"
+        shift
+    done
+    expect 0 "$lines" '' info "$file"
+}
+informs "$room/file" file V5 none 2 3 3 0 0
+informs "$room/stream" stream V5 none 2 3 3 0 0
+informs - stream V5 none 2 3 3 0 0
+informs "$room/packed" stream V5 lz4 2 1 3 0 0
+informs "$room/bare" stream V5 none 0 1 3 0 0
+informs "$room/truths" stream V5 none 2 1 11 0 0
+for codec in lz4 zstd; do
+    informs "$data/pyarrow/samples/compressed/${codec}_deltas.arrow" file V5 "$codec" 1 2 2 2 1
+    informs "$data/pyarrow/samples/compressed/${codec}_deltas.arrows" stream V5 "$codec" 1 2 2 2 1
+done
+informs "$formats/version_4.arrow" file V4 none 4 1 20 0 0
+informs "$formats/list_views.arrow" file V5 none 2 1 3 0 0
+informs "$formats/run_ends.arrows" stream V5 none 2 1 3 0 0
+expect 2 '' "nest: $room/negative: record batch 2: $negative" info "$room/negative"
+expect 2 '' "nest: $room/csv: $text" info "$room/csv"
+expect 2 '' "nest: $room/cut: $magic" info "$room/cut"
+expect 2 '' "nest: $room/none: no such file" info "$room/none"
+for input in stream file; do
+    [ "$(cat "$room/$input" | "$program" info - | tail -n +2)" = "$("$program" info "$room/file" | tail -n +2)" ] || { echo 'nest info: a pipe'; failed=1; }
+done
 # The last rows of a file whose first record batch is truncated, and its number of rows; errors; a pipe.
 expect 2 '' "nest: $room/negative: record batch 2: $negative" tail "$room/negative" 1
 expect 2 '' "nest: $room/negative: record batch 2: $negative" count "$room/negative"
@@ -150,7 +182,7 @@ for input in stream file; do
     [ "$(cat "$room/$input" | "$program" tail - 1)" = '{"a":3,"b":null}' ] || { echo 'nest tail: a pipe'; failed=1; }
     [ "$(cat "$room/$input" | "$program" count /dev/stdin)" = 3 ] || { echo 'nest count: a pipe'; failed=1; }
 done
-for command in tail count; do
+for command in tail count info; do
     said=$("$program" "$command" "$room/file" 2>&1 >/dev/full)
     [ "$? $said" = "2 nest: $room/file: output cannot be written" ] || { echo "nest $command to a full device: $said"; failed=1; }
 done
@@ -405,6 +437,7 @@ refuses "invalid value for '--columns <NAMES>': position 3: a comma is expected"
 refuses 'Usage: nest count [OPTIONS] <FILE>' count "$room/file" --columns '"a" ,b'
 refuses "the argument '--columns <NAMES>' cannot be used with '--columns-file <LIST>'" rows "$room/file" --columns a --columns-file "$room/names"
 refuses '<INDEX>' take "$room/file"
+refuses "unexpected argument '--columns'" info "$room/file" --columns a
 refuses '<OUT>' from-json 'struct<a: int32>' "$room/lines"
 refuses "unexpected argument 'b'" where "$room/truths" a b -o "$room/none"
 refuses "unexpected argument '-o'" convert "$room/file" "$room/as" -o "$room/none"

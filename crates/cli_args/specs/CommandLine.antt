@@ -80,6 +80,10 @@ tail_app = with_rule (file_app (codes "tail")) optional_count_rule
 abbrev pub count_app : App
 count_app = file_app (codes "count")
 
+-- it reads no column
+abbrev pub info_app : App
+info_app = with_rule (new_app (codes "info")) (required_rule (codes "FILE"))
+
 abbrev pub slice_app : App
 slice_app = with_rule (with_rule (with_rule (with_alias (codes "cut") (file_app (codes "slice"))) (required_integer_rule (codes "START"))) (required_integer_rule (codes "COUNT"))) out_rule
 
@@ -109,7 +113,7 @@ abbrev pub printing_app : App
 printing_app = with_subcommand (with_subcommand (with_subcommand top_app (file_app (codes "schema")).top) rows_app.top) head_app.top
 
 abbrev pub counting_app : App
-counting_app = with_subcommand (with_subcommand printing_app tail_app.top) count_app.top
+counting_app = with_subcommand (with_subcommand (with_subcommand printing_app tail_app.top) count_app.top) info_app.top
 
 abbrev pub slicing_app : App
 slicing_app = with_subcommand (with_subcommand counting_app slice_app.top) take_app.top

@@ -27,6 +27,8 @@ pub data CommandTree : Type 0 where
   tail : Text → ℕ → CommandTree
   -- `count FILE`
   count : Text → CommandTree
+  -- `info FILE`
+  info : Text → CommandTree
   -- `equal FILE OTHER`
   equal : Text → Text → CommandTree
   -- `concat FILE.. -o OUT`
@@ -106,6 +108,7 @@ command_of name found =
     if bytes_eq name (codes "schema") then Ok (schema (argument_text (codes "FILE") found))
     else if bytes_eq name (codes "tail") then Ok (tail (argument_text (codes "FILE") found) (required_integer (codes "COUNT") found))
     else if bytes_eq name (codes "count") then Ok (count (argument_text (codes "FILE") found))
+    else if bytes_eq name (codes "info") then Ok (info (argument_text (codes "FILE") found))
     else if bytes_eq name (codes "equal") then Ok (equal (argument_text (codes "FILE") found) (argument_text (codes "OTHER") found))
     else if bytes_eq name (codes "concat") then Ok (concat (texts_of (codes "FILE") found) (argument_text (codes "OUT") found))
     else if bytes_eq name (codes "convert") then Ok (convert (argument_text (codes "FILE") found) (argument_text (codes "OUT") found))

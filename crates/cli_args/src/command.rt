@@ -23,6 +23,8 @@ pub enum Command<'a> {
     Tail(&'a str, usize),
     /// `count`: print the number of rows of a file.
     Count(&'a str),
+    /// `info`: print what the metadata of a file says.
+    Info(&'a str),
     /// `equal`: compare two files.
     Equal(&'a str, &'a str),
     /// `concat`: write all files to an output.

@@ -1,6 +1,6 @@
 //! The command line of `nest`, as clap parses it.
 ghost use Rattle.std.specs.Prelude.{IfOk, codes};
-ghost use Rattle.cli_args.specs.CommandLine.{IsArg, IsCommand, columns_file_rule, columns_rule, command_app, comparing_app, concat_app, convert_app, copying_app, count_app, count_rule, counting_app, equal_app, file_app, files_rule, from_json_app, head_app, indices_rule, nest_app, optional_count_rule, out_rule, printing_app, required_integer_rule, required_rule, rows_app, slice_app, slicing_app, start_rule, tail_app, take_app, top_app, where_app, with_alias};
+ghost use Rattle.cli_args.specs.CommandLine.{IsArg, IsCommand, columns_file_rule, columns_rule, command_app, comparing_app, concat_app, convert_app, copying_app, count_app, count_rule, counting_app, equal_app, file_app, files_rule, from_json_app, head_app, indices_rule, info_app, nest_app, optional_count_rule, out_rule, printing_app, required_integer_rule, required_rule, rows_app, slice_app, slicing_app, start_rule, tail_app, take_app, top_app, where_app, with_alias};
 
 use clap::{Arg, Command, value_parser};
 use std::alloc::{AllocError, Global};
@@ -179,6 +179,15 @@ fn row_count<'a>(alloc: Global) -> Result<Command<'a>, AllocError>
     file_command(alloc, "count", about, "Example: nest count table.arrow")
 }
 
+fn info<'a>(alloc: Global) -> Result<Command<'a>, AllocError>
+    ensures { IfOk result (IsCommand info_app) }
+{
+    let command = Command::new(alloc, "info")
+        .about("Print format, version, compression, and numbers of columns, batches and rows")
+        .after_help("Example: nest info table.arrow");
+    command.arg(file(alloc))
+}
+
 fn slice<'a>(alloc: Global) -> Result<Command<'a>, AllocError>
     ensures { IfOk result (IsCommand slice_app) }
 {
@@ -269,7 +278,8 @@ fn with_tail<'a>(alloc: Global, printing: Command<'a>) -> Result<Command<'a>, Al
     ensures { IfOk result (IsCommand counting_app) }
 {
     let first = printing.subcommand(tail(alloc)?)?;
-    first.subcommand(row_count(alloc)?)
+    let second = first.subcommand(row_count(alloc)?)?;
+    second.subcommand(info(alloc)?)
 }
 
 fn with_slices<'a>(alloc: Global, counting: Command<'a>) -> Result<Command<'a>, AllocError>
@@ -333,6 +343,8 @@ pub(crate) fn subcommand<'a>(alloc: Global, name: &str) -> Result<Command<'a>, A
         tail(alloc)?
     } else if name == "count" {
         row_count(alloc)?
+    } else if name == "info" {
+        info(alloc)?
     } else if name == "slice" {
         slice(alloc)?
     } else if name == "take" {

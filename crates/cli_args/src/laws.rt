@@ -11,7 +11,7 @@ ghost use Rattle.cli_args.specs.declared.condition.Comparison.TheVariants.{Great
 ghost use Rattle.cli_args.specs.declared.condition_error.SyntaxErrorKind.TheVariants.{ColumnExpected, LiteralExpected};
 ghost use Rattle.cli_args.specs.declared.usage_error.UsageError.TheVariants.{ColumnNames, ColumnsTwice, Condition};
 ghost use Rattle.cli_args.specs.Requests.{all, indices, named, slice, where_true};
-ghost use Rattle.cli_args.specs.Commands.{concat, count, from_json, in_file, listed, schema, tail};
+ghost use Rattle.cli_args.specs.Commands.{concat, count, from_json, in_file, info, listed, schema, tail};
 ghost use Rattle.cli_args.specs.Examples.{MeansNothing, ParsedAs, RefusedWith, Selects};
 
 /// `rows f`; `rows --count 4 f --start=3`; `head f`; `cut f 1 2 -o g`.
@@ -20,6 +20,14 @@ pub fn slices_are_parsed()
     ensures slice { Selects (codes "rows" ∷ codes "--count" ∷ codes "4" ∷ codes "f" ∷ codes "--start=3" ∷ []) (slice 3 4) None }
     ensures head { Selects (codes "head" ∷ codes "f" ∷ []) (slice 0 10) None }
     ensures cut { Selects (codes "cut" ∷ codes "f" ∷ codes "1" ∷ codes "2" ∷ codes "-o" ∷ codes "g" ∷ []) (slice 1 2) (Some (codes "g")) }
+{}
+
+/// `info f`; `info -- -`; `info f g`; `info f --columns a`.
+pub fn infos_are_parsed()
+    ensures file { ParsedAs (codes "info" ∷ codes "f" ∷ []) None (info (codes "f")) }
+    ensures stdin { ParsedAs (codes "info" ∷ codes "--" ∷ codes "-" ∷ []) None (info (codes "-")) }
+    ensures more { RefusedWith (codes "info" ∷ codes "f" ∷ codes "g" ∷ []) (UnknownArgument ∷ []) }
+    ensures columns { RefusedWith (codes "info" ∷ codes "f" ∷ codes "--columns" ∷ codes "a" ∷ []) (UnknownArgument ∷ []) }
 {}
 
 /// `tail f`; `tail f 3 --columns a`; `count -`.

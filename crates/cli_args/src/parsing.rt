@@ -118,6 +118,8 @@ fn command_named<'a>(
         Ok(Command::Tail(file, required_integer(matches, "COUNT")))
     } else if name == "count" {
         Ok(Command::Count(file))
+    } else if name == "info" {
+        Ok(Command::Info(file))
     } else if name == "equal" {
         Ok(Command::Equal(file, text(matches, "OTHER")))
     } else if name == "concat" {

@@ -25,3 +25,4 @@ mod FirstErrors
 mod InputSchemas
 mod TailLaws
 mod CountLaws
+mod PrintedInfo

@@ -21,3 +21,6 @@ pub mod FirstErrors
 pub mod InputSchemas
 pub mod Tails
 pub mod TailSteps
+pub mod InfoTotals
+pub mod InfoText
+pub mod InfoExamples

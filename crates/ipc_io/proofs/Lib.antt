@@ -6,3 +6,7 @@ mod StreamResults
 mod Ranges
 mod FileSteps
 mod Metadata
+mod InfoLists
+mod StreamInfos
+mod BlockInfos
+mod InfoRows

@@ -12,3 +12,6 @@ pub mod FileReaders
 pub mod FileReaderLaws
 pub mod FileMetadata
 pub mod FileMetadataLaws
+pub mod BatchInfos
+pub mod Infos
+pub mod InfoLaws

@@ -46,7 +46,7 @@ impl<R> Model for FileMetadataReader<R> {
 
 // Reads the metadata of the next message.
 #[tactic(auto, using(crate::proofs::Metadata::length_missing, crate::proofs::Metadata::metadata_read))]
-fn fetch_metadata<R: Read>(alloc: Global, reader: &mut R) -> Result<Vec<u8>, ReadError>
+pub(crate) fn fetch_metadata<R: Read>(alloc: Global, reader: &mut R) -> Result<Vec<u8>, ReadError>
     ensures read { Fetches metadata_at (λ v. v.items) (R.remaining reader.old) (R.remaining reader.new) result }
     ensures small { IfOk result (λ v. length v.items < 2 ^ 31) }
 {
@@ -93,7 +93,7 @@ fn rows_before_body(alloc: Global, block: Block, front: &[u8]) -> Result<usize, 
 }
 
 // Reads the bytes of a block before the body.
-fn read_front<R: SeekRead>(
+pub(crate) fn read_front<R: SeekRead>(
     alloc: Global,
     reader: &mut R,
     block: Block,

@@ -48,7 +48,7 @@ enum Found {
 
 // Reads the schema message.
 #[tactic(auto, using(crate::proofs::StreamSteps::unfetched_first, crate::proofs::StreamSteps::first_is_missing, crate::proofs::StreamSteps::first_fails, crate::proofs::StreamSteps::first_is))]
-fn read_first<R: Read>(
+pub(crate) fn read_first<R: Read>(
     alloc: Global,
     columns: Projection<'_>,
     reader: &mut R,

@@ -23,7 +23,7 @@ use copy::{copy_file, copy_selection};
 use ipc_schema::Projection;
 use json_import::from_json;
 use messages::{failed, report, report_arguments};
-use print::{equal, print_count, print_rows, print_schema, print_tail};
+use print::{equal, print_count, print_info, print_rows, print_schema, print_tail};
 use std::alloc::{AllocError, Global};
 use std::env;
 use std::io::ErrorKind;
@@ -65,6 +65,7 @@ fn run(rt: &HostRuntime, columns: Projection<'_>, command: Command<'_>) -> ExitC
         },
         Command::Tail(file, count) => print_tail(rt, columns, file, count),
         Command::Count(file) => print_count(rt, columns, file),
+        Command::Info(file) => print_info(rt, file),
         Command::Equal(file, other) => equal(rt, columns, file, other),
         Command::Concat(files, out) => concat(rt, columns, &files, out),
         Command::Convert(file, out) => copy_file(rt, columns, file, Selection::All, out),

@@ -6,6 +6,7 @@ use crate::support::unsupported_column;
 use crate::unknown_names::{report_unknown_name, unknown_name};
 use cli_read::CompareError;
 use cli_rows::{BatchError, CliError, Difference, difference_text, write_output};
+use ipc_io::InfoError;
 use ipc_schema::Projection;
 use std::alloc::AllocError;
 use std::fmt::Display;
@@ -36,6 +37,15 @@ impl From<OpenError> for InputError {
 impl From<BatchError> for InputError {
     fn from(error: BatchError) -> InputError {
         InputError::Batch(error)
+    }
+}
+
+impl From<InfoError> for InputError {
+    fn from(error: InfoError) -> InputError {
+        InputError::Batch(BatchError {
+            batch: error.batch,
+            error: CliError::from(error.error),
+        })
     }
 }
 

@@ -1,11 +1,11 @@
-//! The commands that print: `schema`, `tail`, `count`, `equal`, and those that select rows, without an output.
+//! The commands that print: `schema`, `tail`, `count`, `info`, `equal`, and those that select rows, without an output.
 use crate::input::open_input;
 use crate::messages::{InputError, print_comparison, report, report_input};
 use crate::output::StandardOutput;
 use crate::schema::print_columns;
 use crate::take::print_taken;
 use cli_args::{Request, Selection};
-use cli_read::{compare, count_lines, tail_lines};
+use cli_read::{Input, compare, count_lines, file_info_lines, stream_info_lines, tail_lines};
 use cli_rows::{in_row_order, write_output};
 use ipc_schema::Projection;
 use std::io;
@@ -94,6 +94,16 @@ fn print_row_count<W: Write>(
     Ok(())
 }
 
+fn print_info_lines<W: Write>(rt: &HostRuntime, file: &str, out: &mut W) -> Result<(), InputError> {
+    let lines = match open_input(rt, file)? {
+        Input::Stream(mut source) => stream_info_lines(rt.alloc(), &mut source),
+        Input::File(mut source) => file_info_lines(rt.alloc(), &mut source),
+    };
+    let text = lines?;
+    write_output(out, text.as_bytes())?;
+    Ok(())
+}
+
 /// Prints the last rows of a file.
 pub fn print_tail(rt: &HostRuntime, columns: Projection<'_>, file: &str, count: usize) -> ExitCode {
     let mut out = StandardOutput::new(io::writer(rt));
@@ -106,6 +116,13 @@ pub fn print_count(rt: &HostRuntime, columns: Projection<'_>, file: &str) -> Exi
     let mut out = StandardOutput::new(io::writer(rt));
     let printed = print_row_count(rt, columns, file, &mut out);
     report_printed(rt, columns, file, printed, &out)
+}
+
+/// Prints what the metadata of a file says. No column is read.
+pub fn print_info(rt: &HostRuntime, file: &str) -> ExitCode {
+    let mut out = StandardOutput::new(io::writer(rt));
+    let printed = print_info_lines(rt, file, &mut out);
+    report_printed(rt, Projection::Indices(&[]), file, printed, &out)
 }
 
 /// Compares two files.

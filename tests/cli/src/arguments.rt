@@ -109,6 +109,7 @@ fn files_of(alloc: Global, arguments: &[&str]) -> Result<String, Fail> {
         Command::Select(_, _, _) => format!(in alloc; "rows")?,
         Command::Tail(file, count) => format!(in alloc; "tail {file} {count}")?,
         Command::Count(file) => format!(in alloc; "count {file}")?,
+        Command::Info(file) => format!(in alloc; "info {file}")?,
         Command::Equal(file, other) => format!(in alloc; "equal {file} {other}")?,
         Command::Concat(files, out) => {
             format!(in alloc; "concat {} {} {out}", files[0], files.len())?
@@ -135,6 +136,8 @@ fn commands_have_files(rt: HostRuntime) -> Result<(), Fail> {
             ["where", "f", "-o", "g", "\"is ok\" and n >= -1.5"].as_slice(),
             "where f g",
         ),
+        (["info", "f"].as_slice(), "info f"),
+        (["info", "--", "-"].as_slice(), "info -"),
         (["equal", "f", "g"].as_slice(), "equal f g"),
         (["concat", "-o", "g", "f", "h"].as_slice(), "concat f 2 g"),
         (["convert", "f", "-"].as_slice(), "convert f -"),
@@ -232,6 +235,10 @@ fn invalid_arguments_are_errors(rt: HostRuntime) -> Result<(), Fail> {
         (
             ["slice", "f", "1", "2", "-o", "g", "-o", "h"].as_slice(),
             ErrorKind::ArgumentConflict,
+        ),
+        (
+            ["info", "f", "--columns", "a"].as_slice(),
+            ErrorKind::UnknownArgument,
         ),
         (["--help"].as_slice(), ErrorKind::DisplayHelp),
         (["help", "rows"].as_slice(), ErrorKind::DisplayHelp),

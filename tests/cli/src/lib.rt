@@ -6,6 +6,7 @@
 //! | `tables` | Schemas and rows as text, errors, and projected columns |
 //! | `printing` | Printing one record batch at a time; errors, and batches that are not read |
 //! | `counting` | Numbers of rows; bodies that are not read; hostile bytes |
+//! | `infos` | What metadata says; bodies and columns that are not read; hostile bytes |
 //! | `failures` | The first error of an input, and of its columns one by one |
 //! | `schemas` | Schemas as text; dictionaries and bodies that are not read |
 //! | `tailing` | The last rows as lines; record batches that are not read; hostile bytes |
@@ -38,6 +39,8 @@ mod dates;
 mod devices;
 #[cfg(test)]
 mod failures;
+#[cfg(test)]
+mod infos;
 #[cfg(test)]
 mod names;
 #[cfg(test)]

@@ -1,0 +1,7 @@
+use Rattle.std.proofs.Common.{◌≡◌, ◌≤◌, take}
+use Rattle.std.specs.List.{sum_by}
+use Rattle.cli_read.specs.InfoTotals.{deltas_in}
+use Rattle.cli_read.proofs.info.totals.delta_count.Given as goal
+
+abbrev pub invariant-loop-info : goal.invariant-loop-info
+invariant-loop-info l = (l.count ≡ sum_by deltas_in (take l.info-index l.infos)) × (l.count ≤ l.info-index)
