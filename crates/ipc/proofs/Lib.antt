@@ -15,3 +15,4 @@ pub mod NamedColumns
 mod AtEnd
 pub mod Bodies
 pub mod MessageLoops
+pub mod BlockMessages

@@ -55,12 +55,12 @@ module _ (parts : MessageModel) (m : BatchMessage) (says : SaysPlainly parts m) 
 
 -- ---- the size of metadata
 
-specs_long : (offset : ℕ) (buffers : List (List ℕ)) → length (buffer_specs offset buffers) ≡ length buffers
+pub specs_long : (offset : ℕ) (buffers : List (List ℕ)) → length (buffer_specs offset buffers) ≡ length buffers
 unfolding buffer_specs
 specs_long offset [] = refl
 specs_long offset (b ∷ buffers) = ap suc (specs_long (offset + length (padded b)) buffers)
 
-as_long : (buffers contents : List (List ℕ)) → AreWrittenBuffers buffers contents → length buffers ≡ length contents
+pub as_long : (buffers contents : List (List ℕ)) → AreWrittenBuffers buffers contents → length buffers ≡ length contents
 as_long [] [] are = refl
 as_long [] (c ∷ contents) are = absurd are
 as_long (b ∷ buffers) [] are = absurd are
@@ -81,10 +81,10 @@ dictionary_size delta id b n =
     let metadata : List ℕ = root_bytes DictionaryBatch n 12 (dictionary_part_bytes delta id b) in
     framed_long metadata ∙ ap (λ (k : ℕ). 8 + k + (8 - k % 8) % 8) (root_long DictionaryBatch n 12 (dictionary_part_bytes delta id b) ∙ ap (λ (k : ℕ). 48 + k) (dictionary_long delta id b))
 
-part_size : (b c : BatchModel) → b.compression ≡ c.compression → b.nodes ≡ c.nodes → length b.buffers ≡ length c.buffers → length (batch_part_bytes b) ≡ length (batch_part_bytes c)
+pub part_size : (b c : BatchModel) → b.compression ≡ c.compression → b.nodes ≡ c.nodes → length b.buffers ≡ length c.buffers → length (batch_part_bytes b) ≡ length (batch_part_bytes c)
 part_size b c codec nodes buffers = batch_long b ∙ rw (codec, nodes, buffers) (sym (batch_long c))
 
-head_size : (d : Option (Bool × ℤ)) (b c : BatchModel) (n k : ℕ) → length (batch_part_bytes b) ≡ length (batch_part_bytes c) → length (head_bytes d b n) ≡ length (head_bytes d c k)
+pub head_size : (d : Option (Bool × ℤ)) (b c : BatchModel) (n k : ℕ) → length (batch_part_bytes b) ≡ length (batch_part_bytes c) → length (head_bytes d b n) ≡ length (head_bytes d c k)
 head_size None b c n k same = batch_size b n ∙ ap framed_size same ∙ sym (batch_size c k)
 head_size (Some d) b c n k same = dictionary_size d.0 d.1 b n ∙ ap (λ (p : ℕ). framed_size (32 + p)) same ∙ sym (dictionary_size d.0 d.1 c k)
 
@@ -181,10 +181,10 @@ none_is_not_some x h = cc
 ok_is : (p q : Option MessageModel × List ℕ) → ◌≡◌ {A = Result (Option MessageModel × List ℕ) IpcReadError} (Ok p) (Ok q) → p ≡ q
 ok_is p q h = cc
 
-apart : (x : MessageModel) (xs ys : List ℕ) → ◌≡◌ {A = Result (Option MessageModel × List ℕ) IpcReadError} (Ok (None, xs)) (Ok (Some x, ys)) → ⊥
+pub apart : (x : MessageModel) (xs ys : List ℕ) → ◌≡◌ {A = Result (Option MessageModel × List ℕ) IpcReadError} (Ok (None, xs)) (Ok (Some x, ys)) → ⊥
 apart x xs ys h = none_is_not_some x (ap (λ (p : Option MessageModel × List ℕ). p.0) (ok_is (None, xs) (Some x, ys) h))
 
-at_end : message_at [] ≡ Ok (None, [])
+pub at_end : message_at [] ≡ Ok (None, [])
 unfolding message_at
 at_end = refl
 

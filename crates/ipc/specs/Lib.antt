@@ -52,6 +52,8 @@ pub mod CompressedBodies
 pub mod CompressedExamples
 pub mod CompressedMessages
 pub mod CompressedStreams
+pub mod CompressedFiles
 pub mod WrittenBufferCounts
 pub mod ReadsAsPlainLaws
 pub mod CompressedStreamLaws
+pub mod CompressedFileLaws

@@ -242,7 +242,7 @@ steps_same : (fields : List FieldTree) → read_actions fields ≡ every_column 
 steps_same [] = refl
 steps_same (f ∷ fields) = ap (λ (steps : List FieldAction). Read ∷ steps) (steps_same fields)
 
-batch_alike : (b : RecordBatchTree) (buffers : List (List ℕ)) (plain m : MessageModel) (s : StateTree) → AreWrittenBuffers buffers (buffers_of (written_arrays b.columns)) → AllByRecursion IsArray b.columns
+pub batch_alike : (b : RecordBatchTree) (buffers : List (List ℕ)) (plain m : MessageModel) (s : StateTree) → AreWrittenBuffers buffers (buffers_of (written_arrays b.columns)) → AllByRecursion IsArray b.columns
     → batch_in plain ≡ Ok (batch_tree b) → plain.body ≡ columns_body b.columns → batch_in m ≡ Ok (metadata_with (batch_message_of b) (Some Lz4Frame) buffers) → m.body ≡ body_of buffers
     → s.picked.steps ≡ read_actions s.picked.schema.fields → reads_as_stored s.picked.arrays ≡ true → spec_are_columns (column_types s.picked.schema) b.rows b.columns ≡ true → record_batch_in s m ≡ record_batch_in s plain
 unfolding record_batch_in
@@ -285,6 +285,24 @@ dictionary_alike p buffers head once s written back again named comes =
     let other : data_in once there back.parts.metadata back.table ≡ Ok (back.position, p.0) = rw (back.batch_place, back.same_delta, said p.0, comes) refl in
     rw (again.visited, back.visited, again.same_id, back.same_id, named.values, first, other, again.same_batch, back.same_batch, no_views (stored_arrays v.values) named.stored, named.stored, again.same_body, back.same_body, flagged (buffer_specs 0 buffers), plain_is buffers contents written) refl
 
+-- also if its order is an error
+refused_alike : (p : DictionaryBatchTree) (buffers : List (List ℕ)) (head : List ℕ) (once : Bool) (s : StateTree) (f : IpcReadError) → (back : DictionaryIsBack p) → (again : DictionaryRoundTrips p.0 p.1.0 (metadata_with (dictionary_message_of p) (Some Lz4Frame) buffers) head (body_of buffers)) → IsNamed s.picked.seen.named p.1
+    → spec_check_order once p.0 (is_some (known_at s.known p.1.0)) ≡ Err f → dictionary_in once s again.parts ≡ dictionary_in once s back.parts
+unfolding dictionary_in data_in
+refused_alike p buffers head once s f back again named comes =
+    let there : Bool = is_some (known_at s.known p.1.0) in
+    let first : data_in once there again.parts.metadata again.table ≡ Err f = rw (again.batch_place, again.same_delta, said p.0, comes) refl in
+    let other : data_in once there back.parts.metadata back.table ≡ Err f = rw (back.batch_place, back.same_delta, said p.0, comes) refl in
+    rw (again.visited, back.visited, again.same_id, back.same_id, named.values, first, other) refl
+
+pub dictionary_same : (p : DictionaryBatchTree) (buffers : List (List ℕ)) (head : List ℕ) (once : Bool) (s : StateTree) → AreWrittenBuffers buffers (buffers_of (written_arrays (p.1.1 ∷ []))) → (back : DictionaryIsBack p) → (again : DictionaryRoundTrips p.0 p.1.0 (metadata_with (dictionary_message_of p) (Some Lz4Frame) buffers) head (body_of buffers))
+    → IsNamed s.picked.seen.named p.1 → dictionary_in once s again.parts ≡ dictionary_in once s back.parts
+dictionary_same p buffers head once s written back again named = by (spec_check_order once p.0 (is_some (known_at s.known p.1.0))) refl
+  where
+    by : (order : Result (Unit {0}) IpcReadError) → spec_check_order once p.0 (is_some (known_at s.known p.1.0)) ≡ order → dictionary_in once s again.parts ≡ dictionary_in once s back.parts
+    by (Ok tt) comes = dictionary_alike p buffers head once s written back again named comes
+    by (Err f) comes = refused_alike p buffers head once s f back again named comes
+
 -- a dictionary batch leaves the projection as it is
 passed : {A B : Type 0} (r : Result A IpcReadError) (f : A → Result B IpcReadError) (y : B) → (r >>= f) ≡ Ok y → (x : A) × (r ≡ Ok x) × (f x ≡ Ok y)
 passed (Ok x) f y h = (x, refl, h)
@@ -304,7 +322,7 @@ found_keeps : (s t : StateTree) (id : ℤ) (found : Option (Bool × Layout)) →
 found_keeps s t id None h = ap (λ (x : StateTree). x.picked) (sym (state_is s t h))
 found_keeps s t id (Some new) h = values_keep new.0 s t id new.1 h
 
-dictionary_keeps : (once : Bool) (s t : StateTree) (m : MessageModel) → dictionary_in once s m ≡ Ok t → t.picked ≡ s.picked
+pub dictionary_keeps : (once : Bool) (s t : StateTree) (m : MessageModel) → dictionary_in once s m ≡ Ok t → t.picked ≡ s.picked
 unfolding dictionary_in
 dictionary_keeps once s t m h =
     let table = passed {A = FlatbufferTable × ℕ} (spec_read_table m.metadata m.root.header m.root.left) (λ x. field (signed_at w64 m.metadata) (pos 0) m.metadata x.0 0 >>= λ id. found_in once s m x.0 x.1 id >>= with_found s id) t h in

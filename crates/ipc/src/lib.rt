@@ -29,7 +29,10 @@ mod writing_files;
 pub use batch::Batch;
 pub use block::{read_batch_block, read_dictionary_block};
 pub use columns::batch_of_columns;
-pub use compressed::write_compressed_stream;
+pub use compressed::{
+    encode_compressed_file_batch, encode_compressed_stream_batch, write_compressed_file,
+    write_compressed_stream,
+};
 pub use file::{File, SliceFileReader, read_file, read_file_projected};
 pub use reader::SliceStreamReader;
 pub use reading::{next_batch, read_message};

@@ -55,7 +55,11 @@ impl FileBlocks {
 }
 
 // Returns the block of a message between these positions, whose body has this length.
-fn block_between(start: usize, end: usize, body_length: usize) -> Result<Block, IpcWriteError>
+pub(crate) fn block_between(
+    start: usize,
+    end: usize,
+    body_length: usize,
+) -> Result<Block, IpcWriteError>
     requires within { start + body_length ≤ end }
     requires small { end < 2 ^ 63 }
     ensures block { IfOk result (λ block. block ≡ record { offset = pos start; metadata_length = pos (end - start - body_length); body_length = pos body_length }) }

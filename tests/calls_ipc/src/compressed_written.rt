@@ -1,13 +1,18 @@
-//! Streams of each type that are written with LZ4, and round-trip; their bodies, and those of other codecs written again.
+//! Streams and files of each type that are written with LZ4, and round-trip; their bodies, and those of other codecs written again.
 use crate::samples::{READ, READ_DICTIONARIES, READ_FLAT, READ_NESTED, Sample};
 use crate::samples_read::{bytes_of, copied};
-use crate::stream_text::text_of_stream;
+use crate::stream_text::{text_of_file, text_of_stream};
 use ipc::compressed::compress_body;
-use ipc::{read_stream, write_compressed_stream, write_stream};
+use ipc::{
+    FileBlocks, encode_compressed_file_batch, encode_compressed_stream_batch, initial_state,
+    read_stream, write_compressed_file, write_compressed_stream, write_file, write_stream,
+};
 use ipc_flatbuf::batch::read_batch;
 use ipc_flatbuf::message::{Message, MessageKind, next_message};
 use ipc_flatbuf::{BufferSpec, CompressionCodec, IpcReadError, IpcWriteError};
+use ipc_schema::write_schema_with_dictionaries;
 use std::alloc::Global;
+use std::collections::BTreeMap;
 use std::process::Abort;
 
 // Columns `id` of integers, `word` of strings and `flag` of booleans, 100 rows, of Arrow C++.
@@ -33,12 +38,33 @@ fn round_trips(alloc: Global, bytes: &[u8]) -> Result<bool, IpcReadError> {
     Ok(text_of_stream(alloc, &compressed)? == text_of_stream(alloc, &plain)?)
 }
 
+// Whether both files are read as the same schema and rows, or cannot be written for the same reason.
+fn files_round_trip(alloc: Global, bytes: &[u8]) -> Result<bool, IpcReadError> {
+    let stream = read_stream(alloc, bytes)?;
+    let compressed = write_compressed_file(alloc, &stream.schema, &stream.batches);
+    match write_file(alloc, &stream.schema, &stream.batches) {
+        Err(error) => match compressed {
+            Err(other) => Ok(error == other),
+            Ok(_) => Ok(false),
+        },
+        Ok(plain) => match compressed {
+            Err(_) => Ok(false),
+            Ok(bytes) => Ok(text_of_file(alloc, &bytes)? == text_of_file(alloc, &plain)?),
+        },
+    }
+}
+
 fn all_round_trip(rt: &(impl Abort + AllocGlobal), samples: &[Sample]) {
     for sample in samples {
         let bytes = bytes_of(rt.alloc(), sample).expect(rt, "bytes");
         assert!(rt;
             round_trips(rt.alloc(), &bytes) == Ok(true),
             "{}",
+            sample.name
+        );
+        assert!(rt;
+            files_round_trip(rt.alloc(), &bytes) == Ok(true),
+            "{} as a file",
             sample.name
         );
     }
@@ -131,4 +157,43 @@ fn short_buffers_are_stored(rt: HostRuntime) {
     assert!(rt; out.as_slice() == want.as_slice());
     assert!(rt; specs[0] == buffers[0]);
     assert!(rt; specs[1].offset == 0 && specs[1].length == 11);
+}
+
+// The bytes that `encode_compressed_stream_batch` and `encode_compressed_file_batch` append to a schema message.
+fn encoded(alloc: Global, bytes: &[u8]) -> Result<(Vec<u8>, Vec<u8>), IpcWriteError> {
+    let Ok(stream) = read_stream(alloc, bytes) else {
+        return Err(IpcWriteError::Memory);
+    };
+    let fields = &stream.schema.fields;
+    let emitted = BTreeMap::new(alloc);
+    let mut out = write_schema_with_dictionaries(alloc, &stream.schema)?;
+    let mut known = initial_state(alloc, &out)?;
+    let mut file = Vec::new(alloc);
+    file.extend_from_slice(&out)?;
+    let mut blocks = FileBlocks::new(alloc);
+    let batch = &stream.batches[0];
+    encode_compressed_stream_batch(alloc, &mut out, fields, &emitted, batch)?;
+    encode_compressed_file_batch(
+        alloc,
+        &mut file,
+        &mut blocks,
+        fields,
+        &emitted,
+        &mut known,
+        batch,
+    )?;
+    if blocks.batches.len() != 1 || !blocks.dictionaries.is_empty() {
+        return Err(IpcWriteError::Columns);
+    }
+    Ok((out, file))
+}
+
+#[test]
+fn a_batch_is_encoded_for_both(rt: HostRuntime) {
+    let alloc = rt.alloc();
+    let bytes = copied(alloc, ZSTD_ROWS).expect(&rt, "bytes");
+    let (stream, file) = encoded(alloc, &bytes).expect(&rt, "messages");
+    assert!(rt; stream == file);
+    let (compressed, _) = rewritten(alloc, &bytes).expect(&rt, "streams");
+    assert!(rt; compressed.starts_with(&stream));
 }

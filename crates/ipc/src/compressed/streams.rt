@@ -28,7 +28,7 @@ fn known_id(entry: &(i64, &AnyArray))
 }
 
 // States it of the ids of dictionaries.
-fn known_ids(pending: &[(i64, &AnyArray)])
+pub(crate) fn known_ids(pending: &[(i64, &AnyArray)])
     ensures { AllByRecursion (λ e. FitsSigned w64 e.0) (map entry_of pending.now) }
 {
     for entry in pending {
@@ -40,12 +40,12 @@ fn known_ids(pending: &[(i64, &AnyArray)])
 /// body.
 ///
 /// A reader of the stream reads the same as from the bytes of [`encode_stream_batch`]. `emitted` has the values last emitted for each
-/// id. Returns the pending dictionaries, which [`record_emitted`] adds to `emitted` once the bytes are out.
+/// id. Returns the pending dictionaries, which `record_emitted` adds to `emitted` once the bytes are out.
 ///
 /// # Errors
 /// Those of [`encode_stream_batch`], then `Size` where the metadata of a compressed message has 2^31 bytes or more. `Memory` where an
 /// allocation fails. `out` may have more bytes then.
-fn encode_compressed_stream_batch<'a>(
+pub fn encode_compressed_stream_batch<'a>(
     alloc: Global,
     out: &mut Vec<u8>,
     fields: &[Field],
