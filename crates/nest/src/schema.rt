@@ -89,7 +89,7 @@ fn print_bytes<W: Write>(
     printed
 }
 
-/// Prints the schema of a stream, of which no more than the schema message is read.
+/// Prints the schema of a stream. No more than the schema message is read.
 fn print_stream<W: Write>(
     rt: &HostRuntime,
     columns: Projection<'_>,
@@ -108,7 +108,7 @@ fn print_stream<W: Write>(
     printed
 }
 
-/// Prints the columns of an input, of which some may not be supported.
+/// Prints the columns of an input, and marks the unsupported ones.
 pub fn print_columns<W: Write>(
     rt: &HostRuntime,
     columns: Projection<'_>,

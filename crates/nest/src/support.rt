@@ -72,7 +72,7 @@ fn supported_indices(alloc: Global, columns: &[FieldSupport<'_>]) -> Result<Vec<
     Ok(indices)
 }
 
-/// Prints the schema that a message has, of an input of which columns are not supported.
+/// Prints the schema in a message, with its unsupported columns marked.
 fn print_marked<R: SeekRead + Drop, W: Write>(
     rt: &HostRuntime,
     message: &FetchedMessage,
@@ -89,7 +89,7 @@ fn print_marked<R: SeekRead + Drop, W: Write>(
     Ok(())
 }
 
-/// Prints the schema of a file of which columns are not supported.
+/// Prints the schema of a file with unsupported columns.
 pub fn print_support<W: Write>(
     rt: &HostRuntime,
     file: &str,
@@ -100,7 +100,7 @@ pub fn print_support<W: Write>(
     print_marked(rt, &message, input, out)
 }
 
-/// Prints the schema of a stream of which columns are not supported, by the bytes of its schema message.
+/// Prints the schema of a stream with unsupported columns, from the bytes of its schema message.
 pub fn print_support_of_stream<W: Write>(
     rt: &HostRuntime,
     bytes: &[u8],
@@ -110,7 +110,7 @@ pub fn print_support_of_stream<W: Write>(
     print_marked(rt, &message, Input::Stream(Cursor::new(bytes)), out)
 }
 
-/// Prints the schema of a file in memory of which columns are not supported.
+/// Prints the schema of a file in memory with unsupported columns.
 pub fn print_support_of_file<W: Write>(
     rt: &HostRuntime,
     bytes: &[u8],

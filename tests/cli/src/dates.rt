@@ -37,7 +37,7 @@ fn numbers_64(
     Ok(builder.freeze()?.boxed())
 }
 
-// Three values, of which the second is null, by keys of which the second is null.
+// Three values and three keys; the second of each is null.
 fn by_keys(alloc: Global, keys: &[Option<i8>], values: AnyArray) -> Result<AnyArray, Error> {
     let keys = PrimitiveArray::<i8>::from_options(alloc, keys)?;
     Ok(DictionaryArray::try_from_keys(alloc, AnyKeys::Int8(keys), values)?.boxed())

@@ -35,7 +35,7 @@ fn push_block(
     }
 }
 
-/// Adds the blocks of encoded messages, of which the first begins at a position.
+/// Adds the blocks of encoded messages. The first message begins at `position`.
 ///
 /// # Errors
 /// `Size` where a message without its body has 2^31 bytes or more. `Memory` where an allocation fails. `blocks` may have more blocks then.
