@@ -22,3 +22,6 @@ required_type = types.struct (more_fields (field (codes "id") types.int64 false 
 
 abbrev pub id_then_tags : Json → Json → Json
 id_then_tags x y = object (member (codes "id") x (member (codes "tags") y no_members))
+
+abbrev pub tags_then_id : Json → Json → Json
+tags_then_id x y = object (member (codes "tags") x (member (codes "id") y no_members))

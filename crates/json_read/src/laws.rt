@@ -5,7 +5,7 @@ ghost use Rattle.json_read.specs.FlatValues.{bytes_of_hex, hex_error, native_err
 ghost use Rattle.json_read.specs.FlatRoundTrip.{AreNumbersOf, BytesRoundTrip, NumbersRoundTrip};
 ghost use Rattle.json_read.specs.DistinctNames.{HasDistinctFieldNames};
 ghost use Rattle.json_read.specs.ErrorPaths.{spec_row_path};
-ghost use Rattle.json_read.specs.Examples.{id_and_tags, id_then_tags, required_type, struct_type, tags_and_id};
+ghost use Rattle.json_read.specs.Examples.{id_and_tags, id_then_tags, required_type, struct_type, tags_and_id, tags_then_id};
 ghost use Rattle.json_read.specs.HalfNumbers.{distance, nearest_half};
 ghost use Rattle.json_read.specs.JsonLines.{row_error};
 ghost use Rattle.json_read.specs.JsonSlots.{value_error, slot_of};
@@ -75,7 +75,7 @@ pub fn paths_of_errors()
     ensures item { spec_row_path struct_type (id_then_tags (number (codes "1")) (array (item (string (codes "a")) (item (number (codes "2")) no_items)))) ≡ Some (codes "tags.item") }
     ensures unknown { spec_row_path struct_type (object (member (codes "no") (number (codes "1")) no_members)) ≡ Some (codes "no") }
     ensures row { spec_row_path struct_type (array no_items) ≡ None }
-    ensures first { spec_row_path struct_type (object (member (codes "tags") (array (item (number (codes "1")) no_items)) (member (codes "id") (string (codes "x")) no_members))) ≡ Some (codes "tags.item") }
+    ensures first { spec_row_path struct_type (tags_then_id (array (item (number (codes "1")) no_items)) (string (codes "x"))) ≡ Some (codes "tags.item") }
     ensures null { spec_row_path required_type (id_then_tags (number (codes "1")) (array (item null no_items))) ≡ Some (codes "tags.item") }
     ensures missing { spec_row_path required_type (object no_members) ≡ Some (codes "id") }
     ensures null_last { spec_row_path required_type (id_then_tags null (number (codes "1"))) ≡ Some (codes "tags") }
